@@ -101,6 +101,6 @@ pub read-from_converted : (bytes : List ℕ) (d : json.Data) (r : Result Value V
 read-from_converted bytes d (Ok v) reading shallow same sound = record {
   reading = subst (λ (x : json.Data). IsReading bytes x) (sym same) reading;
   shallow = rw (← (depth-json_of (data_of v))) (subst (λ (x : json.Data). json.depth x ≤ 64) (sym same) shallow);
-  whole = subst (λ (x : json.Data). first_bad x ≡ None) (sym same) whole;
+  whole = subst (λ (x : json.Data). first_bad x ≡ None) (sym same) sound;
 }
 read-from_converted bytes d (Err e) reading shallow same sound = tt

@@ -3,12 +3,14 @@
 //! stands here. No call changes anything but its arguments.
 #![tactic(auto)]
 
+mod copying;
 mod fault;
 mod path;
 mod seq;
 mod text;
 mod value;
 
+pub use copying::TryCopy;
 pub use fault::ValueFault;
 pub use path::{Path, Step};
 pub use seq::Seq;

@@ -1,8 +1,8 @@
 //! A path from the root of what was read: keys of maps and places in lists.
 ghost use Rattle.std.specs.Prelude.{◌≡◌, ◌∷◌, ◌++◌, [], OnOk, OnErr, IfOk, string_bytes, false};
 
-use crate::Text;
 use crate::value::printing::write_words;
+use crate::{Text, TryCopy};
 use serde_json::Value as Json;
 use std::alloc::{AllocError, Global};
 use std::marker::Model;
@@ -65,17 +65,6 @@ impl Path {
         Ok(self)
     }
 
-    /// A copy.
-    pub fn copy(&self) -> Result<Path, AllocError>
-        ensures { IfOk result (λ p. p ≡ self.now) }
-    {
-        let mut steps = Vec::with_capacity(*self.steps.allocator(), self.steps.len())?;
-        for step in &self.steps {
-            steps.push(step.copy()?)?;
-        }
-        Ok(Path { steps })
-    }
-
     /// The path as compact JSON: `["resources","a",0]`.
     pub fn text(&self, alloc: Global) -> Result<Text, AllocError>
         ensures { IfOk result (λ t. t ≡ path_text self.now) }
@@ -98,16 +87,6 @@ impl Path {
 impl Step {
     ghost use Rattle.heat_value.specs.Path.{step_text};
 
-    /// A copy.
-    pub fn copy(&self) -> Result<Step, AllocError>
-        ensures { IfOk result (λ s. s ≡ self.now) }
-    {
-        match self {
-            Step::Key(key) => Ok(Step::Key(key.copy()?)),
-            Step::Index(index) => Ok(Step::Index(*index)),
-        }
-    }
-
     // Adds the step as JSON.
     fn write(&self, alloc: Global, out: &mut String) -> Result<(), AllocError>
         ensures { OnOk result (string_bytes out.new ≡ string_bytes out.old ++ step_text self.now) }
@@ -118,6 +97,25 @@ impl Step {
                 let text = Json::from(*index).to_string(alloc)?;
                 out.push_str(text.as_str())
             }
+        }
+    }
+}
+
+impl TryCopy for Path {
+    fn copy(&self) -> Result<Path, AllocError> {
+        let mut steps = Vec::with_capacity(*self.steps.allocator(), self.steps.len())?;
+        for step in &self.steps {
+            steps.push(step.copy()?)?;
+        }
+        Ok(Path { steps })
+    }
+}
+
+impl TryCopy for Step {
+    fn copy(&self) -> Result<Step, AllocError> {
+        match self {
+            Step::Key(key) => Ok(Step::Key(key.copy()?)),
+            Step::Index(index) => Ok(Step::Index(*index)),
         }
     }
 }

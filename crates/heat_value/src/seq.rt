@@ -1,6 +1,7 @@
 //! A list of any type, which contracts see as the list of its items: a `Vec` that clauses can compare.
 ghost use Rattle.std.specs.Prelude.{◌≡◌, ◌==◌, ◌<◌, ◌≤◌, [], ◌∷◌, ◌++◌, length, OnOk, OnErr, IfOk, Some, slice_get, slice_set, remove, insert, take};
 
+use crate::TryCopy;
 use std::alloc::{AllocError, Global};
 use std::marker::Model;
 
@@ -110,6 +111,16 @@ impl<T: Drop> Seq<T> {
         ensures { self.new ≡ take count self.old }
     {
         self.items.truncate(count);
+    }
+}
+
+impl<T: TryCopy + Drop> TryCopy for Seq<T> {
+    fn copy(&self) -> Result<Seq<T>, AllocError> {
+        let mut items = Vec::with_capacity(self.allocator(), self.len())?;
+        for item in &self.items {
+            items.push(item.copy()?)?;
+        }
+        Ok(Seq { items })
     }
 }
 

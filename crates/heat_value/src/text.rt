@@ -1,6 +1,7 @@
 //! A text, which contracts see as its UTF-8 bytes. Texts compare and sort by these bytes.
 ghost use Rattle.std.specs.Prelude.{◌≡◌, IfOk, string_bytes, IsUtf8};
 
+use crate::TryCopy;
 use std::alloc::{AllocError, Global};
 use std::cmp::Ordering;
 use std::hash::{Hash, Hasher};
@@ -43,11 +44,10 @@ impl Text {
     {
         self.string.as_str()
     }
+}
 
-    /// A copy.
-    pub fn copy(&self) -> Result<Text, AllocError>
-        ensures { IfOk result (λ t. t ≡ self.now) }
-    {
+impl TryCopy for Text {
+    fn copy(&self) -> Result<Text, AllocError> {
         Ok(Text {
             string: self.string.clone()?,
         })

@@ -3,7 +3,7 @@ ghost use Rattle.std.specs.Prelude.{◌≡◌, IfOk};
 ghost use Rattle.heat_value.specs.Coercion.{coerced};
 ghost use Rattle.heat_value.specs.Meaning.{data_of};
 
-use crate::{Text, Value};
+use crate::{Text, TryCopy, Value};
 use std::alloc::{AllocError, Global};
 
 /// Null as the empty text, a text as itself, a whole number in decimal, a flag as `true` or `false`,

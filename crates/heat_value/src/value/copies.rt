@@ -1,15 +1,10 @@
 //! Copies of values, equal to what they were made from.
-ghost use Rattle.std.specs.Prelude.{◌≡◌, IfOk};
-
-use crate::{Entry, Items, Props, Value};
+use crate::{Entry, Items, Props, TryCopy, Value};
 use std::alloc::AllocError;
 
-impl Value {
-    /// A copy.
+impl TryCopy for Value {
     #[cycle(copies)]
-    pub fn copy(&self) -> Result<Value, AllocError>
-        ensures { IfOk result (λ v. v ≡ self.now) }
-    {
+    fn copy(&self) -> Result<Value, AllocError> {
         match self {
             Value::Null => Ok(Value::Null),
             Value::Flag(flag) => Ok(Value::Flag(*flag)),
@@ -21,12 +16,9 @@ impl Value {
     }
 }
 
-impl Items {
-    /// A copy.
+impl TryCopy for Items {
     #[cycle(copies)]
-    pub fn copy(&self) -> Result<Items, AllocError>
-        ensures { IfOk result (λ v. v ≡ self.now) }
-    {
+    fn copy(&self) -> Result<Items, AllocError> {
         let mut all = Vec::with_capacity(*self.all.allocator(), self.all.len())?;
         for value in &self.all {
             all.push(value.copy()?)?;
@@ -35,12 +27,9 @@ impl Items {
     }
 }
 
-impl Entry {
-    /// A copy.
+impl TryCopy for Entry {
     #[cycle(copies)]
-    pub fn copy(&self) -> Result<Entry, AllocError>
-        ensures { IfOk result (λ v. v ≡ self.now) }
-    {
+    fn copy(&self) -> Result<Entry, AllocError> {
         Ok(Entry {
             key: self.key.copy()?,
             value: self.value.copy()?,
@@ -48,12 +37,9 @@ impl Entry {
     }
 }
 
-impl Props {
-    /// A copy.
+impl TryCopy for Props {
     #[cycle(copies)]
-    pub fn copy(&self) -> Result<Props, AllocError>
-        ensures { IfOk result (λ v. v ≡ self.now) }
-    {
+    fn copy(&self) -> Result<Props, AllocError> {
         let mut entries = Vec::with_capacity(*self.entries.allocator(), self.entries.len())?;
         for entry in &self.entries {
             entries.push(entry.copy()?)?;
