@@ -29,6 +29,15 @@ impl<T> Seq<T> {
         }
     }
 
+    /// No item, with room for so many.
+    pub fn with_capacity(alloc: Global, capacity: usize) -> Result<Self, AllocError>
+        ensures { IfOk result (λ s. s ≡ []) }
+    {
+        Ok(Seq {
+            items: Vec::with_capacity(alloc, capacity)?,
+        })
+    }
+
     /// The items of a `Vec`.
     pub fn from_vec(items: Vec<T>) -> Self
         ensures { result ≡ items.items }

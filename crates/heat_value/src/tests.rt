@@ -167,7 +167,7 @@ fn values_are_made_and_compared(rt: HostRuntime) -> Result<(), Fail> {
 
 #[test]
 fn lists_are_edited(rt: HostRuntime) -> Result<(), Fail> {
-    let mut list: Seq<Text> = Seq::new(rt.alloc());
+    let mut list: Seq<Text> = Seq::with_capacity(rt.alloc(), 2)?;
     list.push(Text::from_str(rt.alloc(), "a")?)?;
     list.push(Text::from_str(rt.alloc(), "c")?)?;
     list.insert(1, Text::from_str(rt.alloc(), "b")?)?;
