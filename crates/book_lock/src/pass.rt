@@ -1,0 +1,31 @@
+//! A pass: the right to lock, and what is known of the value by what was held with it.
+use crate::rule::Place;
+use std::marker::Model;
+
+/// It may not be dropped, so that `close` gets all passes that there are.
+pub struct Pass<T> {
+    pub(crate) seat: Place<T>,
+    pub(crate) name: Vec<bool>,
+    pub(crate) holds: bool,
+}
+
+impl<T> Model for Pass<T> {
+    ghost use Rattle.book_lock.specs.Standing.{Standing, standing_of, IsSeatOf};
+
+    ghost Value = { Standing T };
+
+    ghost view = { λ a. standing_of a.seat.table_id a.seat.me.0 a.name.items a.holds };
+
+    ghost invariant = { λ a. IsSeatOf (standing_of a.seat.table_id a.seat.me.0 a.name.items a.holds) a.seat.me };
+}
+
+impl<T> Pass<T> {
+    ghost use Rattle.std.specs.Prelude.{◌≡◌};
+
+    /// Whether the pass holds the value.
+    pub fn holds(&self) -> bool
+        ensures { result ≡ self.now.holds }
+    {
+        self.holds
+    }
+}

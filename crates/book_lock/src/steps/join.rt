@@ -1,0 +1,32 @@
+//! Joining two views.
+ghost use Rattle.std.specs.Prelude.{◌≡◌, [], List, Bool};
+ghost use Rattle.book_lock.specs.Steps.{both};
+ghost use Rattle.book_lock.specs.Names.{child};
+ghost use Rattle.book_lock.specs.declared.view.Role.TheVariants.{Idle};
+ghost use Rattle.book_lock.specs.declared.view.View.TheVariants.{Spent, Live};
+ghost use Rattle.book_lock.specs.declared.view.Stand.{Stand};
+
+use crate::chronicle::Chronicle;
+use crate::rule::{Board, Place};
+use crate::view::View;
+use atomic_table::Join;
+
+struct Both;
+
+impl<T> Join<View<T>> for Both {
+    ghost both = { both };
+
+    ghost spent = { Spent };
+}
+
+/// The seat has the accounts of both.
+pub(crate) fn merge<T: Chronicle>(board: &Board<T>, seat: &mut Place<T>, other: Place<T>)
+    requires here { (seat.old.table_id ≡ board.now.shared.table_id) × (other.table_id ≡ board.now.shared.table_id) }
+    requires words { board.now.shared.table_id.words ≡ 2 }
+    requires idle { (stand : Stand T) × (seat.old.me ≡ (Live stand, [])) × (stand.role ≡ Idle) }
+    requires other { (stand : Stand T) × (other.me ≡ (Live stand, [])) × (stand.role ≡ Idle) }
+    ensures same { (seat.new.table_id ≡ seat.old.table_id) × (seat.new.id ≡ seat.old.id) }
+    ensures both { seat.new.me ≡ (both seat.old.me.0 other.me.0, []) }
+{
+    board.shared.join_seat::<Both>(seat, other);
+}
