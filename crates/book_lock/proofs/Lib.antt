@@ -6,3 +6,7 @@ mod Drawing
 mod Taking
 mod Raising
 mod Opening
+mod NamesLemmas
+mod Splitting
+mod Joining
+mod Passes

@@ -3,3 +3,4 @@ pub mod Names
 pub mod Standing
 pub mod Rule
 pub mod Steps
+pub mod Closing

@@ -1,5 +1,5 @@
 -- Names of passes: a list of flags, to which each split puts one flag more.
-use Rattle.std.specs.Prelude.{◌≡◌, ℕ, suc, Bool, true, false, List, [], ◌∷◌, ◌++◌, cond, sum_by, not}
+use Rattle.std.specs.Prelude.{ℕ, suc, ◌-◌, Bool, true, false, List, [], ◌∷◌, ◌++◌, cond, not, take, length}
 
 -- whether two flags are the same
 abbrev pub agree : Bool → Bool → Bool
@@ -15,12 +15,6 @@ on row (flag ∷ name) = cond (agree flag (row 0)) (on (λ k. row (suc k)) name)
 abbrev pub child : List Bool → Bool → List Bool
 child name flag = name ++ flag ∷ []
 
--- the name that a join takes back
+-- the name that was split, which a join takes back
 abbrev pub parent : List Bool → List Bool
-parent [] = []
-parent (flag ∷ []) = []
-parent (flag ∷ (next ∷ name)) = flag ∷ parent (next ∷ name)
-
--- the names of all passes that there are: each endless row of flags begins with exactly one of them
-abbrev pub AreAll : List (List Bool) → Type 0
-AreAll names = (row : ℕ → Bool) → sum_by (on row) names ≡ 1
+parent name = take (length name - 1) name

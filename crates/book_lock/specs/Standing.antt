@@ -38,6 +38,10 @@ pub record IsPassOf {T : Type 0} (lock : Lock T) (pass : Standing T) : Type 0 wh
 abbrev pub newcomer : {T : Type 0} → Lock T → List Bool → Option T → Standing T
 newcomer lock name last = record { table = lock.table; opening = Some lock.opening; name = name; holds = false; own = record { last = last; places = [] }; joined = [] }
 
+-- the pass under another name
+abbrev pub renamed_pass : {T : Type 0} → Standing T → List Bool → Standing T
+renamed_pass pass name = record pass { name = name }
+
 -- the pass has taken the value, which it has seen
 abbrev pub holding_pass : {T : Type 0} → Standing T → T → Standing T
 holding_pass pass value = record pass { holds = true; own = record { last = Some value; places = pass.own.places } }

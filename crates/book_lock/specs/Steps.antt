@@ -1,5 +1,5 @@
 -- What the steps tell, and how views are cut and joined.
-use Rattle.std.specs.Prelude.{◌≡◌, ◌≢◌, ◌++◌, ℕ, Bool, true, false, List, [], ◌∷◌, Option, Some, None, option_map}
+use Rattle.std.specs.Prelude.{◌≡◌, ◌≢◌, ◌++◌, ℕ, Bool, true, false, not, List, [], ◌∷◌, Option, Some, None, option_map}
 use mathlib.Core.List.{IsPrefix}
 use Rattle.atomic_table.specs.Table.{Step, Me}
 use Rattle.book_lock.specs.declared.view.Account.{Account}
@@ -53,6 +53,15 @@ module _ {T : Type 0} where
   abbrev pub both : View T → View T → View T
   both (Live stand) (Live other) = Live (merged stand other)
   both view _ = view
+
+  -- the two that a split gave, neither of which holds the value
+  pub record AreSiblings (stand other : Stand T) : Type 0 where
+    pub idle : stand.role ≡ Idle
+    pub rests : other.role ≡ Idle
+    pub name : List Bool
+    pub flag : Bool
+    pub first : stand.name ≡ child name flag
+    pub second : other.name ≡ child name (not flag)
 
   -- where the word was as expected the ticket is drawn, and else nothing changes
   abbrev pub Draws : Step (Option T) → Me (Option T) (View T) → ℕ → Me (Option T) (View T) → Type 0

@@ -5,11 +5,13 @@
 #![tactic(auto)]
 
 mod chronicle;
+mod close;
 mod pass;
 mod queue;
 mod rule;
 mod shared;
 mod slot;
+mod split;
 mod steps;
 mod view;
 

@@ -20,12 +20,26 @@ impl<T> Model for Pass<T> {
 }
 
 impl<T> Pass<T> {
-    ghost use Rattle.std.specs.Prelude.{◌≡◌};
+    ghost use Rattle.std.specs.Prelude.{◌≡◌, length};
 
     /// Whether the pass holds the value.
     pub fn holds(&self) -> bool
         ensures { result ≡ self.now.holds }
     {
         self.holds
+    }
+
+    // The flags that each split put behind the others.
+    pub(crate) fn name(&self) -> &[bool]
+        ensures { result.now ≡ self.now.name }
+    {
+        self.name.as_slice()
+    }
+
+    // How many splits lie between the first pass and this one.
+    pub(crate) fn depth(&self) -> usize
+        ensures { result ≡ length self.now.name }
+    {
+        self.name.len()
     }
 }

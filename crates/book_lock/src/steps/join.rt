@@ -1,8 +1,6 @@
 //! Joining two views.
-ghost use Rattle.std.specs.Prelude.{◌≡◌, [], List, Bool};
-ghost use Rattle.book_lock.specs.Steps.{both};
-ghost use Rattle.book_lock.specs.Names.{child};
-ghost use Rattle.book_lock.specs.declared.view.Role.TheVariants.{Idle};
+ghost use Rattle.std.specs.Prelude.{◌≡◌, []};
+ghost use Rattle.book_lock.specs.Steps.{both, AreSiblings};
 ghost use Rattle.book_lock.specs.declared.view.View.TheVariants.{Spent, Live};
 ghost use Rattle.book_lock.specs.declared.view.Stand.{Stand};
 
@@ -23,8 +21,7 @@ impl<T> Join<View<T>> for Both {
 pub(crate) fn merge<T: Chronicle>(board: &Board<T>, seat: &mut Place<T>, other: Place<T>)
     requires here { (seat.old.table_id ≡ board.now.shared.table_id) × (other.table_id ≡ board.now.shared.table_id) }
     requires words { board.now.shared.table_id.words ≡ 2 }
-    requires idle { (stand : Stand T) × (seat.old.me ≡ (Live stand, [])) × (stand.role ≡ Idle) }
-    requires other { (stand : Stand T) × (other.me ≡ (Live stand, [])) × (stand.role ≡ Idle) }
+    requires siblings { (stand : Stand T) × (theirs : Stand T) × (seat.old.me ≡ (Live stand, [])) × (other.me ≡ (Live theirs, [])) × AreSiblings stand theirs }
     ensures same { (seat.new.table_id ≡ seat.old.table_id) × (seat.new.id ≡ seat.old.id) }
     ensures both { seat.new.me ≡ (both seat.old.me.0 other.me.0, []) }
 {
