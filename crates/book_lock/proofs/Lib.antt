@@ -10,3 +10,4 @@ mod NamesLemmas
 mod Splitting
 mod Joining
 mod Passes
+mod Pairs
