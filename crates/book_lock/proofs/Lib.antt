@@ -11,3 +11,4 @@ mod Splitting
 mod Joining
 mod Passes
 mod Pairs
+mod Ending

@@ -1,5 +1,5 @@
 -- Two passes of a list become one.
-use Rattle.std.proofs.Common.{◌≡◌, ◌≢◌, ◌<◌, ◌≤◌, ◌+◌, ◌-◌, ◌++◌, ℕ, zero, suc, Bool, not, true, false, List, [], ◌∷◌, All, length, get_or, take, drop, set, remove, refl, sym, ap, ◌∙◌, subst, ⊎_elim, arith, length-append}
+use Rattle.std.proofs.Common.{◌≡◌, ◌≢◌, ◌<◌, ◌≤◌, ◌+◌, ◌-◌, ◌++◌, ℕ, zero, suc, Bool, not, true, false, List, [], ◌∷◌, Option, Some, option_to_list, All, length, get_or, take, drop, set, remove, refl, sym, ap, ◌∙◌, subst, ⊎_elim, arith, length-append}
 use Rattle.std.specs.Prelude.{sum_by, HoldsAt}
 use Rattle.std.proofs.lemmas.List.Elements.{All-cons, All-append, All-set}
 use Rattle.std.proofs.lemmas.List.Sums.{sum_by-cons, sum_by-append, sum_by-set, sum_by-remove, get_or-le-sum_by}
@@ -62,6 +62,16 @@ module _ {X : Type 0} where
       dite (dec_lt 0 (f x))
       (λ yes. (0, omega arith, (λ d. yes)))
       (λ no. let (k, l, c) = sum_some f xs (omega (arith, no, h, sum_by-cons f x xs)) in (suc k, omega (arith, l), c))
+
+  none_left : (xs : List X) → length xs ≡ 0 → xs ≡ []
+  none_left [] h = refl
+  none_left (x ∷ xs) h = absurd (omega (arith, h))
+
+  -- a list of one, of which that one was taken off the end
+  pub one_left : (xs rest : List X) (taken : Option X) (x : X) → xs ≡ rest ++ option_to_list taken → taken ≡ Some x → length xs ≤ 1 → xs ≡ x ∷ []
+  one_left xs rest taken x e is short =
+      let d : xs ≡ rest ++ x ∷ [] = e ∙ ap (λ (o : Option X). rest ++ option_to_list o) is in
+      d ∙ ap (λ (l : List X). l ++ x ∷ []) (none_left rest (omega (arith, ap length d, length-append rest (x ∷ []), short)))
 
 not_not : (flag : Bool) → not (not flag) ≡ flag
 not_not true = refl
@@ -135,6 +145,11 @@ module _ {T : Type 0} where
         (λ row. omega (arith, sum_by-remove (λ (pass : Standing T). on row pass.name) xs i p low, ap (λ (pass : Standing T). on row pass.name) here, all row))
         (All-remove (λ (pass : Standing T). length pass.name ≤ length p.name) xs i p low here short)
         (omega (arith, length-remove xs i p low here, some)))
+
+  -- passes that are all there are, are some
+  pub some_there : (passes : List (Standing T)) → AreAll passes → 0 < length passes
+  some_there [] all = absurd (omega (arith, all (λ k. false)))
+  some_there (pass ∷ passes) all = omega arith
 
   pub joined_left : {E O : Type 0} (list : T → List E) (origin : T → O) (lock : Lock T) (xs ys : List (Standing T)) (i j : ℕ) (p q z : Standing T) → i < length xs → p ≡ get_or xs i p → ys ≡ remove xs i
       → j < length ys → q ≡ get_or ys j q → z ≡ joined_pass q p → AreSiblingNames (get_or ys j q).name p.name → All (IsFree lock) xs → AreAll xs → JoinsTwo list origin lock xs (set ys j z)

@@ -1,10 +1,9 @@
-use Rattle.std.proofs.Common.{◌≡◌, ◌<◌, ◌≤◌, length, All, vec_len}
+use Rattle.std.proofs.Common.{◌<◌, All, vec_len}
 use Rattle.book_lock.specs.Closing.{AreAll, IsFree, Settled}
 use Rattle.book_lock.proofs.shared.Shared.close.Given as goal
 
 abbrev pub invariant-loop-self : goal.invariant-loop-self
 invariant-loop-self g l = record {
-  same : l.self ≡ l.fn.self;
   some : 0 < vec_len l.passes;
   free : All (IsFree l.self) l.passes.items;
   all : AreAll l.passes.items;
