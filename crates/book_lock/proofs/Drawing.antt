@@ -13,7 +13,7 @@ use Rattle.book_lock.specs.declared.view.View.TheVariants.{Live}
 use Rattle.book_lock.specs.declared.view.Role.TheVariants as role
 use Rattle.book_lock.specs.Places.{once_between}
 use Rattle.book_lock.specs.Rule.{Fits, AtHome, IsOut, Kept, IsKept, has_ticket, is_on, has_place, times_drawn}
-use Rattle.book_lock.specs.Steps.{waiting, Draws}
+use Rattle.book_lock.specs.Steps.{waiting, IsIdle, Draws}
 use Rattle.book_lock.proofs.Counts.{sum_set, once_split}
 use Rattle.book_lock.proofs.Views.{one_at, live-injective, each_set, sum_same, first_is, first_set, first_same}
 
@@ -77,7 +77,7 @@ module _ {T E O : Type 0} (list : T → List E) (origin : T → O) (opening : T)
         ((λ e. absurd (miss (e ∙ told))), (λ ne. refl)),
       ))
 
-  pub draws_for : (slots id next : ℕ) (s : Step (Option T)) (me : Me (Option T) (View T)) → (v : Stand T) × (me ≡ (Live v, [])) × (v.role ≡ role.Idle) → next < 18446744073709551615 → s.first ≡ next
+  pub draws_for : (slots id next : ℕ) (s : Step (Option T)) (me : Me (Option T) (View T)) → IsIdle me → next < 18446744073709551615 → s.first ≡ next
       → Allows (IsKept list origin opening) slots id me 0 (λ n. either (n == next) (next + 1) n) (Draws s me)
   draws_for slots id next st me (v, whole, idle) room told =
       subst (λ (m : Me (Option T) (View T)). Allows (IsKept list origin opening) slots id m 0 (λ n. either (n == next) (next + 1) n) (Draws st m)) (sym whole) (draws_at slots id next st v idle room told)

@@ -16,7 +16,7 @@ use Rattle.book_lock.specs.declared.view.View.TheVariants.{Spent, Live}
 use Rattle.book_lock.specs.declared.view.Role.TheVariants as role
 use Rattle.book_lock.specs.Names.{on}
 use Rattle.book_lock.specs.Places.{once_between}
-use Rattle.book_lock.specs.Standing.{Standing, standing_of, stand_of, IsSeatOf}
+use Rattle.book_lock.specs.Standing.{Standing, standing_of, stand_of, IsSeated}
 use Rattle.book_lock.specs.Rule.{IsAccount, AtHome, IsOut, Kept, IsKept, is_on, has_place, times_added, accounts_of}
 use Rattle.book_lock.specs.Closing.{AreAll, Settled, accounts}
 use Rattle.book_lock.proofs.Counts.{sum_two}
@@ -51,11 +51,11 @@ module _ {T E O : Type 0} (list : T → List E) (origin : T → O) (opening : T)
   nothing x (Live u) none = absurd (none u refl)
 
   pub ended : (table : TableId) (id : ℕ) (me : Me (Option T) (View T)) (name : List Bool) (holds : Bool) (words : List ℕ) (slots : List (Option T)) (taken : Option T) → holds ≡ false
-      → IsSeatOf (standing_of table me.0 name holds) me → AreAll (standing_of table me.0 name holds ∷ []) → Final (Seen (IsKept list origin opening) id me.0) words slots → get_elem? slots 0 ≡ maybe.some taken
-      → (value : T) × (taken ≡ Some value) × Settled list origin opening (standing_of table me.0 name holds ∷ []) value
+      → IsSeated table me name holds → AreAll (standing_of table me name holds ∷ []) → Final (Seen (IsKept list origin opening) id me.0) words slots → get_elem? slots 0 ≡ maybe.some taken
+      → (value : T) × (taken ≡ Some value) × Settled list origin opening (standing_of table me name holds ∷ []) value
   ended table id me name holds words slots taken free inv all (s, ((ticket, serving, log, k), at), same, sizes, values) took =
-      let pass = standing_of table me.0 name holds in
-      let v = stand_of (standing_of table me.0 name false) role.Idle in
+      let pass = standing_of table me name holds in
+      let v = stand_of (standing_of table me name false) role.Idle in
       let is : me.0 ≡ Live v = ap (λ (m : Me (Option T) (View T)). m.0) (idle_seat table me name holds free inv) in
       let here : get_elem? s.views id ≡ maybe.some (Live v) = at ∙ ap maybe.some is in
       let alone = no_other s.views id v k.names (λ row. omega (arith, all row)) here in
@@ -88,9 +88,9 @@ module _ {T E O : Type 0} (list : T → List E) (origin : T → O) (opening : T)
 
   -- the same of what is seen from outside
   pub ended_pass : (end : T) (table : TableId) (id : ℕ) (me : Me (Option T) (View T)) (name : List Bool) (holds : Bool) (pass : Standing T) (words : List ℕ) (slots : List (Option T)) (taken : Option T)
-      → opening ≡ end → standing_of table me.0 name holds ≡ pass → pass.holds ≡ false → IsSeatOf (standing_of table me.0 name holds) me → AreAll (pass ∷ [])
+      → opening ≡ end → standing_of table me name holds ≡ pass → pass.holds ≡ false → IsSeated table me name holds → AreAll (pass ∷ [])
       → Final (Seen (IsKept list origin opening) id me.0) words slots → get_elem? slots 0 ≡ maybe.some taken → (value : T) × (taken ≡ Some value) × Settled list origin end (pass ∷ []) value
   ended_pass end table id me name holds pass words slots taken same is free inv all last took =
-      let whole : AreAll (standing_of table me.0 name holds ∷ []) = subst (λ (p : Standing T). AreAll (p ∷ [])) (sym is) all in
+      let whole : AreAll (standing_of table me name holds ∷ []) = subst (λ (p : Standing T). AreAll (p ∷ [])) (sym is) all in
       let (value, e, settled) = ended table id me name holds words slots taken (ap (λ (p : Standing T). p.holds) is ∙ free) inv whole last took in
       (value, e, subst (λ (o : T). Settled list origin o (pass ∷ []) value) same (subst (λ (p : Standing T). Settled list origin opening (p ∷ []) value) is settled))

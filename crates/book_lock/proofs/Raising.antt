@@ -15,7 +15,7 @@ use Rattle.book_lock.specs.declared.view.Role.TheVariants as role
 use Rattle.book_lock.specs.Places.{once_between, places_from, places_behind, times}
 use Rattle.book_lock.specs.Standing.{seen}
 use Rattle.book_lock.specs.Rule.{IsAccount, Fits, AtHome, IsOut, Kept, IsKept, has_ticket, is_on, has_place, times_drawn, times_added, accounts_of}
-use Rattle.book_lock.specs.Steps.{grown, released, Continues, Raises}
+use Rattle.book_lock.specs.Steps.{grown, released, Continues, GivesBack, Raises}
 use Rattle.book_lock.proofs.Counts.{sum_set, sum_at, sum_two, once_split, once_within_high, once_at_most, once_here, times-places_from}
 use Rattle.book_lock.proofs.PlacesLemmas.{All-behind, rising-behind}
 use Rattle.book_lock.proofs.Prefixes.{length-prefix, prefix-trans, prefix-refl, All-weaker, All-head, All-tail}
@@ -114,9 +114,9 @@ module _ {T E O : Type 0} (list : T → List E) (origin : T → O) (opening : T)
           });
       }
 
-  raises_at : (slots id t : ℕ) (s : Step (Option T)) (v : Stand T) (value : T) → v.role ≡ role.Holds t → Continues list origin v.own value
-      → Allows (IsKept list origin opening) slots id (Live v, (0, Some value) ∷ []) 1 (λ n. (n + 1) % 18446744073709551616) (Raises list s (Live v, (0, Some value) ∷ []))
-  raises_at slots id t st v value holds follows s (ticket, serving, log, k) homes here small =
+  raises_at : (slots id t : ℕ) (v : Stand T) (value : T) → v.role ≡ role.Holds t → Continues list origin v.own value
+      → Allows (IsKept list origin opening) slots id (Live v, (0, Some value) ∷ []) 1 (λ n. (n + 1) % 18446744073709551616) (λ _. Raises list (Live v, (0, Some value) ∷ []))
+  raises_at slots id t v value holds follows s (ticket, serving, log, k) homes here small =
       let n = slice_index s.words 1 in
       let found : n ≡ serving = second_is s.words ticket serving k.words in
       let fits = k.each id v here in
@@ -135,8 +135,7 @@ module _ {T E O : Type 0} (list : T → List E) (origin : T → O) (opening : T)
         refl,
       )
 
-  pub raises_for : (slots id : ℕ) (s : Step (Option T)) (me : Me (Option T) (View T))
-      → (v : Stand T) × (value : T) × (t : ℕ) × (me ≡ (Live v, (0, Some value) ∷ [])) × (v.role ≡ role.Holds t) × Continues list origin v.own value
-      → Allows (IsKept list origin opening) slots id me 1 (λ n. (n + 1) % 18446744073709551616) (Raises list s me)
-  raises_for slots id st me (v, value, t, whole, holds, follows) =
-      subst (λ (m : Me (Option T) (View T)). Allows (IsKept list origin opening) slots id m 1 (λ n. (n + 1) % 18446744073709551616) (Raises list st m)) (sym whole) (raises_at slots id t st v value holds follows)
+  pub raises_for : (slots id : ℕ) (me : Me (Option T) (View T)) → GivesBack list origin me
+      → Allows (IsKept list origin opening) slots id me 1 (λ n. (n + 1) % 18446744073709551616) (λ _. Raises list me)
+  raises_for slots id me (v, value, t, whole, holds, follows) =
+      subst (λ (m : Me (Option T) (View T)). Allows (IsKept list origin opening) slots id m 1 (λ n. (n + 1) % 18446744073709551616) (λ _. Raises list m)) (sym whole) (raises_at slots id t v value holds follows)

@@ -17,7 +17,7 @@ use Rattle.book_lock.specs.declared.view.Role.TheVariants as role
 use Rattle.book_lock.specs.Places.{once_between}
 use Rattle.book_lock.specs.Standing.{seen}
 use Rattle.book_lock.specs.Rule.{IsAccount, Fits, AtHome, IsOut, Kept, IsKept, has_ticket, is_on, has_place, times_drawn, accounts_of}
-use Rattle.book_lock.specs.Steps.{holding, Takes}
+use Rattle.book_lock.specs.Steps.{holding, IsWaiting, Takes}
 use Rattle.book_lock.proofs.Counts.{sum_two, once_at_most, once_here}
 use Rattle.book_lock.proofs.Prefixes.{length-prefix, All-weaker, All-head, All-tail}
 use Rattle.book_lock.proofs.Views.{one_at, live-injective, each_set, sum_same, second_is, second_set, second_same, within}
@@ -78,9 +78,9 @@ module _ {T E O : Type 0} (list : T → List E) (origin : T → O) (opening : T)
         });
       }
 
-  takes_at : (slots id t : ℕ) (s : Step (Option T)) (v : Stand T) → v.role ≡ role.Waits t
-      → Allows (IsKept list origin opening) slots id (Live v, []) 1 (λ n. n) (Takes list origin s (Live v, []))
-  takes_at slots id t st v waits s (ticket, serving, log, k) homes here small =
+  takes_at : (slots id t : ℕ) (v : Stand T) → v.role ≡ role.Waits t
+      → Allows (IsKept list origin opening) slots id (Live v, []) 1 (λ n. n) (Takes list origin (Live v, []))
+  takes_at slots id t v waits s (ticket, serving, log, k) homes here small =
       let n = slice_index s.words 1 in
       let found : n ≡ serving = second_is s.words ticket serving k.words in
       let fits = k.each id v here in
@@ -115,7 +115,7 @@ module _ {T E O : Type 0} (list : T → List E) (origin : T → O) (opening : T)
         ),
       ))
 
-  pub takes_for : (slots id t : ℕ) (s : Step (Option T)) (me : Me (Option T) (View T)) → (v : Stand T) × (me ≡ (Live v, [])) × (v.role ≡ role.Waits t)
-      → Allows (IsKept list origin opening) slots id me 1 (λ n. n) (Takes list origin s me)
-  takes_for slots id t st me (v, whole, waits) =
-      subst (λ (m : Me (Option T) (View T)). Allows (IsKept list origin opening) slots id m 1 (λ n. n) (Takes list origin st m)) (sym whole) (takes_at slots id t st v waits)
+  pub takes_for : (slots id t : ℕ) (me : Me (Option T) (View T)) → IsWaiting t me
+      → Allows (IsKept list origin opening) slots id me 1 (λ n. n) (Takes list origin me)
+  takes_for slots id t me (v, whole, waits) =
+      subst (λ (m : Me (Option T) (View T)). Allows (IsKept list origin opening) slots id m 1 (λ n. n) (Takes list origin m)) (sym whole) (takes_at slots id t v waits)

@@ -62,9 +62,9 @@ abbrev pub joined_of : {T : Type 0} → View T → List (Account T)
 joined_of Spent = []
 joined_of (Live stand) = stand.joined
 
--- what is seen of a pass, by its seat, its name and whether it holds the value
-abbrev pub standing_of : {T : Type 0} → TableId → View T → List Bool → Bool → Standing T
-standing_of table view name holds = record { table = table; opening = opening_of view; name = name; holds = holds; own = own_of view; joined = joined_of view }
+-- what is seen of a pass, by its table, its seat, its name and whether it holds the value
+abbrev pub standing_of : {T : Type 0} → TableId → Me (Option T) (View T) → List Bool → Bool → Standing T
+standing_of table me name holds = record { table = table; opening = opening_of me.0; name = name; holds = holds; own = own_of me.0; joined = joined_of me.0 }
 
 -- the role of a pass between two calls
 abbrev pub resting : Bool → ℕ → Role
@@ -80,6 +80,6 @@ carried false = []
 abbrev pub stand_of : {T : Type 0} → Standing T → Role → Stand T
 stand_of pass role = record { role = role; name = pass.name; opening = pass.opening; own = pass.own; joined = pass.joined }
 
--- the seat is that of this pass
-abbrev pub IsSeatOf : {T : Type 0} → Standing T → Me (Option T) (View T) → Type 0
-IsSeatOf pass me = (ticket : ℕ) × (me ≡ (Live (stand_of pass (resting pass.holds ticket)), carried pass.holds))
+-- the seat is that of a pass with this name, which holds the value or rests
+abbrev pub IsSeated : {T : Type 0} → TableId → Me (Option T) (View T) → List Bool → Bool → Type 0
+IsSeated table me name holds = (ticket : ℕ) × (me ≡ (Live (stand_of (standing_of table me name holds) (resting holds ticket)), carried holds))

@@ -63,6 +63,18 @@ module _ {T : Type 0} where
     pub first : stand.name ≡ child name flag
     pub second : other.name ≡ child name (not flag)
 
+  -- a seat with no slot, whose pass isn't in the queue
+  abbrev pub IsIdle : Me (Option T) (View T) → Type 0
+  IsIdle me = (stand : Stand T) × (me ≡ (Live stand, [])) × (stand.role ≡ Idle)
+
+  -- a seat with no slot, whose pass has this ticket
+  abbrev pub IsWaiting : ℕ → Me (Option T) (View T) → Type 0
+  IsWaiting ticket me = (stand : Stand T) × (me ≡ (Live stand, [])) × (stand.role ≡ Waits ticket)
+
+  -- two seats of siblings
+  abbrev pub AreSiblingSeats : Me (Option T) (View T) → Me (Option T) (View T) → Type 0
+  AreSiblingSeats me other = (stand : Stand T) × (theirs : Stand T) × (me ≡ (Live stand, [])) × (other ≡ (Live theirs, [])) × AreSiblings stand theirs
+
   -- where the word was as expected the ticket is drawn, and else nothing changes
   abbrev pub Draws : Step (Option T) → Me (Option T) (View T) → ℕ → Me (Option T) (View T) → Type 0
   Draws s me found now = (found ≡ s.first → now ≡ (changed (waiting found) me.0, me.1)) × (found ≢ s.first → now ≡ me)
@@ -76,8 +88,8 @@ module _ {T E : Type 0} (list : T → List E) where
   released value stand = record { role = Idle; name = stand.name; opening = stand.opening; own = grown value stand.own; joined = stand.joined }
 
   -- the value that the pass gives back is in the slot, and the next ticket is served
-  abbrev pub Raises : Step (Option T) → Me (Option T) (View T) → ℕ → Me (Option T) (View T) → Type 0
-  Raises s me found now = IfCarried me.1 (λ value. now ≡ (changed (released value) me.0, []))
+  abbrev pub Raises : Me (Option T) (View T) → Me (Option T) (View T) → Type 0
+  Raises me now = IfCarried me.1 (λ value. now ≡ (changed (released value) me.0, []))
 
 module _ {T E O : Type 0} (list : T → List E) (origin : T → O) where
   -- the value begins with what was seen, and has the origin of the value that was seen
@@ -90,8 +102,18 @@ module _ {T E O : Type 0} (list : T → List E) (origin : T → O) where
     pub begins : IsPrefix (seen list stand.own) (list value)
     pub same : option_map origin stand.opening ≡ Some (origin value)
 
+  -- the pass holds the value, and its seat has the slot
+  abbrev pub HasTaken : ℕ → Stand T → List (ℕ × Option T) → Me (Option T) (View T) → Type 0
+  HasTaken ticket stand before now = (value : T) × (now ≡ (Live (holding ticket value stand), (0, Some value) ∷ before)) × Follows stand value
+
   -- where the pass's ticket is served it takes the value, and else nothing changes
-  abbrev pub Takes : Step (Option T) → Me (Option T) (View T) → ℕ → Me (Option T) (View T) → Type 0
-  Takes s me found now = IfLive me.0 (λ stand.
-      (stand.role ≡ Waits found → (value : T) × (now ≡ (Live (holding found value stand), (0, Some value) ∷ me.1)) × Follows stand value)
-      × (stand.role ≢ Waits found → now ≡ me))
+  abbrev pub Takes : Me (Option T) (View T) → ℕ → Me (Option T) (View T) → Type 0
+  Takes me found now = IfLive me.0 (λ stand. (stand.role ≡ Waits found → HasTaken found stand me.1 now) × (stand.role ≢ Waits found → now ≡ me))
+
+  -- the seat after the taking
+  abbrev pub Took : ℕ → Me (Option T) (View T) → Me (Option T) (View T) → Type 0
+  Took ticket me now = IfLive me.0 (λ stand. HasTaken ticket stand [] now)
+
+  -- a seat with the value in its slot, whose pass gives it back
+  abbrev pub GivesBack : Me (Option T) (View T) → Type 0
+  GivesBack me = (stand : Stand T) × (value : T) × (ticket : ℕ) × (me ≡ (Live stand, (0, Some value) ∷ [])) × (stand.role ≡ Holds ticket) × Continues stand.own value

@@ -10,13 +10,13 @@ pub struct Pass<T> {
 }
 
 impl<T> Model for Pass<T> {
-    ghost use Rattle.book_lock.specs.Standing.{Standing, standing_of, IsSeatOf};
+    ghost use Rattle.book_lock.specs.Standing.{Standing, standing_of, IsSeated};
 
     ghost Value = { Standing T };
 
-    ghost view = { λ a. standing_of a.seat.table_id a.seat.me.0 a.name.items a.holds };
+    ghost view = { λ a. standing_of a.seat.table_id a.seat.me a.name.items a.holds };
 
-    ghost invariant = { λ a. IsSeatOf (standing_of a.seat.table_id a.seat.me.0 a.name.items a.holds) a.seat.me };
+    ghost invariant = { λ a. IsSeated a.seat.table_id a.seat.me a.name.items a.holds };
 }
 
 impl<T> Pass<T> {

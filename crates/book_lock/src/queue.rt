@@ -1,9 +1,6 @@
 //! Waiting for one's turn: a ticket is drawn, and the value is taken once it is served.
-ghost use Rattle.std.specs.Prelude.{◌≡◌, ◌∷◌, [], Some, None};
-ghost use Rattle.book_lock.specs.Steps.{IfLive, Follows, changed, waiting, holding};
-ghost use Rattle.book_lock.specs.declared.view.Role.TheVariants.{Idle, Waits};
-ghost use Rattle.book_lock.specs.declared.view.View.TheVariants.{Live};
-ghost use Rattle.book_lock.specs.declared.view.Stand.{Stand};
+ghost use Rattle.std.specs.Prelude.{◌≡◌, []};
+ghost use Rattle.book_lock.specs.Steps.{IsIdle, IsWaiting, Took, changed, waiting};
 
 use crate::chronicle::Chronicle;
 use crate::rule::{Board, Place};
@@ -14,8 +11,8 @@ use std::sync::Wait;
 pub(crate) fn draw<T: Chronicle, R: Wait>(rt: &R, board: &Board<T>, seat: &mut Place<T>) -> u64
     requires here { seat.old.table_id ≡ board.now.shared.table_id }
     requires words { board.now.shared.table_id.words ≡ 2 }
-    requires idle { (stand : Stand T) × (seat.old.me ≡ (Live stand, [])) × (stand.role ≡ Idle) }
-    ensures same { (seat.new.table_id ≡ seat.old.table_id) × (seat.new.id ≡ seat.old.id) }
+    requires idle { IsIdle seat.old.me }
+    ensures same { seat.new.table_id ≡ seat.old.table_id }
     ensures step { seat.new.me ≡ (changed (waiting result) seat.old.me.0, []) }
 {
     for _ in rt.forever() {
@@ -38,9 +35,9 @@ pub(crate) fn wait_turn<T: Chronicle, R: Wait>(
 )
     requires here { seat.old.table_id ≡ board.now.shared.table_id }
     requires words { board.now.shared.table_id.words ≡ 2 }
-    requires waits { (stand : Stand T) × (seat.old.me ≡ (Live stand, [])) × (stand.role ≡ Waits ticket) }
-    ensures same { (seat.new.table_id ≡ seat.old.table_id) × (seat.new.id ≡ seat.old.id) }
-    ensures step { IfLive seat.old.me.0 (λ stand. (value : T) × (seat.new.me ≡ (Live (holding ticket value stand), (0, Some value) ∷ [])) × Follows T.list T.origin stand value) }
+    requires waits { IsWaiting ticket seat.old.me }
+    ensures same { seat.new.table_id ≡ seat.old.table_id }
+    ensures step { Took T.list T.origin ticket seat.old.me seat.new.me }
 {
     for _ in rt.forever() {
         let served = try_take(board, seat, ticket);

@@ -1,8 +1,7 @@
 //! Joining two views.
 ghost use Rattle.std.specs.Prelude.{◌≡◌, []};
-ghost use Rattle.book_lock.specs.Steps.{both, AreSiblings};
-ghost use Rattle.book_lock.specs.declared.view.View.TheVariants.{Spent, Live};
-ghost use Rattle.book_lock.specs.declared.view.Stand.{Stand};
+ghost use Rattle.book_lock.specs.Steps.{AreSiblingSeats, both};
+ghost use Rattle.book_lock.specs.declared.view.View.TheVariants.{Spent};
 
 use crate::chronicle::Chronicle;
 use crate::rule::{Board, Place};
@@ -19,10 +18,11 @@ impl<T> Join<View<T>> for Both {
 
 /// The seat has the accounts of both.
 pub(crate) fn merge<T: Chronicle>(board: &Board<T>, seat: &mut Place<T>, other: Place<T>)
-    requires here { (seat.old.table_id ≡ board.now.shared.table_id) × (other.table_id ≡ board.now.shared.table_id) }
+    requires here { seat.old.table_id ≡ board.now.shared.table_id }
+    requires there { other.table_id ≡ board.now.shared.table_id }
     requires words { board.now.shared.table_id.words ≡ 2 }
-    requires siblings { (stand : Stand T) × (theirs : Stand T) × (seat.old.me ≡ (Live stand, [])) × (other.me ≡ (Live theirs, [])) × AreSiblings stand theirs }
-    ensures same { (seat.new.table_id ≡ seat.old.table_id) × (seat.new.id ≡ seat.old.id) }
+    requires siblings { AreSiblingSeats seat.old.me other.me }
+    ensures same { seat.new.table_id ≡ seat.old.table_id }
     ensures both { seat.new.me ≡ (both seat.old.me.0 other.me.0, []) }
 {
     board.shared.join_seat::<Both>(seat, other);

@@ -22,7 +22,7 @@ pub(crate) fn cut<T: Chronicle>(board: &Board<T>, seat: &mut Place<T>) -> Place<
     requires here { seat.old.table_id ≡ board.now.shared.table_id }
     requires words { board.now.shared.table_id.words ≡ 2 }
     requires live { (stand : Stand T) × (seat.old.me.0 ≡ Live stand) }
-    ensures same { (seat.new.table_id ≡ seat.old.table_id) × (seat.new.id ≡ seat.old.id) × (result.table_id ≡ seat.old.table_id) }
+    ensures same { (seat.new.table_id ≡ seat.old.table_id) × (result.table_id ≡ seat.old.table_id) }
     ensures elder { seat.new.me ≡ (changed elder seat.old.me.0, seat.old.me.1) }
     ensures younger { result.me ≡ (changed younger seat.old.me.0, []) }
 {

@@ -1,11 +1,6 @@
 //! Looking who is served, and taking the value in one's turn.
-ghost use Rattle.std.specs.Prelude.{◌≡◌, []};
-ghost use Rattle.book_lock.specs.Steps.{Takes};
-ghost use Rattle.book_lock.specs.declared.view.Role.TheVariants.{Waits};
-ghost use Rattle.book_lock.specs.declared.view.View.TheVariants.{Live};
-ghost use Rattle.book_lock.specs.declared.view.Stand.{Stand};
-ghost use Rattle.atomic_table.specs.Table.{step};
-ghost use mathlib.Core.Option.{none};
+ghost use Rattle.std.specs.Prelude.{◌≡◌};
+ghost use Rattle.book_lock.specs.Steps.{IsWaiting, Takes};
 
 use crate::chronicle::Chronicle;
 use crate::rule::{Board, Place};
@@ -18,16 +13,16 @@ struct Take<T> {
 }
 
 impl<T: Chronicle> Play<Option<T>, View<T>> for Take<T> {
-    ghost then = { Takes T.list T.origin };
+    ghost then = { λ _. Takes T.list T.origin };
 }
 
 /// Returns the ticket that is served. Where it is the pass's, the slot is the seat's.
 pub(crate) fn try_take<T: Chronicle>(board: &Board<T>, seat: &mut Place<T>, ticket: u64) -> u64
     requires here { seat.old.table_id ≡ board.now.shared.table_id }
     requires words { board.now.shared.table_id.words ≡ 2 }
-    requires waits { (stand : Stand T) × (seat.old.me ≡ (Live stand, [])) × (stand.role ≡ Waits ticket) }
-    ensures same { (seat.new.table_id ≡ seat.old.table_id) × (seat.new.id ≡ seat.old.id) }
-    ensures step { Takes T.list T.origin (step board.now.shared.table_id.slots 1 0 0 none) seat.old.me result seat.new.me }
+    requires waits { IsWaiting ticket seat.old.me }
+    ensures same { seat.new.table_id ≡ seat.old.table_id }
+    ensures step { Takes T.list T.origin seat.old.me result seat.new.me }
 {
     board.shared.load::<Take<T>>(seat, 1)
 }

@@ -9,8 +9,8 @@ join_seat-requires g c =
     let T = g.row.T.Denot in
     let (v, w, is, are, siblings) = c.requires.siblings in
     (
-      c.requires.here.0,
-      c.requires.here.1,
+      c.requires.here,
+      c.requires.there,
       ap (λ (m : Me (Option T) (View T)). m.1) are,
       rw c.requires.words (lit< tt),
       joins_for g.T.Chronicle.list g.T.Chronicle.origin c.args.board.now.shared.key.value _ _ _ _ (v, w, ap (λ (m : Me (Option T) (View T)). m.0) is, ap (λ (m : Me (Option T) (View T)). m.0) are, siblings),
