@@ -1,5 +1,5 @@
 -- The last pass and the rule say what holds of the value and of all passes.
-use Rattle.std.proofs.Common.{◌≡◌, ◌≢◌, ◌⊎◌, ◌<◌, ◌≤◌, ◌+◌, ℕ, zero, suc, Bool, true, false, List, [], ◌∷◌, Option, Some, None, All, length, refl, sym, ap, ◌∙◌, subst, ⊎_elim, arith}
+use Rattle.std.proofs.Common.{◌≡◌, ◌≢◌, ℕ, zero, suc, Bool, false, List, [], ◌∷◌, Option, Some, All, length, refl, sym, ap, ◌∙◌, subst, ⊎_elim, arith}
 use Rattle.std.specs.Prelude.{sum_by}
 use Rattle.std.proofs.lemmas.List.Elements.{All-cons, All-nil}
 use Rattle.std.proofs.lemmas.List.Sums.{sum_by-cons}
@@ -9,7 +9,7 @@ use mathlib.Core.Option as maybe
 use native.Mathlib.Decide.{ℕ_discrete}
 use lib.ListN.{get_elem?}
 use Rattle.atomic_table.specs.Seated.{TableId}
-use Rattle.atomic_table.specs.Table.{State, Me, Final, Seen}
+use Rattle.atomic_table.specs.Table.{Me, Final, Seen}
 use Rattle.book_lock.specs.declared.view.Stand.{Stand}
 use Rattle.book_lock.specs.declared.view.View.{View}
 use Rattle.book_lock.specs.declared.view.View.TheVariants.{Spent, Live}
@@ -17,7 +17,7 @@ use Rattle.book_lock.specs.declared.view.Role.TheVariants as role
 use Rattle.book_lock.specs.Names.{on}
 use Rattle.book_lock.specs.Places.{once_between}
 use Rattle.book_lock.specs.Standing.{Standing, standing_of, stand_of, IsSeated}
-use Rattle.book_lock.specs.Rule.{IsAccount, AtHome, IsOut, Kept, IsKept, is_on, has_place, times_added, accounts_of}
+use Rattle.book_lock.specs.Rule.{IsAccount, AtHome, IsKept, is_on, has_place, times_added, accounts_of}
 use Rattle.book_lock.specs.Closing.{AreAll, Settled, accounts}
 use Rattle.book_lock.proofs.Counts.{sum_two}
 use Rattle.book_lock.proofs.NamesLemmas.{row_of, on_own}
@@ -61,28 +61,27 @@ module _ {T E O : Type 0} (list : T → List E) (origin : T → O) (opening : T)
       let alone = no_other s.views id v k.names (λ row. omega (arith, all row)) here in
       let fits = k.each id v here in
       let home : AtHome list origin opening log s = ⊎_elim (λ h. h)
-          (λ o. absurd (dite (ℕ_discrete o.by id)
-            (λ mine.
-              let one : o.holder ≡ v = live-injective o.holder v (one_at s.views o.by id (Live o.holder) (Live v) mine o.there here) in
-              let wrong : role.Holds serving ≡ role.Idle = sym o.holds ∙ ap (λ (y : Stand T). y.role) one in
-              cc)
-            (λ other. alone o.by o.holder other o.there)))
-          k.place in
+      (λ o. absurd (dite (ℕ_discrete o.by id)
+      (λ mine.
+      let one : o.holder ≡ v = live-injective o.holder v (one_at s.views o.by id (Live o.holder) (Live v) mine o.there here) in
+      let wrong : role.Holds serving ≡ role.Idle = sym o.holds ∙ ap (λ (y : Stand T). y.role) one in
+      cc)
+      (λ other. alone o.by o.holder other o.there)))
+      k.place in
       let slot : get_elem? slots 0 ≡ maybe.some (Some home.value) = values 0 (Some home.value) (ap (λ (hs : List (maybe.Option (Option T))). get_elem? hs 0) home.homes) in
       let counted : (x : ℕ) → sum_by (has_place x) s.views ≡ times_added x (accounts_of v)
-          = λ x. sum_only (has_place x) s.views id (Live v) here (λ j b other there. nothing x b (λ u e. alone j u other (there ∙ ap maybe.some e))) in
-      (
+      = λ x. sum_only (has_place x) s.views id (Live v) here (λ j b other there. nothing x b (λ u e. alone j u other (there ∙ ap maybe.some e))) in (
         home.value,
         maybe.some-injective taken (Some home.value) (sym took ∙ slot),
         record {
           origin_stays = home.same;
           begins = subst (IsPrefix (list opening)) (sym home.shown) k.begun;
           accounts_fit = All-cons (λ (p : Standing T). All (IsAccount list origin opening (list home.value)) (accounts p)) pass []
-            (subst (λ (l : List E). All (IsAccount list origin opening l) (accounts_of v)) (sym home.shown) fits.accounts)
-            (All-nil (λ (p : Standing T). All (IsAccount list origin opening (list home.value)) (accounts p)));
+              (subst (λ (l : List E). All (IsAccount list origin opening l) (accounts_of v)) (sym home.shown) fits.accounts)
+              (All-nil (λ (p : Standing T). All (IsAccount list origin opening (list home.value)) (accounts p)));
           once = λ x.
-            let long : once_between (length (list opening)) (length log) x ≡ once_between (length (list opening)) (length (list home.value)) x = ap (λ (l : List E). once_between (length (list opening)) (length l) x) (sym home.shown) in
-            omega (arith, counted x, k.mines x, long);
+              let long : once_between (length (list opening)) (length log) x ≡ once_between (length (list opening)) (length (list home.value)) x = ap (λ (l : List E). once_between (length (list opening)) (length l) x) (sym home.shown) in
+              omega (arith, counted x, k.mines x, long);
         },
       )
 

@@ -1,14 +1,15 @@
 mod Counts
-mod Prefixes
+pub mod Prefixes
 mod PlacesLemmas
 mod Views
 mod Drawing
 mod Taking
 mod Raising
 mod Opening
-mod NamesLemmas
+pub mod NamesLemmas
 mod Splitting
 mod Joining
 mod Passes
+pub mod Callers
 mod Pairs
 mod Ending

@@ -1,5 +1,5 @@
 -- Names, and the rows of flags that begin with them.
-use Rattle.std.proofs.Common.{◌≡◌, ◌<◌, ◌≤◌, ◌+◌, ◌-◌, ◌++◌, ℕ, zero, suc, Bool, true, false, cond, not, List, [], ◌∷◌, length, take, length-append, refl, sym, ap, ◌∙◌, ◌⊎◌, inl, inr, ⊎_elim, arith}
+use Rattle.std.proofs.Common.{◌≡◌, ◌≤◌, ◌+◌, ◌-◌, ◌++◌, ℕ, zero, suc, Bool, true, false, cond, not, List, [], ◌∷◌, length, take, length-append, refl, sym, ap, ◌∙◌, ◌⊎◌, inl, inr, ⊎_elim, arith}
 use Rattle.std.specs.Prelude.{IsTrue}
 use Rattle.std.proofs.Math.Seq.{take-append_seam}
 use lib.Pointwise.{pointwise, pointwise_decides}
@@ -49,9 +49,9 @@ siblings_by_parts name other p q f g same first second differ is =
         second = second ∙ ap (λ (n : List Bool). n ++ g ∷ []) (sym (decides.0 (sym is ∙ yes))) ∙ ap (child p) (other_flag f g differ);
       }),
       (λ s.
-        let front : p ≡ s.parent = sym (parent-child p f) ∙ ap parent (sym first ∙ s.first) ∙ parent-child s.parent s.flag in
-        let back : q ≡ s.parent = sym (parent-child q g) ∙ ap parent (sym second ∙ s.second) ∙ parent-child s.parent (not s.flag) in
-        is ∙ decides.1 (front ∙ sym back)),
+          let front : p ≡ s.parent = sym (parent-child p f) ∙ ap parent (sym first ∙ s.first) ∙ parent-child s.parent s.flag in
+          let back : q ≡ s.parent = sym (parent-child q g) ∙ ap parent (sym second ∙ s.second) ∙ parent-child s.parent (not s.flag) in
+          is ∙ decides.1 (front ∙ sym back)),
     )
 
 -- the row that begins with the name and goes on with false
@@ -95,16 +95,16 @@ on_child [] flag (f ∷ (g ∷ other)) h short = absurd (omega arith)
 on_child (first ∷ name) flag [] h short = inr (omega arith)
 on_child (first ∷ name) flag (f ∷ other) h short = ⊎_elim
     (λ same.
-      let yes : agree f first ≡ true = ap (λ b. agree b first) same ∙ agree_same first in
-      let down : on (row_of (child (first ∷ name) flag)) (f ∷ other) ≡ on (row_of (child name flag)) other = ap (λ b. cond b (on (row_of (child name flag)) other) 0) yes in
-      let up : on (row_of (child (first ∷ name) (not flag))) (f ∷ other) ≡ on (row_of (child name (not flag))) other = ap (λ b. cond b (on (row_of (child name (not flag))) other) 0) yes in
-      ⊎_elim
-        (λ is. inl (λ i. same i ∷ is i))
-        (λ goes. inr (omega (arith, up, goes)))
-        (on_child name flag other (omega (arith, down, h)) (omega (arith, short))))
+    let yes : agree f first ≡ true = ap (λ b. agree b first) same ∙ agree_same first in
+    let down : on (row_of (child (first ∷ name) flag)) (f ∷ other) ≡ on (row_of (child name flag)) other = ap (λ b. cond b (on (row_of (child name flag)) other) 0) yes in
+    let up : on (row_of (child (first ∷ name) (not flag))) (f ∷ other) ≡ on (row_of (child name (not flag))) other = ap (λ b. cond b (on (row_of (child name (not flag))) other) 0) yes in
+    ⊎_elim
+    (λ is. inl (λ i. same i ∷ is i))
+    (λ goes. inr (omega (arith, up, goes)))
+    (on_child name flag other (omega (arith, down, h)) (omega (arith, short))))
     (λ differ.
-      let none : on (row_of (child (first ∷ name) flag)) (f ∷ other) ≡ 0 = ap (λ b. cond b (on (row_of (child name flag)) other) 0) differ in
-      absurd (omega (arith, none, h)))
+    let none : on (row_of (child (first ∷ name) flag)) (f ∷ other) ≡ 0 = ap (λ b. cond b (on (row_of (child name flag)) other) 0) differ in
+    absurd (omega (arith, none, h)))
     (agree_is f first)
 
 -- a name is the first's, or a child's

@@ -1,16 +1,13 @@
 -- A lock that was just opened meets the rule.
-use Rattle.std.proofs.Common.{◌≡◌, ◌<◌, ℕ, List, [], ◌∷◌, refl, sym, ap, subst, inl, arith, zero, suc, lit<}
-use Rattle.std.specs.Prelude.{Option, Some, All}
+use Rattle.std.proofs.Common.{◌≡◌, List, [], ◌∷◌, refl, sym, subst, inl, arith, zero, suc, lit<}
+use Rattle.std.specs.Prelude.{Option, Some}
 use Rattle.std.proofs.lemmas.List.Elements.{All-cons, All-nil}
 use mathlib.Core.Option as maybe
-use lib.ListN.{get_elem?}
-use Rattle.atomic_table.specs.Table.{State, opening as opened}
-use Rattle.book_lock.specs.declared.view.Account.{Account}
+use Rattle.atomic_table.specs.Table.{opening as opened}
 use Rattle.book_lock.specs.declared.view.Stand.{Stand}
-use Rattle.book_lock.specs.declared.view.View.{View}
 use Rattle.book_lock.specs.declared.view.View.TheVariants.{Live}
 use Rattle.book_lock.specs.declared.view.Role.TheVariants as role
-use Rattle.book_lock.specs.Rule.{IsAccount, Fits, Kept, IsKept, first_view, first_stand}
+use Rattle.book_lock.specs.Rule.{IsAccount, Fits, IsKept, first_view, first_stand}
 use Rattle.book_lock.proofs.Counts.{once_none}
 use Rattle.book_lock.proofs.Prefixes.{prefix-refl}
 use Rattle.book_lock.proofs.Views.{live-injective, Each}
@@ -21,8 +18,8 @@ module _ {T E O : Type 0} (list : T → List E) (origin : T → O) (value : T) w
   first_fits = record {
     opened = refl;
     accounts = All-cons (IsAccount list origin value (list value)) (first_stand value).own []
-      (record { begins = prefix-refl (list value); same = refl; rising = λ k h. absurd (omega arith); within = λ k d h. absurd (omega arith) })
-      (All-nil (IsAccount list origin value (list value)));
+        (record { begins = prefix-refl (list value); same = refl; rising = λ k h. absurd (omega arith); within = λ k d h. absurd (omega arith) })
+        (All-nil (IsAccount list origin value (list value)));
     served = λ t e. let wrong : role.Idle ≡ role.Holds t = e in cc;
   }
 

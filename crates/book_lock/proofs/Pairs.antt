@@ -1,33 +1,26 @@
 -- Two passes of a list become one.
-use Rattle.std.proofs.Common.{◌≡◌, ◌≢◌, ◌<◌, ◌≤◌, ◌+◌, ◌-◌, ◌++◌, ℕ, zero, suc, Bool, not, true, false, List, [], ◌∷◌, Option, Some, option_to_list, All, length, get_or, take, drop, set, remove, refl, sym, ap, ◌∙◌, subst, ⊎_elim, arith, length-append}
+use Rattle.std.proofs.Common.{◌≡◌, ◌<◌, ◌≤◌, ◌+◌, ◌++◌, ℕ, zero, suc, Bool, not, true, false, List, [], ◌∷◌, Option, Some, option_to_list, All, length, get_or, take, drop, set, remove, refl, sym, ap, ◌∙◌, subst, ⊎_elim, arith, length-append}
 use Rattle.std.specs.Prelude.{sum_by, HoldsAt}
 use Rattle.std.proofs.lemmas.List.Elements.{All-cons, All-append, All-set}
 use Rattle.std.proofs.lemmas.List.Sums.{sum_by-cons, sum_by-append, sum_by-set, sum_by-remove, get_or-le-sum_by}
-use Rattle.std.proofs.lemmas.List.{get_or-set_same, get_or-set_other, take-append-drop, get_or_append_left, get_or-append-add}
+use Rattle.std.proofs.lemmas.List.{get_or-set_same, take-append-drop}
 use Rattle.std.proofs.Math.ListN.{length-set}
 use Rattle.std.proofs.Math.Seq.{drop-cons}
 use Rattle.std.proofs.Math.Decide.{dec_lt}
 use mathlib.Core.Logic.{dite}
-use native.Mathlib.Decide.{ℕ_discrete}
 use Rattle.book_lock.specs.declared.view.Account.{Account}
 use Rattle.book_lock.specs.Names.{on, child, parent}
 use Rattle.book_lock.specs.Places.{times}
-use Rattle.book_lock.specs.Standing.{Lock, Standing, IsPassOf}
+use Rattle.book_lock.specs.Standing.{Lock, Standing}
 use Rattle.book_lock.specs.Rule.{IsAccount, times_added}
-use Rattle.book_lock.specs.Closing.{AreAll, IsFree, AreSiblingNames, accounts, joined_pass, Settled, JoinsTwo}
+use Rattle.book_lock.specs.Closing.{AreAll, IsFree, AreSiblingNames, accounts, joined_pass, JoinsTwo}
 use Rattle.book_lock.proofs.NamesLemmas.{parent-child, on_children, row_of, on_own, on_sibling, on_child, last_flag}
-use Rattle.book_lock.proofs.Prefixes.{All-tail}
+use Rattle.book_lock.proofs.Prefixes.{All-tail, All-left, All-right}
 
 module _ {X : Type 0} where
   -- a list round one of its elements
   whole : (xs : List X) (i : ℕ) (x : X) → i < length xs → x ≡ get_or xs i x → xs ≡ take i xs ++ x ∷ drop (suc i) xs
   whole xs i x h is = sym (take-append-drop i xs) ∙ ap (λ (l : List X). take i xs ++ l) (drop-cons xs i x h ∙ ap (λ (y : X). y ∷ drop (suc i) xs) (sym is))
-
-  All-left : (P : X → Type 0) (xs ys : List X) → All P (xs ++ ys) → All P xs
-  All-left P xs ys a k d h = subst P (get_or_append_left xs ys d k h) (a k d (omega (arith, h, length-append xs ys)))
-
-  All-right : (P : X → Type 0) (xs ys : List X) → All P (xs ++ ys) → All P ys
-  All-right P xs ys a k d h = subst P (get_or-append-add xs ys k d) (a (length xs + k) d (omega (arith, h, length-append xs ys)))
 
   -- what is true of each element but one, and of that one
   All-remove : (P : X → Type 0) (xs : List X) (i : ℕ) (x : X) → i < length xs → x ≡ get_or xs i x → All P xs → All P (remove xs i)
@@ -50,7 +43,7 @@ module _ {X : Type 0} where
   All-unset P xs i x y h is p a =
       All-unremove P xs i x h is p
       (subst (All P) (removed xs i y h)
-        (All-remove P (set xs i y) i y (omega (arith, h, length-set xs i y)) (sym (get_or-set_same xs i y y h)) a))
+      (All-remove P (set xs i y) i y (omega (arith, h, length-set xs i y)) (sym (get_or-set_same xs i y y h)) a))
 
   length-remove : (xs : List X) (i : ℕ) (x : X) → i < length xs → x ≡ get_or xs i x → length (remove xs i) + 1 ≡ length xs
   length-remove xs i x h is = omega (arith, ap length (whole xs i x h is), length-append (take i xs) (x ∷ drop (suc i) xs), length-append (take i xs) (drop (suc i) xs))
@@ -83,26 +76,25 @@ module _ {T : Type 0} where
       → All (λ pass. length pass.name ≤ length deep.name) others → 0 < length others → (k : ℕ) × (k < length others) × HoldsAt (λ other. AreSiblingNames other.name deep.name) others k
   sibling_there deep others all short some = ⊎_elim
       (λ none.
-        let first = get_or others 0 deep in
-        let row = row_of first.name in
-        absurd (omega (arith, all row, ap (on row) none, on_own first.name, get_or-le-sum_by (λ (pass : Standing T). on row pass.name) others 0 deep some)))
+      let first = get_or others 0 deep in
+      let row = row_of first.name in
+      absurd (omega (arith, all row, ap (on row) none, on_own first.name, get_or-le-sum_by (λ (pass : Standing T). on row pass.name) others 0 deep some)))
       (λ (front, flag, is).
-        let row = row_of (child front (not flag)) in
-        let other : on row deep.name ≡ 0 = ap (on row) is ∙ on_sibling front flag in
-        let (k, l, counts) = sum_some (λ (pass : Standing T). on row pass.name) others (omega (arith, all row, other)) in
-        (
-          k,
-          l,
-          (λ d.
+      let row = row_of (child front (not flag)) in
+      let other : on row deep.name ≡ 0 = ap (on row) is ∙ on_sibling front flag in
+      let (k, l, counts) = sum_some (λ (pass : Standing T). on row pass.name) others (omega (arith, all row, other)) in (
+        k,
+        l,
+        (λ d.
             let o = get_or others k d in
             ⊎_elim
             (λ same. record { parent = front; flag = not flag; first = same; second = is ∙ ap (child front) (sym (not_not flag)) })
             (λ too.
-              let mine : child front (not (not flag)) ≡ deep.name = ap (child front) (not_not flag) ∙ sym is in
-              let theirs : 1 ≤ on (row_of deep.name) o.name = subst (λ (n : List Bool). 1 ≤ on (row_of n) o.name) mine too in
-              absurd (omega (arith, all (row_of deep.name), on_own deep.name, theirs, get_or-le-sum_by (λ (pass : Standing T). on (row_of deep.name) pass.name) others k d l)))
-            (on_child front (not flag) o.name (counts d) (omega (arith, short k d l, ap length is, length-append front (flag ∷ [])))))
-        ))
+            let mine : child front (not (not flag)) ≡ deep.name = ap (child front) (not_not flag) ∙ sym is in
+            let theirs : 1 ≤ on (row_of deep.name) o.name = subst (λ (n : List Bool). 1 ≤ on (row_of n) o.name) mine too in
+            absurd (omega (arith, all (row_of deep.name), on_own deep.name, theirs, get_or-le-sum_by (λ (pass : Standing T). on (row_of deep.name) pass.name) others k d l)))
+            (on_child front (not flag) o.name (counts d) (omega (arith, short k d l, ap length is, length-append front (flag ∷ []))))),
+      ))
       (last_flag deep.name)
 
 module _ {T E O : Type 0} (list : T → List E) (origin : T → O) where
@@ -115,23 +107,23 @@ module _ {T E O : Type 0} (list : T → List E) (origin : T → O) where
       let own : IsFree lock q = subst (IsFree lock) (sym there) (frees j q lower) in
       -- a sum over the passes stays where the one that is left counts as much as the two
       let sum : (f : Standing T → ℕ) → f z ≡ f q + f p → sum_by f (set ys j z) ≡ sum_by f xs
-          = λ f both. omega (arith, sum_by-remove f xs i p low, sum_by-set f ys j z q lower, ap f here, ap f there, both) in
+      = λ f both. omega (arith, sum_by-remove f xs i p low, sum_by-set f ys j z q lower, ap f here, ap f there, both) in
       record {
         fewer = omega (arith, length-set ys j z, length-remove xs i p low here);
         free = All-set (IsFree lock) ys j z (record { here = record { table = own.here.table; opening = own.here.opening }; free = own.free }) frees;
         all = λ row.
-          let up : on row (parent q.name) ≡ on row siblings.parent = ap (on row) (ap parent siblings.first ∙ parent-child siblings.parent siblings.flag) in
-          sum (λ pass. on row pass.name) (omega (arith, up, on_children row siblings.parent siblings.flag, ap (on row) siblings.first, ap (on row) siblings.second)) ∙ all row;
+            let up : on row (parent q.name) ≡ on row siblings.parent = ap (on row) (ap parent siblings.first ∙ parent-child siblings.parent siblings.flag) in
+            sum (λ pass. on row pass.name) (omega (arith, up, on_children row siblings.parent siblings.flag, ap (on row) siblings.first, ap (on row) siblings.second)) ∙ all row;
         settled = λ value s.
-          let I = IsAccount list origin lock.opening (list value) in
-          let Q : Standing T → Type 0 = λ pass. All I (accounts pass) in
-          let at : Q z = subst Q (get_or-set_same ys j z z lower) (s.accounts_fit j z (omega (arith, lower, length-set ys j z))) in
-          record {
-            origin_stays = s.origin_stays;
-            begins = s.begins;
-            accounts_fit = All-unremove Q xs i p low here (All-right I (accounts q) (accounts p) at) (All-unset Q ys j q z lower there (All-left I (accounts q) (accounts p) at) s.accounts_fit);
-            once = λ place. sym (sum (λ pass. times_added place (accounts pass)) (sum_by-append (λ (account : Account T). times place account.places) (accounts q) (accounts p))) ∙ s.once place;
-          };
+            let I = IsAccount list origin lock.opening (list value) in
+            let Q : Standing T → Type 0 = λ pass. All I (accounts pass) in
+            let at : Q z = subst Q (get_or-set_same ys j z z lower) (s.accounts_fit j z (omega (arith, lower, length-set ys j z))) in
+            record {
+              origin_stays = s.origin_stays;
+              begins = s.begins;
+              accounts_fit = All-unremove Q xs i p low here (All-right I (accounts q) (accounts p) at) (All-unset Q ys j q z lower there (All-left I (accounts q) (accounts p) at) s.accounts_fit);
+              once = λ place. sym (sum (λ pass. times_added place (accounts pass)) (sum_by-append (λ (account : Account T). times place account.places) (accounts q) (accounts p))) ∙ s.once place;
+            };
       }
 
 module _ {T : Type 0} where
@@ -142,9 +134,9 @@ module _ {T : Type 0} where
       let short : All (λ (pass : Standing T). length pass.name ≤ length p.name) xs = subst (λ (o : Standing T). All (λ (pass : Standing T). length pass.name ≤ length o.name) xs) (sym here) deep in
       subst (λ (l : List (Standing T)). (k : ℕ) × (k < length l) × HoldsAt (λ (other : Standing T). AreSiblingNames other.name p.name) l k) (sym left)
       (sibling_there p (remove xs i)
-        (λ row. omega (arith, sum_by-remove (λ (pass : Standing T). on row pass.name) xs i p low, ap (λ (pass : Standing T). on row pass.name) here, all row))
-        (All-remove (λ (pass : Standing T). length pass.name ≤ length p.name) xs i p low here short)
-        (omega (arith, length-remove xs i p low here, some)))
+      (λ row. omega (arith, sum_by-remove (λ (pass : Standing T). on row pass.name) xs i p low, ap (λ (pass : Standing T). on row pass.name) here, all row))
+      (All-remove (λ (pass : Standing T). length pass.name ≤ length p.name) xs i p low here short)
+      (omega (arith, length-remove xs i p low here, some)))
 
   -- passes that are all there are, are some
   pub some_there : (passes : List (Standing T)) → AreAll passes → 0 < length passes
@@ -157,4 +149,4 @@ module _ {T : Type 0} where
       let related : AreSiblingNames q.name p.name = subst (λ (o : Standing T). AreSiblingNames o.name p.name) (sym there) siblings in
       subst (λ (o : Standing T). JoinsTwo list origin lock xs (set ys j o)) (sym one)
       (subst (λ (l : List (Standing T)). JoinsTwo list origin lock xs (set l j (joined_pass q p))) (sym left)
-        (joins_two list origin lock xs i j p q low here (subst (λ (l : List (Standing T)). j < length l) left lower) (subst (λ (l : List (Standing T)). q ≡ get_or l j q) left there) related free all))
+      (joins_two list origin lock xs i j p q low here (subst (λ (l : List (Standing T)). j < length l) left lower) (subst (λ (l : List (Standing T)). q ≡ get_or l j q) left there) related free all))

@@ -1,8 +1,7 @@
 -- What is seen of a pass to which another was joined.
-use Rattle.std.proofs.Common.{◌≡◌, ◌<◌, ◌++◌, ℕ, Bool, true, false, List, [], ◌∷◌, Option, Some, None, refl, sym, ap, ◌∙◌, subst, append-nil}
+use Rattle.std.proofs.Common.{◌≡◌, Bool, false, List, [], Option, sym, ap, ◌∙◌, subst}
 use Rattle.atomic_table.specs.Seated.{TableId}
 use Rattle.atomic_table.specs.Table.{Me}
-use Rattle.book_lock.specs.declared.view.Stand.{Stand}
 use Rattle.book_lock.specs.declared.view.View.{View}
 use Rattle.book_lock.specs.declared.view.View.TheVariants.{Live}
 use Rattle.book_lock.specs.declared.view.Role.TheVariants.{Idle}
@@ -25,10 +24,9 @@ module _ {T : Type 0} where
       let second = stand_of (standing_of other theirs names false) Idle in
       let mine = ap (λ (m : Me (Option T) (View T)). m.0) (idle_seat table me name holds free inv) in
       let others = ap (λ (m : Me (Option T) (View T)). m.0) (idle_seat other theirs names held idle inverse) in
-      let e : now ≡ (Live (merged first second), []) = joins ∙ (λ i. (both (mine i) (others i), [])) in
-      (
+      let e : now ≡ (Live (merged first second), []) = joins ∙ (λ i. (both (mine i) (others i), [])) in (
         subst (λ (b : Bool). IsSeated after now next b) (sym free)
-          (subst (λ (m : Me (Option T) (View T)). IsSeated after m next false) (sym e)
-          (0, λ i. (Live (record { role = Idle; name = sym shorter i; opening = first.opening; own = first.own; joined = (merged first second).joined }), []))),
+            (subst (λ (m : Me (Option T) (View T)). IsSeated after m next false) (sym e)
+            (0, λ i. (Live (record { role = Idle; name = sym shorter i; opening = first.opening; own = first.own; joined = (merged first second).joined }), []))),
         λ i. record { table = same i; opening = (standing_of after (e i) next holds).opening; name = shorter i; holds = holds; own = (standing_of after (e i) next holds).own; joined = (standing_of after (e i) next holds).joined },
       )

@@ -1,5 +1,5 @@
 -- Places that are put behind others.
-use Rattle.std.proofs.Common.{◌≡◌, ◌<◌, ◌≤◌, ◌+◌, ◌-◌, ◌++◌, ℕ, List, [], ◌∷◌, length, get_or, refl, sym, ap, ◌∙◌, subst, ⊎_elim, arith, zero, suc, length-append, lt_of_not-le}
+use Rattle.std.proofs.Common.{◌≡◌, ◌<◌, ◌≤◌, ◌+◌, ◌-◌, ◌++◌, ℕ, List, length, get_or, refl, sym, ◌∙◌, subst, arith, zero, suc, length-append}
 use Rattle.std.specs.Prelude.{All}
 use Rattle.std.specs.List.Sorted.{IsStrictlyIncreasing}
 use Rattle.std.proofs.lemmas.List.{get_or_append_left, get_or-append_right}
@@ -34,11 +34,11 @@ rising-behind xs first count up below k h =
     let size : k + 1 < length xs + count = omega (arith, h, length-append xs (places_from first count), length-places_from first count) in
     dite (dec_lt (k + 1) (length xs))
     (λ low.
-      let one = get_or_append_left xs (places_from first count) 0 k (omega (arith, low)) in
-      let two = get_or_append_left xs (places_from first count) 0 (k + 1) low in
-      omega (arith, one, two, up k low))
+    let one = get_or_append_left xs (places_from first count) 0 k (omega (arith, low)) in
+    let two = get_or_append_left xs (places_from first count) 0 (k + 1) low in
+    omega (arith, one, two, up k low))
     (λ high.
-      let two = get_or-behind xs first count (k + 1) 0 (omega (arith, high)) size in
-      dite (dec_lt k (length xs))
-      (λ low. omega (arith, get_or_append_left xs (places_from first count) 0 k low, two, below k 0 low))
-      (λ over. omega (arith, get_or-behind xs first count k 0 (omega (arith, over)) (omega (arith, size)), two, over)))
+    let two = get_or-behind xs first count (k + 1) 0 (omega (arith, high)) size in
+    dite (dec_lt k (length xs))
+    (λ low. omega (arith, get_or_append_left xs (places_from first count) 0 k low, two, below k 0 low))
+    (λ over. omega (arith, get_or-behind xs first count k 0 (omega (arith, over)) (omega (arith, size)), two, over)))

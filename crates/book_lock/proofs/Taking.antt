@@ -1,13 +1,13 @@
 -- Taking the value in one's turn keeps the rule.
-use Rattle.std.proofs.Common.{◌≡◌, ◌≢◌, ◌⊎◌, ◌<◌, ◌≤◌, ◌+◌, ◌++◌, ℕ, List, [], ◌∷◌, length, refl, sym, ap, ◌∙◌, subst, inl, inr, ⊎_elim, arith, zero, suc, append-nil}
-use Rattle.std.specs.Prelude.{Option, Some, None, slice_index, slice_set, sum_by, All, option_map}
+use Rattle.std.proofs.Common.{◌≡◌, ◌≢◌, ◌<◌, ℕ, List, [], ◌∷◌, length, refl, sym, ap, ◌∙◌, subst, inr, ⊎_elim, arith, suc, append-nil}
+use Rattle.std.specs.Prelude.{Option, Some, slice_index, slice_set, option_map}
 use Rattle.std.proofs.lemmas.List.Elements.{All-cons}
 use mathlib.Core.List.{IsPrefix}
 use mathlib.Core.Logic.{dite}
 use mathlib.Core.Option as maybe
 use native.Mathlib.Decide.{ℕ_discrete}
 use lib.ListN.{get_elem?}
-use Rattle.atomic_table.specs.Table.{State, Step, Act, Me, Allows, stepped}
+use Rattle.atomic_table.specs.Table.{State, Act, Me, Allows, stepped}
 use Rattle.atomic_table.proofs.Lists.{set_here}
 use Rattle.book_lock.specs.declared.view.Account.{Account}
 use Rattle.book_lock.specs.declared.view.Stand.{Stand}
@@ -16,7 +16,7 @@ use Rattle.book_lock.specs.declared.view.View.TheVariants.{Live}
 use Rattle.book_lock.specs.declared.view.Role.TheVariants as role
 use Rattle.book_lock.specs.Places.{once_between}
 use Rattle.book_lock.specs.Standing.{seen}
-use Rattle.book_lock.specs.Rule.{IsAccount, Fits, AtHome, IsOut, Kept, IsKept, has_ticket, is_on, has_place, times_drawn, accounts_of}
+use Rattle.book_lock.specs.Rule.{IsAccount, Fits, AtHome, Kept, IsKept, has_ticket, is_on, has_place, times_drawn}
 use Rattle.book_lock.specs.Steps.{holding, IsWaiting, Takes}
 use Rattle.book_lock.proofs.Counts.{sum_two, once_at_most, once_here}
 use Rattle.book_lock.proofs.Prefixes.{length-prefix, All-weaker, All-head, All-tail}
@@ -29,13 +29,13 @@ module _ {T E O : Type 0} (list : T → List E) (origin : T → O) (opening : T)
   at_home s id ticket serving log v k here waits =
       ⊎_elim (λ h. h)
       (λ o.
-        let mine : has_ticket serving (Live v) ≡ once_between serving (suc serving) serving = ap (times_drawn serving) waits in
-        let theirs : has_ticket serving (Live o.holder) ≡ once_between serving (suc serving) serving = ap (times_drawn serving) o.holds in
-        let other : o.by ≢ id = λ same.
-            let one : o.holder ≡ v = live-injective o.holder v (one_at s.views o.by id (Live o.holder) (Live v) same o.there here) in
-            let wrong : role.Holds serving ≡ role.Waits serving = sym o.holds ∙ ap (λ (w : Stand T). w.role) one ∙ waits in
-            cc in
-        absurd (omega (arith, sum_two (has_ticket serving) s.views o.by id (Live o.holder) (Live v) other o.there here, mine, theirs, k.tickets serving, once_at_most serving ticket serving, once_here serving)))
+      let mine : has_ticket serving (Live v) ≡ once_between serving (suc serving) serving = ap (times_drawn serving) waits in
+      let theirs : has_ticket serving (Live o.holder) ≡ once_between serving (suc serving) serving = ap (times_drawn serving) o.holds in
+      let other : o.by ≢ id = λ same.
+      let one : o.holder ≡ v = live-injective o.holder v (one_at s.views o.by id (Live o.holder) (Live v) same o.there here) in
+      let wrong : role.Holds serving ≡ role.Waits serving = sym o.holds ∙ ap (λ (w : Stand T). w.role) one ∙ waits in
+      cc in
+      absurd (omega (arith, sum_two (has_ticket serving) s.views o.by id (Live o.holder) (Live v) other o.there here, mine, theirs, k.tickets serving, once_at_most serving ticket serving, once_here serving)))
       k.place
 
   -- the account of who has taken the value
@@ -72,8 +72,8 @@ module _ {T E O : Type 0} (list : T → List E) (origin : T → O) (opening : T)
         each = each_set (Fits list origin opening serving log) s.views id w (λ by u n e. k.each by u e) (record {
           opened = fits.opened;
           accounts = All-cons (IsAccount list origin opening log) w.own v.joined
-            (account_taken log h.value v.own h.shown h.same (All-head (IsAccount list origin opening log) v.own v.joined fits.accounts))
-            (All-tail (IsAccount list origin opening log) v.own v.joined fits.accounts);
+              (account_taken log h.value v.own h.shown h.same (All-head (IsAccount list origin opening log) v.own v.joined fits.accounts))
+              (All-tail (IsAccount list origin opening log) v.own v.joined fits.accounts);
           served = λ t e. let same : role.Holds serving ≡ role.Holds t = e in let is : t ≡ serving = cc in (is, h.shown);
         });
       }
@@ -86,24 +86,24 @@ module _ {T E O : Type 0} (list : T → List E) (origin : T → O) (opening : T)
       let fits = k.each id v here in
       dite (ℕ_discrete serving t)
       (λ turn.
-        let now : v.role ≡ role.Waits serving = waits ∙ ap role.Waits (sym turn) in
-        let h = at_home s id ticket serving log v k here now in (
-          Live (holding serving h.value v),
-          Act.takes 0 (Some h.value),
-          ap (λ (hs : List (maybe.Option (Option T))). get_elem? hs 0) h.homes,
-          (ticket, serving, log, taken s id ticket serving log v k here now h),
-          (
-            (λ e. (
-              h.value,
-              (λ i. (Live (holding (sym found i) h.value v), (0, Some h.value) ∷ [])),
-              record {
-                begins = subst (IsPrefix (seen list v.own)) (sym h.shown) ((All-head (IsAccount list origin opening log) v.own v.joined fits.accounts).begins);
-                same = ap (option_map origin) fits.opened ∙ ap Some (sym h.same);
-              },
-            )),
-            (λ ne. absurd (ne (now ∙ ap role.Waits (sym found)))),
-          ),
-        ))
+      let now : v.role ≡ role.Waits serving = waits ∙ ap role.Waits (sym turn) in
+      let h = at_home s id ticket serving log v k here now in (
+        Live (holding serving h.value v),
+        Act.takes 0 (Some h.value),
+        ap (λ (hs : List (maybe.Option (Option T))). get_elem? hs 0) h.homes,
+        (ticket, serving, log, taken s id ticket serving log v k here now h),
+        (
+          (λ e. (
+            h.value,
+            (λ i. (Live (holding (sym found i) h.value v), (0, Some h.value) ∷ [])),
+            record {
+              begins = subst (IsPrefix (seen list v.own)) (sym h.shown) ((All-head (IsAccount list origin opening log) v.own v.joined fits.accounts).begins);
+              same = ap (option_map origin) fits.opened ∙ ap Some (sym h.same);
+            },
+          )),
+          (λ ne. absurd (ne (now ∙ ap role.Waits (sym found)))),
+        ),
+      ))
       (λ other. (
         Live v,
         Act.keeps,

@@ -1,5 +1,5 @@
 -- The views, of which one changes while the others stay.
-use Rattle.std.proofs.Common.{◌≡◌, ◌≢◌, ◌⊎◌, ◌<◌, ◌≤◌, ◌+◌, ℕ, zero, suc, List, [], ◌∷◌, length, set, refl, sym, ap, subst, ◌∙◌, ⊎_elim, arith}
+use Rattle.std.proofs.Common.{◌≡◌, ◌≢◌, ◌<◌, ℕ, zero, suc, List, [], ◌∷◌, length, set, refl, sym, ap, subst, ◌∙◌, ⊎_elim, arith}
 use Rattle.std.specs.Prelude.{sum_by, slice_index, slice_set}
 use mathlib.Core.Option.{some, some-injective, some-ne-none}
 use lib.ListN.{get_elem?}
@@ -7,7 +7,7 @@ use Rattle.atomic_table.specs.Table.{State, Act, stepped}
 use Rattle.atomic_table.proofs.Lists.{at_set, set_again}
 use Rattle.book_lock.specs.declared.view.Stand.{Stand}
 use Rattle.book_lock.specs.declared.view.View.{View}
-use Rattle.book_lock.specs.declared.view.View.TheVariants.{Spent, Live}
+use Rattle.book_lock.specs.declared.view.View.TheVariants.{Live}
 use Rattle.book_lock.proofs.Counts.{sum_set}
 
 pub within : {A : Type 0} (l : List A) (i : ℕ) (a : A) → get_elem? l i ≡ some a → i < length l

@@ -1,5 +1,5 @@
 -- The passes that there are, and what holds of the value and of them at the end.
-use Rattle.std.specs.Prelude.{◌≡◌, ◌+◌, ◌++◌, ℕ, Bool, not, false, Option, Some, List, [], ◌∷◌, length, sum_by, All}
+use Rattle.std.specs.Prelude.{◌≡◌, ◌<◌, ◌+◌, ◌++◌, ℕ, Bool, not, false, List, ◌∷◌, length, slice_index_or, sum_by, All}
 use mathlib.Core.List.{IsPrefix}
 use Rattle.book_lock.specs.declared.view.Account.{Account}
 use Rattle.book_lock.specs.Names.{on, child, parent}
@@ -20,7 +20,15 @@ module _ {T : Type 0} where
   abbrev pub AreAll : List (Standing T) → Type 0
   AreAll passes = (row : ℕ → Bool) → sum_by (λ pass. on row pass.name) passes ≡ 1
 
-  -- no pass is of another lock, and none holds the value
+  -- among all passes these two stand for the one that was split
+  abbrev pub StandFor : Standing T → Standing T → Standing T → Type 0
+  StandFor pass elder younger = (row : ℕ → Bool) → on row elder.name + on row younger.name ≡ on row pass.name
+
+  -- each pass keeps its name, and so they stay all that there are
+  abbrev pub KeepNames : List (Standing T) → List (Standing T) → Type 0
+  KeepNames before after = (k : ℕ) (d : Standing T) → k < length before → (slice_index_or after k d).name ≡ (slice_index_or before k d).name
+
+  -- the pass is of this lock, and doesn't hold the value
   pub record IsFree (lock : Lock T) (pass : Standing T) : Type 0 where
     pub here : IsPassOf lock pass
     pub free : pass.holds ≡ false

@@ -9,7 +9,7 @@ use Rattle.book_lock.specs.declared.view.Stand.{Stand}
 use Rattle.book_lock.specs.declared.view.View.{View}
 use Rattle.book_lock.specs.declared.view.View.TheVariants.{Spent, Live}
 use Rattle.book_lock.specs.declared.view.Role.{Role}
-use Rattle.book_lock.specs.declared.view.Role.TheVariants.{Idle, Waits, Holds}
+use Rattle.book_lock.specs.declared.view.Role.TheVariants.{Idle, Holds}
 
 -- which lock it is, and the value that it was opened with
 pub record Lock (T : Type 0) : Type 0 where

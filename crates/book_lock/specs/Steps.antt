@@ -6,7 +6,6 @@ use Rattle.book_lock.specs.declared.view.Account.{Account}
 use Rattle.book_lock.specs.declared.view.Stand.{Stand}
 use Rattle.book_lock.specs.declared.view.View.{View}
 use Rattle.book_lock.specs.declared.view.View.TheVariants.{Spent, Live}
-use Rattle.book_lock.specs.declared.view.Role.{Role}
 use Rattle.book_lock.specs.declared.view.Role.TheVariants.{Idle, Waits, Holds}
 use Rattle.book_lock.specs.Names.{child, parent}
 use Rattle.book_lock.specs.Places.{places_behind}

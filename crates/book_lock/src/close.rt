@@ -66,7 +66,11 @@ impl<T: Chronicle> Shared<T> {
         requires siblings { AreSiblingNames pass.old.name other.name }
         ensures { pass.new ≡ joined_pass pass.old other }
     {
-        let Pass { seat, name: _, holds: _ } = other;
+        let Pass {
+            seat,
+            name: _,
+            holds: _,
+        } = other;
         merge(&self.board, &mut pass.seat, seat);
         take_back(&mut pass.name);
     }
@@ -88,7 +92,11 @@ impl<T: Chronicle> Shared<T> {
         requires all { AreAll (pass ∷ []) }
         ensures { Settled T.list T.origin self.opening (pass ∷ []) result }
     {
-        let Pass { seat, name: _, holds: _ } = pass;
+        let Pass {
+            seat,
+            name: _,
+            holds: _,
+        } = pass;
         let Shared { board } = self;
         let mut closed = board.close_with(seat);
         let value = closed.take(0);

@@ -13,6 +13,8 @@ mod shared;
 mod slot;
 mod split;
 mod steps;
+#[cfg(test)]
+mod tests;
 mod view;
 
 pub use chronicle::Chronicle;

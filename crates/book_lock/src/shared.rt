@@ -66,7 +66,11 @@ impl<T: Chronicle> Shared<T> {
         let slots = slot_of(alloc, value)?;
         match Table::new(alloc, &[0, 0], slots, &opening) {
             Ok((board, seat)) => {
-                let pass = Pass { seat, name: Vec::new(alloc), holds: false };
+                let pass = Pass {
+                    seat,
+                    name: Vec::new(alloc),
+                    holds: false,
+                };
                 Ok((Shared { board }, pass))
             }
             Err(Refused { slots }) => Err((value_of(slots), AllocError)),

@@ -22,13 +22,16 @@ fn child_names(name: &mut Vec<bool>) -> Result<Vec<bool>, AllocError>
 }
 
 impl<T: Chronicle> Shared<T> {
+    ghost use Rattle.book_lock.specs.Closing.{StandFor};
     ghost use Rattle.book_lock.specs.Standing.{IsPassOf, newcomer, renamed_pass};
 
+    #[tactic(auto, using(crate::proofs::NamesLemmas::on_split))]
     /// The first of the two keeps Mine. The second has seen as much, and has added nothing.
     pub fn split(&self, mut pass: Pass<T>) -> Result<(Pass<T>, Pass<T>), (Pass<T>, AllocError)>
         requires { IsPassOf self.now pass }
         ensures elder { IfOk result (λ r. r.0 ≡ renamed_pass pass (child pass.name false)) }
         ensures younger { IfOk result (λ r. r.1 ≡ newcomer self.now (child pass.name true) pass.own.last) }
+        ensures both { IfOk result (λ r. StandFor pass r.0 r.1) }
         ensures memory { IfErr result (λ e. e.0 ≡ pass) }
     {
         match child_names(&mut pass.name) {

@@ -23,5 +23,7 @@ pub(crate) fn try_draw<T: Chronicle>(board: &Board<T>, seat: &mut Place<T>, next
     ensures hit { result ≡ next → seat.new.me ≡ (changed (waiting next) seat.old.me.0, seat.old.me.1) }
     ensures miss { result ≢ next → seat.new.me ≡ seat.old.me }
 {
-    board.shared.compare_exchange::<Draw>(seat, 0, next, next + 1)
+    board
+        .shared
+        .compare_exchange::<Draw>(seat, 0, next, next + 1)
 }

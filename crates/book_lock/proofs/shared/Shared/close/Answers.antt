@@ -1,4 +1,4 @@
-use Rattle.std.proofs.Common.{◌≡◌, ◌≤◌, List, ◌∷◌, [], length, get_or, subst, sym, ap, arith}
+use Rattle.std.proofs.Common.{◌≤◌, List, length, get_or, subst, sym, arith}
 use Rattle.book_lock.specs.Standing.{Standing}
 use Rattle.book_lock.specs.Closing.{AreAll, IsFree, Settled}
 use Rattle.book_lock.proofs.Pairs.{one_left, some_there}

@@ -1,4 +1,4 @@
-use Rattle.std.proofs.Common.{◌<◌, ◌≤◌, List, All, length, get_or, subst, sym, ap, ◌∙◌, arith, HoldsAt}
+use Rattle.std.proofs.Common.{◌<◌, ◌≤◌, List, All, length, get_or, subst, ap, ◌∙◌, arith}
 use Rattle.book_lock.specs.Standing.{Standing}
 use Rattle.book_lock.specs.Closing.{AreSiblingNames}
 use Rattle.book_lock.proofs.Pairs.{sibling_left, joined_left}

@@ -1,4 +1,4 @@
-use Rattle.std.proofs.Common.{ap, lit<, ℕ, List, Option, ◌∙◌}
+use Rattle.std.proofs.Common.{ap, lit<, Option}
 use Rattle.atomic_table.specs.Table.{Me}
 use Rattle.book_lock.specs.declared.view.View.{View}
 use Rattle.book_lock.proofs.Joining.{joins_for}
@@ -7,8 +7,7 @@ use Rattle.book_lock.proofs.steps.join.merge.Goals as goal
 pub join_seat-requires : goal.join_seat-requires
 join_seat-requires g c =
     let T = g.row.T.Denot in
-    let (v, w, is, are, siblings) = c.requires.siblings in
-    (
+    let (v, w, is, are, siblings) = c.requires.siblings in (
       c.requires.here,
       c.requires.there,
       ap (λ (m : Me (Option T) (View T)). m.1) are,
