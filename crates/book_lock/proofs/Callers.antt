@@ -1,6 +1,8 @@
 -- For whoever has the passes of a lock: they are all that there are, before and after the passes are split and used.
 use Rattle.std.proofs.Common.{◌≡◌, ◌<◌, ◌+◌, ◌++◌, ℕ, suc, Bool, List, [], ◌∷◌, length, get_or, take, drop, append-nil, refl, sym, ap, ◌∙◌, subst, arith}
-use Rattle.std.specs.Prelude.{sum_by}
+use Rattle.std.specs.Prelude.{sum_by, All}
+use Rattle.std.proofs.lemmas.List.Elements.{All-nil, All-cons, All-append}
+use Rattle.book_lock.proofs.Prefixes.{All-left}
 use Rattle.std.proofs.Math.ListN.{drop_of_length-le}
 use Rattle.std.proofs.Math.Seq.{take-length}
 use Rattle.std.proofs.lemmas.List.Sums.{sum_by-cons, sum_by_push}
@@ -43,3 +45,16 @@ module _ {T : Type 0} where
   count_split row from left to after pass elder younger taken given both all =
       let f = λ (p : Standing T). on row p.name in
       omega (arith, ap (sum_by f) taken, ap (sum_by f) given, sum_by_push f left pass, sum_by_push f to younger, sum_by_push f (to ++ younger ∷ []) elder, both row, all)
+
+  -- a pass at the end of a list gives way to the two that it was split into
+  pub all_split : (from left after : List (Standing T)) (pass elder younger : Standing T) → from ≡ left ++ pass ∷ [] → after ≡ (left ++ younger ∷ []) ++ elder ∷ [] → StandFor pass elder younger → AreAll from → AreAll after
+  all_split from left after pass elder younger taken given both all row =
+      let f = λ (p : Standing T). on row p.name in
+      omega (arith, ap (sum_by f) taken, ap (sum_by f) given, sum_by_push f left pass, sum_by_push f left younger, sum_by_push f (left ++ younger ∷ []) elder, both row, all row)
+
+  -- what is true of each pass but the last, and of the two
+  pub each_split : (P : Standing T → Type 0) (from left after : List (Standing T)) (pass elder younger : Standing T) → from ≡ left ++ pass ∷ [] → after ≡ (left ++ younger ∷ []) ++ elder ∷ [] → P elder → P younger → All P from → All P after
+  each_split P from left after pass elder younger taken given first second all =
+      let before : All P left = All-left P left (pass ∷ []) (subst (All P) taken all) in
+      subst (All P) (sym given)
+      (All-append P (left ++ younger ∷ []) (elder ∷ []) (All-append P left (younger ∷ []) before (All-cons P younger [] second (All-nil P))) (All-cons P elder [] first (All-nil P)))

@@ -1,5 +1,5 @@
 -- The passes that there are, and what holds of the value and of them at the end.
-use Rattle.std.specs.Prelude.{◌≡◌, ◌<◌, ◌+◌, ◌++◌, ℕ, Bool, not, false, List, ◌∷◌, length, slice_index_or, sum_by, All}
+use Rattle.std.specs.Prelude.{◌≡◌, ◌<◌, ◌≤◌, ◌+◌, ◌++◌, ℕ, Bool, not, false, List, ◌∷◌, length, slice_index_or, sum_by, All, HoldsAt}
 use mathlib.Core.List.{IsPrefix}
 use Rattle.book_lock.specs.declared.view.Account.{Account}
 use Rattle.book_lock.specs.Names.{on, child, parent}
@@ -15,6 +15,14 @@ pub record AreSiblingNames (name other : List Bool) : Type 0 where
   pub second : other ≡ child parent (not flag)
 
 module _ {T : Type 0} where
+  -- the pass at this place was split as often as any
+  abbrev pub IsDeepest : List (Standing T) → ℕ → Type 0
+  IsDeepest passes k = HoldsAt (λ deep. All (λ pass. length pass.name ≤ length deep.name) passes) passes k
+
+  -- the pass at this place was split off together with the one of this name
+  abbrev pub IsBeside : List (Standing T) → List Bool → ℕ → Type 0
+  IsBeside passes name k = HoldsAt (λ other. AreSiblingNames other.name name) passes k
+
   -- the passes are all that there are: each endless row of flags begins with the name of exactly one of them.
   -- So the two that a split gave stand for the one that was split, and all of them for the first
   abbrev pub AreAll : List (Standing T) → Type 0

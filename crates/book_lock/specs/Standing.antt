@@ -16,6 +16,13 @@ pub record Lock (T : Type 0) : Type 0 where
   pub table : TableId
   pub opening : T
 
+abbrev pub lock_of : {T : Type 0} → TableId → T → Lock T
+lock_of table opening = record { table = table; opening = opening }
+
+-- the table has two words, the next ticket and the one that is served, and a slot
+abbrev pub IsSized : TableId → Type 0
+IsSized table = (table.words ≡ 2) × (table.slots ≡ 1)
+
 -- a pass: which lock it is of, its name, whether it holds the value, its Seen and Mine, and those of the passes joined to it
 pub record Standing (T : Type 0) : Type 0 where
   pub table : TableId

@@ -30,24 +30,32 @@ module _ {T : Type 0} where
   changed f (Live stand) = Live (f stand)
 
   abbrev pub waiting : ℕ → Stand T → Stand T
-  waiting ticket stand = record { role = Waits ticket; name = stand.name; opening = stand.opening; own = stand.own; joined = stand.joined }
+  waiting ticket stand = record stand { role = Waits ticket }
 
   abbrev pub holding : ℕ → T → Stand T → Stand T
-  holding ticket value stand = record { role = Holds ticket; name = stand.name; opening = stand.opening; own = record { last = Some value; places = stand.own.places }; joined = stand.joined }
+  holding ticket value stand =
+      record stand { role = Holds ticket; own = record { last = Some value; places = stand.own.places } }
 
   abbrev pub named : List Bool → Stand T → Stand T
-  named name stand = record { role = stand.role; name = name; opening = stand.opening; own = stand.own; joined = stand.joined }
+  named name stand = record stand { name = name }
 
   -- the one of the two that keeps Mine, and the one that has seen as much and added nothing
   abbrev pub elder : Stand T → Stand T
   elder stand = named (child stand.name false) stand
 
   abbrev pub younger : Stand T → Stand T
-  younger stand = record { role = Idle; name = child stand.name true; opening = stand.opening; own = record { last = stand.own.last; places = [] }; joined = [] }
+  younger stand = record {
+    role = Idle;
+    name = child stand.name true;
+    opening = stand.opening;
+    own = record { last = stand.own.last; places = [] };
+    joined = [];
+  }
 
   -- the accounts of both, under the name that was split
   abbrev pub merged : Stand T → Stand T → Stand T
-  merged stand other = record { role = stand.role; name = parent stand.name; opening = stand.opening; own = stand.own; joined = stand.joined ++ accounts_of other }
+  merged stand other =
+      record stand { name = parent stand.name; joined = stand.joined ++ accounts_of other }
 
   abbrev pub both : View T → View T → View T
   both (Live stand) (Live other) = Live (merged stand other)
@@ -84,7 +92,7 @@ module _ {T E : Type 0} (list : T → List E) where
   grown value account = record { last = Some value; places = account.places ++ places_behind (seen list account) (list value) }
 
   abbrev pub released : T → Stand T → Stand T
-  released value stand = record { role = Idle; name = stand.name; opening = stand.opening; own = grown value stand.own; joined = stand.joined }
+  released value stand = record stand { role = Idle; own = grown value stand.own }
 
   -- the value that the pass gives back is in the slot, and the next ticket is served
   abbrev pub Raises : Me (Option T) (View T) → Me (Option T) (View T) → Type 0

@@ -1,6 +1,6 @@
 //! The end of a lock: all its passes are joined, two by two, and the value is taken out.
-ghost use Rattle.std.specs.Prelude.{◌≡◌, ℕ, Bool, ◌<◌, ◌≤◌, ◌+◌, ◌↔◌, ◌∷◌, [], length, All, IsTrue, HoldsAt, vec_len, sum_by, slice_index_or};
-ghost use Rattle.book_lock.specs.Closing.{AreSiblingNames};
+ghost use Rattle.std.specs.Prelude.{◌≡◌, ℕ, ◌<◌, ◌↔◌, ◌∷◌, [], length, All, IsTrue, vec_len};
+ghost use Rattle.book_lock.specs.Closing.{AreSiblingNames, IsDeepest, IsBeside};
 ghost use Rattle.book_lock.specs.Names.{parent};
 
 use crate::chronicle::Chronicle;
@@ -32,7 +32,7 @@ fn take_back(name: &mut Vec<bool>)
 fn deepest<T>(passes: &[Pass<T>]) -> usize
     requires { 0 < length passes.now }
     ensures within { result < length passes.now }
-    ensures deepest { HoldsAt (λ deep. All (λ pass. length pass.name ≤ length deep.name) passes.now) passes.now result }
+    ensures deepest { IsDeepest passes.now result }
 {
     let mut deep = 0;
     for i in 1..passes.len() {
@@ -45,9 +45,9 @@ fn deepest<T>(passes: &[Pass<T>]) -> usize
 
 // The index of the pass that was split off together with this one.
 fn beside<T>(passes: &[Pass<T>], pass: &Pass<T>) -> usize
-    requires { (k : ℕ) × (k < length passes.now) × HoldsAt (λ other. AreSiblingNames other.name pass.now.name) passes.now k }
+    requires { (k : ℕ) × (k < length passes.now) × IsBeside passes.now pass.now.name k }
     ensures within { result < length passes.now }
-    ensures sibling { HoldsAt (λ other. AreSiblingNames other.name pass.now.name) passes.now result }
+    ensures sibling { IsBeside passes.now pass.now.name result }
 {
     for (i, other) in passes.iter().enumerate() {
         if are_siblings(other.name(), pass.name()) {

@@ -1,7 +1,8 @@
-//! One value that many threads share, handed out to one holder at a time.
-//! The value shows a list of entries and an origin. Whoever held it, there is one list, which only grows, and one
-//! origin: `lock`, `release` and `close` answer to `Gives`, `Grows` and `Settled` of specs/.
-//! The lock knows nothing of what the value is, and claims nothing of fairness, progress or time.
+//! One value that many threads share, handed out to one holder at a time by a ticket lock.
+//! The value shows a list of entries and an origin. Whoever held it, there is one list, which only
+//! grows, and one origin: the rule is `Kept` of specs/Rule, and what holds at the end is `Settled` of
+//! specs/Closing. The lock knows nothing else of the value, and nothing is claimed of fairness,
+//! progress or time.
 #![tactic(auto)]
 
 mod chronicle;

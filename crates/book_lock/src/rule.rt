@@ -1,4 +1,5 @@
-//! The rule of the lock's table: two words, the next ticket and the one that is served, and one slot with the value.
+//! The rule of the lock's table, which has two words, the next ticket and the one that is served,
+//! and one slot with the value.
 use crate::chronicle::Chronicle;
 use crate::view::View;
 use atomic_table::{Seat, Table, TableRule};

@@ -20,14 +20,13 @@ pub struct Shared<T: Chronicle> {
 }
 
 impl<T: Chronicle> Model for Shared<T> {
-    ghost use Rattle.std.specs.Prelude.{◌≡◌};
-    ghost use Rattle.book_lock.specs.Standing.{Lock};
+    ghost use Rattle.book_lock.specs.Standing.{Lock, lock_of, IsSized};
 
     ghost Value = { Lock T };
 
-    ghost view = { λ a. record { table = a.board.shared.table_id; opening = a.board.shared.key.value } };
+    ghost view = { λ a. lock_of a.board.shared.table_id a.board.shared.key.value };
 
-    ghost invariant = { λ a. (a.board.shared.table_id.words ≡ 2) × (a.board.shared.table_id.slots ≡ 1) };
+    ghost invariant = { λ a. IsSized a.board.shared.table_id };
 }
 
 fn slot_of<T>(alloc: Global, value: T) -> Result<Vec<Option<T>>, (T, AllocError)>
