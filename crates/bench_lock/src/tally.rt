@@ -1,0 +1,19 @@
+//! A value that counts how often it was held. Its list is empty.
+ghost use Rattle.std.specs.Prelude.{[]};
+
+use book_lock::Chronicle;
+
+#[derive(Drop)]
+pub struct Tally {
+    pub holds: u64,
+}
+
+impl Chronicle for Tally {
+    type Entry = ();
+
+    type Origin = ();
+
+    ghost list = { λ _. [] };
+
+    ghost origin = { λ _. tt };
+}
