@@ -1,0 +1,4 @@
+pub mod ListLemmas
+pub mod EdgeLemmas
+pub mod PathLemmas
+pub mod ClosingLemmas

@@ -1,0 +1,6 @@
+pub mod Lists
+pub mod Paths
+pub mod Edges
+pub mod Marks
+pub mod Orders
+pub mod Closings

@@ -1,0 +1,11 @@
+//! Graphs over numbered nodes: edges that are kept both ways, an order that respects them or a
+//! cycle, edges that are refused where they would close a cycle, and numbers for names. It answers
+//! to the paths and cycles of `specs/Paths.antt`, and knows nothing of what its nodes stand for.
+#![tactic(auto)]
+
+mod edges;
+mod marks;
+mod node_list;
+
+pub use edges::Graph;
+pub use node_list::Nodes;
