@@ -1,4 +1,7 @@
 pub mod ListLemmas
 pub mod EdgeLemmas
 pub mod PathLemmas
+pub mod MarkLemmas
+pub mod OrderLemmas
 pub mod ClosingLemmas
+pub mod CycleLemmas

@@ -4,3 +4,4 @@ pub mod Edges
 pub mod Marks
 pub mod Orders
 pub mod Closings
+pub mod Answers

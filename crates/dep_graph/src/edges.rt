@@ -38,7 +38,8 @@ impl Graph {
 
     /// How many nodes there are.
     pub fn size(&self) -> u32
-        ensures { result ≡ length self.now }
+        ensures size { result ≡ length self.now }
+        ensures joins { JoinsNodes self.now }
     {
         self.preds.len() as u32
     }

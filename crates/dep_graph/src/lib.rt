@@ -4,8 +4,10 @@
 #![tactic(auto)]
 
 mod edges;
+mod listing;
 mod marks;
 mod node_list;
 
 pub use edges::Graph;
+pub use listing::Order;
 pub use node_list::Nodes;
