@@ -3,5 +3,6 @@ pub mod EdgeLemmas
 pub mod PathLemmas
 pub mod MarkLemmas
 pub mod OrderLemmas
+pub mod SearchLemmas
 pub mod ClosingLemmas
 pub mod CycleLemmas

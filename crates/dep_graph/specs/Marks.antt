@@ -1,5 +1,5 @@
 -- Marks on nodes, one for each number.
-use Rattle.std.specs.Prelude.{◌≡◌, ◌<◌, ◌↔◌, ℕ, Bool, true, false, List, IsTrue, Contains, length, slice_index_or}
+use Rattle.std.specs.Prelude.{◌≡◌, ◌<◌, ◌+◌, ◌↔◌, ◌⊎◌, ℕ, Bool, true, false, not, List, IsTrue, Contains, length, count_by, slice_index_or}
 
 -- the node has its mark
 abbrev pub IsMarked : List Bool → ℕ → Type 0
@@ -26,3 +26,17 @@ IsHeld Edge marks node = IsMarked marks node → (pred : ℕ) × Edge pred node 
 -- each marked node is held by another
 abbrev pub IsStuck : (ℕ → ℕ → Type 0) → List Bool → Type 0
 IsStuck Edge marks = (node : ℕ) → IsHeld Edge marks node
+
+-- how many nodes have no mark
+abbrev pub unmarked_count : List Bool → ℕ
+unmarked_count marks = count_by not marks
+
+-- the nodes have their marks too, and those that had none wait for their turn
+pub record MarksNew (nodes : List ℕ) (old : List Bool) (waiting : List ℕ) (new : List Bool) (pending : List ℕ) : Type 0 where
+  pub size : length new ≡ length old
+  pub kept : (x : ℕ) → IsMarked old x → IsMarked new x
+  pub all : (x : ℕ) → Contains nodes x → IsMarked new x
+  pub only : (x : ℕ) → IsMarked new x → IsMarked old x ⊎ (Contains nodes x × Contains pending x)
+  pub waits : (x : ℕ) → Contains waiting x → Contains pending x
+  pub joined : (x : ℕ) → Contains pending x → Contains waiting x ⊎ Contains nodes x
+  pub work : unmarked_count new + length pending ≡ unmarked_count old + length waiting

@@ -3,11 +3,14 @@
 //! to the paths and cycles of `specs/Paths.antt`, and knows nothing of what its nodes stand for.
 #![tactic(auto)]
 
+mod closing;
 mod edges;
 mod listing;
 mod marks;
 mod node_list;
+mod searching;
 
+pub use closing::Added;
 pub use edges::Graph;
 pub use listing::Order;
 pub use node_list::Nodes;

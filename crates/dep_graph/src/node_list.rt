@@ -1,6 +1,6 @@
 //! A list of nodes, as answers give it and as a graph keeps it.
 
-ghost use Rattle.std.specs.Prelude.{◌≡◌, ◌∷◌, ◌++◌, [], IfOk, OnOk, OnErr};
+ghost use Rattle.std.specs.Prelude.{◌≡◌, ◌∷◌, ◌++◌, [], IfOk, OnOk, OnErr, MatchOption};
 ghost use Rattle.dep_graph.specs.Lists.{IsRising, PutsIn};
 
 use std::alloc::{AllocError, Global};
@@ -53,6 +53,17 @@ impl Nodes {
     {
         self.all.push(node)?;
         Ok(())
+    }
+
+    /// Takes the last node off.
+    pub fn pop(&mut self) -> Option<u32>
+        ensures {
+            MatchOption result
+                ((self.old ≡ []) × (self.new ≡ []))
+                (λ node. self.old ≡ self.new ++ node ∷ [])
+        }
+    {
+        self.all.pop()
     }
 
     /// A copy of a rising list with one node put in at its place, unless it is there.
