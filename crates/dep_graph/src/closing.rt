@@ -10,7 +10,8 @@ ghost use Rattle.dep_graph.specs.Answers.{IsAddedAnswer};
 
 use crate::marks::first_marked;
 use crate::searching::nodes_reaching;
-use crate::{Graph, Nodes};
+use crate::Graph;
+use heat_value::Seq;
 use std::alloc::AllocError;
 
 /// What came of an edge.
@@ -19,7 +20,7 @@ pub enum Added {
     /// The edge is in the graph.
     Added,
     /// The edge is refused: this path leads from its after to its before.
-    WouldClose(Nodes),
+    WouldClose(Seq<u32>),
 }
 
 impl Graph {
@@ -41,7 +42,7 @@ impl Graph {
 }
 
 /// The path that an edge would close, if there is one.
-fn closing_path(graph: &Graph, before: u32, after: u32) -> Result<Option<Nodes>, AllocError>
+fn closing_path(graph: &Graph, before: u32, after: u32) -> Result<Option<Seq<u32>>, AllocError>
     requires before { before < length graph.now }
     requires after { after < length graph.now }
     requires acyclic { IsAcyclic (HasEdge graph.now) }
@@ -74,14 +75,14 @@ fn may_close(graph: &Graph, before: u32, after: u32) -> bool
 }
 
 /// The path to the goal each of whose steps is the least that leads there.
-fn least_path(graph: &Graph, reaching: &[bool], from: u32, goal: u32) -> Result<Nodes, AllocError>
+fn least_path(graph: &Graph, reaching: &[bool], from: u32, goal: u32) -> Result<Seq<u32>, AllocError>
     requires acyclic { IsAcyclic (HasEdge graph.now) }
     requires size { length reaching.now ≡ length graph.now }
     requires exact { MarksAll (λ node. HasPath (HasEdge graph.now) node goal) reaching.now }
     requires from { IsMarked reaching.now from }
     ensures { IfOk result (IsPath (GoesTowards (HasEdge graph.now) goal) from goal) }
 {
-    let mut path = Nodes::new(graph.allocator());
+    let mut path = Seq::new(graph.allocator());
     let mut at = from;
     path.push(at)?;
     while at != goal {

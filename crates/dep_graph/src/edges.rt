@@ -1,18 +1,18 @@
 //! A graph: each node's predecessors and successors, both rising.
 
 ghost use Rattle.std.specs.Prelude.{◌≡◌, ◌<◌, [], length, replicate, IfOk, OnOk, OnErr};
-ghost use Rattle.dep_graph.specs.Lists.{ListsAll};
+ghost use Rattle.dep_graph.specs.Lists.{IsRising, ListsAll, PutsIn};
 ghost use Rattle.dep_graph.specs.Edges.{HasEdge, JoinsNodes, IsBare, AddsEdge};
 
-use crate::Nodes;
+use heat_value::Seq;
 use std::alloc::{AllocError, Global};
 use std::marker::Model;
 
 /// Nodes 0 to n - 1 and a set of edges between them.
 #[derive(Drop)]
 pub struct Graph {
-    preds: Vec<Nodes>,
-    succs: Vec<Nodes>,
+    preds: Vec<Seq<u32>>,
+    succs: Vec<Seq<u32>>,
 }
 
 impl Model for Graph {
@@ -75,8 +75,8 @@ impl Graph {
         ensures err { OnErr result (self.new ≡ self.old) }
     {
         // Both lists are made before either is stored, so that want of memory changes nothing.
-        let preds = self.preds[after as usize].with(before)?;
-        let succs = self.succs[before as usize].with(after)?;
+        let preds = with(&self.preds[after as usize], before)?;
+        let succs = with(&self.succs[before as usize], after)?;
         self.preds[after as usize] = preds;
         self.succs[before as usize] = succs;
         Ok(())
@@ -84,12 +84,24 @@ impl Graph {
 }
 
 /// So many lists without nodes.
-fn empty_lists(alloc: Global, n: u32) -> Result<Vec<Nodes>, AllocError>
+fn empty_lists(alloc: Global, n: u32) -> Result<Vec<Seq<u32>>, AllocError>
     ensures { IfOk result (λ lists. lists.items ≡ replicate n []) }
 {
     let mut lists = Vec::with_capacity(alloc, n as usize)?;
     for _ in 0..n {
-        lists.push(Nodes::new(alloc))?;
+        lists.push(Seq::new(alloc))?;
     }
     Ok(lists)
+}
+
+/// A copy of a rising list with one node put in at its place, unless it is there.
+fn with(list: &Seq<u32>, node: u32) -> Result<Seq<u32>, AllocError>
+    requires { IsRising list.now }
+    ensures { IfOk result (PutsIn list.now node) }
+{
+    let mut nodes = Vec::from_slice(list.allocator(), list.as_slice())?;
+    if let Err(place) = nodes.binary_search(&node) {
+        nodes.insert(place, node)?;
+    }
+    Ok(Seq::from_vec(nodes))
 }

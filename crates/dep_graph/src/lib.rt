@@ -7,10 +7,8 @@ mod closing;
 mod edges;
 mod listing;
 mod marks;
-mod node_list;
 mod searching;
 
 pub use closing::Added;
 pub use edges::Graph;
 pub use listing::Order;
-pub use node_list::Nodes;

@@ -10,16 +10,17 @@ ghost use Rattle.dep_graph.specs.Orders.{TakesLeast, IsLeft, FindsCycle};
 ghost use Rattle.dep_graph.specs.Answers.{IsOrderAnswer};
 
 use crate::marks::{Marks, first_marked, least_marked};
-use crate::{Graph, Nodes};
+use crate::Graph;
+use heat_value::Seq;
 use std::alloc::AllocError;
 
 /// How a graph's nodes are listed.
 #[derive(Debug, Drop)]
 pub enum Order {
     /// Each node once, edges forward, the least ready node first.
-    Order(Nodes),
-    /// Nodes each of which has an edge from the next, and the last from the first.
-    Cycle(Nodes),
+    Order(Seq<u32>),
+    /// Seq<u32> each of which has an edge from the next, and the last from the first.
+    Cycle(Seq<u32>),
 }
 
 impl Graph {
@@ -37,7 +38,7 @@ impl Graph {
 }
 
 /// Takes away nodes while one is ready, the least first, and lists them.
-fn take_away(graph: &Graph, left: &mut Marks) -> Result<Nodes, AllocError>
+fn take_away(graph: &Graph, left: &mut Marks) -> Result<Seq<u32>, AllocError>
     requires all { left.old ≡ replicate (length graph.now) true }
     requires joins { JoinsNodes graph.now }
     ensures size { length left.new ≡ length graph.now }
@@ -45,7 +46,7 @@ fn take_away(graph: &Graph, left: &mut Marks) -> Result<Nodes, AllocError>
     ensures left { IfOk result (λ taken. Leaves taken left.new) }
     ensures stuck { OnOk result (IsStuck (HasEdge graph.now) left.new) }
 {
-    let mut taken = Nodes::new(graph.allocator());
+    let mut taken = Seq::new(graph.allocator());
     while let Some(node) = least_ready(graph, left.as_slice()) {
         taken.push(node)?;
         left.put(node, false);
@@ -94,7 +95,7 @@ fn least_left_pred(graph: &Graph, left: &[bool], node: u32) -> Option<u32>
 }
 
 /// The cycle that a walk back from the least node left meets.
-fn walked_cycle(graph: &Graph, left: &[bool], least: u32) -> Result<Nodes, AllocError>
+fn walked_cycle(graph: &Graph, left: &[bool], least: u32) -> Result<Seq<u32>, AllocError>
     requires size { length left.now ≡ length graph.now }
     requires least { IsLeast (IsMarked left.now) least }
     requires joins { JoinsNodes graph.now }
@@ -102,11 +103,12 @@ fn walked_cycle(graph: &Graph, left: &[bool], least: u32) -> Result<Nodes, Alloc
     requires stuck { IsStuck (HasEdge graph.now) left.now }
     ensures { IfOk result (FindsCycle (HasEdge graph.now)) }
 {
-    let mut walk = Nodes::new(graph.allocator());
+    let mut walk = Seq::new(graph.allocator());
     let mut at = least;
     loop {
         if let Some(place) = place_of(walk.as_slice(), at) {
-            return Nodes::from_slice(graph.allocator(), &walk.as_slice()[place..]);
+            let cycle = Vec::from_slice(graph.allocator(), &walk.as_slice()[place..])?;
+            return Ok(Seq::from_vec(cycle));
         }
         walk.push(at)?;
         at = step_back(graph, left, at);

@@ -6,7 +6,7 @@ ghost use Rattle.dep_graph.specs.Edges.{HasEdge};
 ghost use Rattle.dep_graph.specs.Marks.{MarksAll, MarksNew};
 
 use crate::marks::Marks;
-use crate::{Graph, Nodes};
+use crate::Graph;
 use std::alloc::AllocError;
 
 /// Marks exactly the nodes from which a path leads to the goal.
@@ -18,7 +18,7 @@ pub(crate) fn nodes_reaching(graph: &Graph, goal: u32) -> Result<Marks, AllocErr
     }
 {
     let mut marks = Marks::new(graph.allocator(), graph.size(), false)?;
-    let mut pending = Nodes::new(graph.allocator());
+    let mut pending = Vec::new(graph.allocator());
     pending.push(goal)?;
     marks.put(goal, true);
     while let Some(node) = pending.pop() {
@@ -28,9 +28,9 @@ pub(crate) fn nodes_reaching(graph: &Graph, goal: u32) -> Result<Marks, AllocErr
 }
 
 /// Marks those of the nodes that have no mark yet, and lets them wait for their turn.
-fn mark_new(nodes: &[u32], marks: &mut Marks, pending: &mut Nodes) -> Result<(), AllocError>
+fn mark_new(nodes: &[u32], marks: &mut Marks, pending: &mut Vec<u32>) -> Result<(), AllocError>
     requires { All (λ node. node < length marks.old) nodes.now }
-    ensures { OnOk result (MarksNew nodes.now marks.old pending.old marks.new pending.new) }
+    ensures { OnOk result (MarksNew nodes.now marks.old pending.old.items marks.new pending.new.items) }
 {
     for node in nodes {
         if !marks.as_slice()[*node as usize] {

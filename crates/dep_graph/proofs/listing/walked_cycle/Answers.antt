@@ -4,7 +4,6 @@ use Rattle.std.specs.Prelude.{All, Contains}
 use Rattle.std.specs.List.{IsDistinct}
 use Rattle.std.proofs.lemmas.List.{take_rest, length_push}
 use Rattle.std.proofs.lemmas.List.Elements.{All-nil, All-push}
-use Rattle.std.proofs.lemmas.Result.{IfOk-weaker}
 use Rattle.dep_graph.proofs.MarkLemmas.{IsMarked-within}
 use Rattle.dep_graph.proofs.PathLemmas.{IsPath-push}
 use Rattle.dep_graph.proofs.OrderLemmas.{IsDistinct-none, IsDistinct-fresh}
@@ -20,13 +19,13 @@ loop-place-init c = rw c.new-walk.ensures (record {
   })
 
 pub returns-in-Some : goal.returns-in-Some
-returns-in-Some c = IfOk-weaker _ _ _
-    (λ list e. FindsCycle-walk _ c.loop-place.walk list c.args.least c.loop-place.at c.in-Some.place
+returns-in-Some c =
+    FindsCycle-walk _ c.loop-place.walk c.from_vec.result c.args.least c.loop-place.at c.in-Some.place
       (start_left _ _ _ c.requires.size c.requires.left c.requires.joins c.requires.least)
       c.loop-place.invariant.walk c.loop-place.invariant.once
       (rw c.as_slice.ensures at c.in-Some.ensures.0) (rw c.as_slice.ensures at c.in-Some.ensures.1)
-      (e ∙ take_rest c.as_slice-in-Some.result.now c.in-Some.place ∙ ap (λ (l : List ℕ). drop c.in-Some.place l) c.as_slice-in-Some.ensures))
-    c.from_slice.ensures
+      (c.from_vec.ensures ∙ c.in_ok-cycle.ensures.items ∙ take_rest c.as_slice-in-Some.result.now c.in-Some.place
+        ∙ ap (λ (l : List ℕ). drop c.in-Some.place l) c.as_slice-in-Some.ensures)
 
 -- the walk with its next node, none twice, all of the graph
 abbrev Longer : goal.After-step_back-at → Type 0

@@ -11,7 +11,7 @@ loop-node-preserved c =
     rw (take_more c.args.nodes.now c.loop-node.node-index 0 lt)
     (elim c.if-not-as_slice-node.branch [
       then-not-as_slice-node+in_ok-push w ↦
-        rw (w.marks-is, w.pending-is, w.put.ensures, w.in_ok-push.ensures.ok)
+        rw (w.marks-is, w.pending-is, w.put.ensures, w.in_ok-push.ensures.items)
           (MarksNew-push _ _ _ _ _ _ c.loop-node.invariant
             (rw c.loop-node.invariant.size (c.requires c.loop-node.node-index 0 lt))
             (rw c.as_slice.ensures at w.if-not-as_slice-node.true))

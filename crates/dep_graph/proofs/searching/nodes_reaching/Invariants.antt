@@ -4,7 +4,7 @@ use Rattle.dep_graph.proofs.SearchLemmas.{IsSearch}
 use Rattle.dep_graph.proofs.searching.nodes_reaching.Given as goal
 
 abbrev pub invariant-loop-node : goal.invariant-loop-node
-invariant-loop-node l = IsSearch l.graph l.goal l.marks l.pending
+invariant-loop-node l = IsSearch l.graph l.goal l.marks l.pending.items
 
 abbrev pub decreases-loop-node : goal.decreases-loop-node
-decreases-loop-node l = unmarked_count l.marks + length l.pending
+decreases-loop-node l = unmarked_count l.marks + length l.pending.items
