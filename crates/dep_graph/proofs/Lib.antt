@@ -6,3 +6,4 @@ pub mod OrderLemmas
 pub mod SearchLemmas
 pub mod ClosingLemmas
 pub mod CycleLemmas
+pub mod NameLemmas

@@ -5,3 +5,4 @@ pub mod Marks
 pub mod Orders
 pub mod Closings
 pub mod Answers
+pub mod Places

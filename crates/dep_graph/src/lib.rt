@@ -7,8 +7,10 @@ mod closing;
 mod edges;
 mod listing;
 mod marks;
+mod numbering;
 mod searching;
 
 pub use closing::Added;
 pub use edges::Graph;
 pub use listing::Order;
+pub use numbering::Names;
