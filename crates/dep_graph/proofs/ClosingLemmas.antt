@@ -9,7 +9,7 @@ use Rattle.std.proofs.lemmas.Map.Keys.{IsDistinct-cons}
 use Rattle.std.proofs.lemmas.Map.Steps.{length-le_from_distinct_below}
 use Rattle.dep_graph.specs.Lists.{IsLeast, ListsAll}
 use Rattle.dep_graph.specs.Paths.{Leads, IsPath, HasPath, IsAcyclic}
-use Rattle.dep_graph.specs.Edges.{Links, HasEdge, JoinsNodes, AddsEdge}
+use Rattle.dep_graph.specs.Edges.{Links, HasEdge, JoinsNodes, IsBare, AddsEdge}
 use Rattle.dep_graph.specs.Marks.{IsMarked, MarksAll}
 use Rattle.dep_graph.specs.Closings.{GoesTowards, Closes}
 use Rattle.dep_graph.proofs.PathLemmas.{HasPath-refl, HasPath-same, HasPath-step, HasPath-append, HasPath-push, HasPath-first, HasPath-last, IsPath-weaker, leads_of, Loops, acyclic_from, no_loop}
@@ -139,3 +139,7 @@ pub acyclic_added : (old new : Links) (before after : ℕ) → AddsEdge before a
     → IsAcyclic (HasEdge old) → ¬ HasPath (HasEdge old) after before → IsAcyclic (HasEdge new)
 acyclic_added old new before after adds acyclic open' =
     acyclic_with (HasEdge old) (HasEdge new) before after (λ x y h. (adds.edges x y).0 h) acyclic open'
+
+-- where there is no edge there is no cycle
+pub acyclic_bare : (graph : Links) (n : ℕ) → IsBare n graph → IsAcyclic (HasEdge graph)
+acyclic_bare graph n bare = acyclic_from (HasEdge graph) (λ a loop. bare.bare a loop.0 loop.1)

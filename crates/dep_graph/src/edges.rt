@@ -2,6 +2,7 @@
 
 ghost use Rattle.std.specs.Prelude.{◌≡◌, ◌<◌, [], length, replicate, IfOk, OnOk, OnErr};
 ghost use Rattle.dep_graph.specs.Lists.{IsRising, ListsAll, PutsIn};
+ghost use Rattle.dep_graph.specs.Paths.{IsAcyclic};
 ghost use Rattle.dep_graph.specs.Edges.{HasEdge, JoinsNodes, IsBare, AddsEdge};
 
 use heat_value::Seq;
@@ -28,7 +29,8 @@ impl Model for Graph {
 impl Graph {
     /// A graph of `n` nodes without edges.
     pub fn new(alloc: Global, n: u32) -> Result<Graph, AllocError>
-        ensures { IfOk result (IsBare n) }
+        ensures bare { IfOk result (IsBare n) }
+        ensures acyclic { IfOk result (λ graph. IsAcyclic (HasEdge graph)) }
     {
         Ok(Graph {
             preds: empty_lists(alloc, n)?,

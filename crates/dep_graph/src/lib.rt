@@ -9,6 +9,8 @@ mod listing;
 mod marks;
 mod numbering;
 mod searching;
+#[cfg(test)]
+mod tests;
 
 pub use closing::Added;
 pub use edges::Graph;
