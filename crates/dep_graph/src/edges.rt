@@ -5,6 +5,7 @@ ghost use Rattle.dep_graph.specs.Lists.{IsRising, ListsAll, PutsIn};
 ghost use Rattle.dep_graph.specs.Paths.{IsAcyclic};
 ghost use Rattle.dep_graph.specs.Edges.{HasEdge, JoinsNodes, IsBare, AddsEdge};
 
+use crate::put_in;
 use heat_value::Seq;
 use std::alloc::{AllocError, Global};
 use std::marker::Model;
@@ -96,14 +97,12 @@ fn empty_lists(alloc: Global, n: u32) -> Result<Vec<Seq<u32>>, AllocError>
     Ok(lists)
 }
 
-/// A copy of a rising list with one node put in at its place, unless it is there.
+/// A copy of a rising list with one node put in.
 fn with(list: &Seq<u32>, node: u32) -> Result<Seq<u32>, AllocError>
     requires { IsRising list.now }
     ensures { IfOk result (PutsIn list.now node) }
 {
-    let mut nodes = Vec::from_slice(list.allocator(), list.as_slice())?;
-    if let Err(place) = nodes.binary_search(&node) {
-        nodes.insert(place, node)?;
-    }
-    Ok(Seq::from_vec(nodes))
+    let mut nodes = Seq::from_vec(Vec::from_slice(list.allocator(), list.as_slice())?);
+    put_in(&mut nodes, node)?;
+    Ok(nodes)
 }

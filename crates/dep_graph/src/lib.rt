@@ -8,6 +8,7 @@ mod edges;
 mod listing;
 mod marks;
 mod numbering;
+mod rising;
 mod searching;
 #[cfg(test)]
 mod tests;
@@ -16,3 +17,4 @@ pub use closing::Added;
 pub use edges::Graph;
 pub use listing::Order;
 pub use numbering::Names;
+pub use rising::put_in;

@@ -1,18 +1,10 @@
--- The list that is made is the copy, or the copy with the node put in where the search found its place.
-use Rattle.std.proofs.Common.{◌≡◌, ◌∙◌, Err, Ok}
-use Rattle.std.specs.List.{insert}
-use Rattle.dep_graph.proofs.ListLemmas.{PutsIn-searched}
+-- The copy is the list, and the node goes in there.
+use Rattle.std.proofs.Common.{◌≡◌, ◌∙◌}
 use Rattle.dep_graph.proofs.edges.with.Goals as goal
-use Rattle.dep_graph.proofs.edges.with.Goals.{in-Err+in_ok-insert, in_default}
+
+pub put_in-requires : goal.put_in-requires
+put_in-requires c = rw (c.from_vec-nodes.ensures, c.in_ok-from_slice.ensures.items, c.as_slice.ensures) c.requires
 
 pub returns : goal.returns
 returns c =
-    let copied : c.in_ok-nodes.nodes.items ≡ c.args.list.now = c.in_ok-nodes.ensures.items ∙ c.as_slice.ensures in
-    let searched : c.deref.result.now ≡ c.args.list.now = c.deref.ensures.value ∙ copied in
-    rw c.from_vec.ensures (elim c.match-binary_search.branch [
-      in-Err+in_ok-insert w ↦
-        PutsIn-searched _ _ _ (Err w.in-Err.place) c.requires (rw searched at w.in-Err.ensures.position)
-          (rw (w.nodes-is, w.in_ok-insert.ensures.items, copied))
-    | in_default w ↦
-        PutsIn-searched _ _ _ (Ok w.in_default.field-0) c.requires
-          (rw searched at w.in_default.ensures.position) (rw w.nodes-is copied) ])
+    rw (c.from_vec-nodes.ensures, c.in_ok-from_slice.ensures.items, c.as_slice.ensures) at c.in_ok-put_in.ensures.ok
