@@ -1,5 +1,5 @@
 -- Paths joined and taken apart, and the loops that an acyclic relation doesn't have.
-use Rattle.std.proofs.Common.{◌≡◌, ◌⊎◌, ℕ, List, [], ◌∷◌, ◌++◌, refl, sym, ap, subst, ◌∙◌, inl, inr}
+use Rattle.std.proofs.Common.{◌≡◌, ◌⊎◌, ℕ, List, [], ◌∷◌, ◌++◌, refl, sym, ap, subst, inl, inr}
 use Rattle.dep_graph.specs.Paths.{Leads, IsPath, HasPath, IsCycle, IsAcyclic, Against}
 
 pub Leads-append : (E : ℕ → ℕ → Type 0) (a : ℕ) (p : List ℕ) (b : ℕ) (q : List ℕ) (c : ℕ)
@@ -75,8 +75,9 @@ pub HasPath-last : (E : ℕ → ℕ → Type 0) (a : ℕ) (p : List ℕ) (b : �
     → (a ≡ b) ⊎ ((x : ℕ) × HasPath E a x × E x b)
 HasPath-last E a [] b e = inl e
 HasPath-last E a (y ∷ p) b (e, r) = elim (HasPath-last E y p b r) [
-      inl same ↦ inr (a, HasPath-refl E a, (let F : ℕ → Type 0 = λ z. E a z in subst F same e))
-    | inr more ↦ inr (more.0, HasPath-step E a y more.0 e more.1, more.2) ]
+  | inl same ↦ inr (a, HasPath-refl E a, (let F : ℕ → Type 0 = λ z. E a z in subst F same e))
+  | inr more ↦ inr (more.0, HasPath-step E a y more.0 e more.1, more.2)
+]
 
 pub HasPath-against : (E : ℕ → ℕ → Type 0) (a : ℕ) (p : List ℕ) (b : ℕ) → Leads (Against E) a p b → HasPath E b a
 HasPath-against E a [] b e = HasPath-same E b a (sym e)
@@ -107,8 +108,9 @@ no_loop E acyclic a h = let c = cycle_of_loop E a h in acyclic c.0 c.1
 -- a loop comes by an edge, and that edge's node loops too
 pub Loops-pred : (E : ℕ → ℕ → Type 0) (a : ℕ) → Loops E a → (x : ℕ) × E x a × Loops E x
 Loops-pred E a (y, e, h) = let p = leads_of E y a h in elim (HasPath-last E y p.0 a p.1) [
-      inl same ↦ (let F : ℕ → Type 0 = λ z. E a z in let back : E a a = subst F same e in (a, back, (a, back, HasPath-refl E a)))
-    | inr more ↦ (more.0, more.2, (a, more.2, HasPath-step E a y more.0 e more.1)) ]
+  | inl same ↦ (let F : ℕ → Type 0 = λ z. E a z in let back : E a a = subst F same e in (a, back, (a, back, HasPath-refl E a)))
+  | inr more ↦ (more.0, more.2, (a, more.2, HasPath-step E a y more.0 e more.1))
+]
 
 pub closed_against : (E : ℕ → ℕ → Type 0) (c : List ℕ) → IsCycle (Against E) c → ¬ IsAcyclic E
 closed_against E c h acyclic =

@@ -24,7 +24,7 @@ pub record IsBare (size : ℕ) (graph : Links) : Type 0 where
 pub record AddsEdge (before after : ℕ) (old new : Links) : Type 0 where
   pub same : length new ≡ length old
   pub edges : (x y : ℕ)
-    → HasEdge new x y ↔ (HasEdge old x y ⊎ ((x ≡ before) × (y ≡ after)))
+      → HasEdge new x y ↔ (HasEdge old x y ⊎ ((x ≡ before) × (y ≡ after)))
 
 -- each node's predecessors and each node's successors tell the same edges
 pub record IsTwofold (preds succs : Links) : Type 0 where
@@ -34,4 +34,4 @@ pub record IsTwofold (preds succs : Links) : Type 0 where
   pub rising_succs : (node : ℕ) → IsRising (slice_index_or succs node [])
   pub joins : JoinsNodes preds
   pub both : (before after : ℕ)
-    → Contains (slice_index_or succs before []) after ↔ HasEdge preds before after
+      → Contains (slice_index_or succs before []) after ↔ HasEdge preds before after

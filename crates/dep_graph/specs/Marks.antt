@@ -1,5 +1,5 @@
 -- Marks on nodes, one for each number.
-use Rattle.std.specs.Prelude.{◌≡◌, ◌<◌, ◌+◌, ◌↔◌, ◌⊎◌, ℕ, Bool, true, false, not, List, IsTrue, Contains, length, count_by, slice_index_or}
+use Rattle.std.specs.Prelude.{◌≡◌, ◌<◌, ◌+◌, ◌↔◌, ◌⊎◌, ℕ, Bool, false, not, List, IsTrue, Contains, length, count_by, slice_index_or}
 
 -- the node has its mark
 abbrev pub IsMarked : List Bool → ℕ → Type 0

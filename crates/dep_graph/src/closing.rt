@@ -8,9 +8,9 @@ ghost use Rattle.dep_graph.specs.Marks.{IsMarked, MarksAll};
 ghost use Rattle.dep_graph.specs.Closings.{GoesTowards};
 ghost use Rattle.dep_graph.specs.Answers.{IsAddedAnswer};
 
+use crate::Graph;
 use crate::marks::first_marked;
 use crate::searching::nodes_reaching;
-use crate::Graph;
 use heat_value::Seq;
 use std::alloc::AllocError;
 
@@ -46,11 +46,9 @@ fn closing_path(graph: &Graph, before: u32, after: u32) -> Result<Option<Seq<u32
     requires before { before < length graph.now }
     requires after { after < length graph.now }
     requires acyclic { IsAcyclic (HasEdge graph.now) }
-    ensures {
-        IfOk result (λ found. MatchOption found
-            (¬ HasPath (HasEdge graph.now) after before)
-            (IsPath (GoesTowards (HasEdge graph.now) before) after before))
-    }
+    ensures { IfOk result (λ found. MatchOption found
+        (¬ HasPath (HasEdge graph.now) after before)
+        (IsPath (GoesTowards (HasEdge graph.now) before) after before)) }
 {
     if !may_close(graph, before, after) {
         return Ok(None);
@@ -75,7 +73,12 @@ fn may_close(graph: &Graph, before: u32, after: u32) -> bool
 }
 
 /// The path to the goal each of whose steps is the least that leads there.
-fn least_path(graph: &Graph, reaching: &[bool], from: u32, goal: u32) -> Result<Seq<u32>, AllocError>
+fn least_path(
+    graph: &Graph,
+    reaching: &[bool],
+    from: u32,
+    goal: u32,
+) -> Result<Seq<u32>, AllocError>
     requires acyclic { IsAcyclic (HasEdge graph.now) }
     requires size { length reaching.now ≡ length graph.now }
     requires exact { MarksAll (λ node. HasPath (HasEdge graph.now) node goal) reaching.now }

@@ -9,8 +9,8 @@ ghost use Rattle.dep_graph.specs.Marks.{IsMarked, MarksAll, Leaves, IsUnheld, Is
 ghost use Rattle.dep_graph.specs.Orders.{TakesLeast, IsLeft, FindsCycle};
 ghost use Rattle.dep_graph.specs.Answers.{IsOrderAnswer};
 
-use crate::marks::{Marks, first_marked, least_marked};
 use crate::Graph;
+use crate::marks::{Marks, first_marked, least_marked};
 use heat_value::Seq;
 use std::alloc::AllocError;
 
@@ -57,11 +57,9 @@ fn take_away(graph: &Graph, left: &mut Marks) -> Result<Seq<u32>, AllocError>
 /// The least node left that has no predecessor left.
 fn least_ready(graph: &Graph, left: &[bool]) -> Option<u32>
     requires { length left.now ≡ length graph.now }
-    ensures {
-        MatchOption result
-            (IsStuck (HasEdge graph.now) left.now)
-            (λ node. IsLeast (IsUnheld (HasEdge graph.now) left.now) node)
-    }
+    ensures { MatchOption result
+        (IsStuck (HasEdge graph.now) left.now)
+        (λ node. IsLeast (IsUnheld (HasEdge graph.now) left.now) node) }
 {
     for node in 0..graph.size() {
         if is_ready(graph, left, node) {
@@ -85,11 +83,9 @@ fn is_ready(graph: &Graph, left: &[bool], node: u32) -> bool
 fn least_left_pred(graph: &Graph, left: &[bool], node: u32) -> Option<u32>
     requires size { length left.now ≡ length graph.now }
     requires node { node < length graph.now }
-    ensures {
-        MatchOption result
-            ((pred : ℕ) → HasEdge graph.now pred node → ¬ IsMarked left.now pred)
-            (λ least. IsLeast (λ pred. HasEdge graph.now pred node × IsMarked left.now pred) least)
-    }
+    ensures { MatchOption result
+        ((pred : ℕ) → HasEdge graph.now pred node → ¬ IsMarked left.now pred)
+        (λ least. IsLeast (λ pred. HasEdge graph.now pred node × IsMarked left.now pred) least) }
 {
     first_marked(graph.preds(node), left)
 }
@@ -130,11 +126,9 @@ fn step_back(graph: &Graph, left: &[bool], node: u32) -> u32
 
 /// Where a node stands in a list, the first place of several.
 fn place_of(nodes: &[u32], node: u32) -> Option<usize>
-    ensures {
-        MatchOption result
-            (¬ Contains nodes.now node)
-            (λ place. (place < length nodes.now) × (slice_index nodes.now place ≡ node))
-    }
+    ensures { MatchOption result
+        (¬ Contains nodes.now node)
+        (λ place. (place < length nodes.now) × (slice_index nodes.now place ≡ node)) }
 {
     for (place, other) in nodes.iter().enumerate() {
         if *other == node {

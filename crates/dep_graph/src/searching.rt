@@ -5,17 +5,15 @@ ghost use Rattle.dep_graph.specs.Paths.{HasPath};
 ghost use Rattle.dep_graph.specs.Edges.{HasEdge};
 ghost use Rattle.dep_graph.specs.Marks.{MarksAll, MarksNew};
 
-use crate::marks::Marks;
 use crate::Graph;
+use crate::marks::Marks;
 use std::alloc::AllocError;
 
 /// Marks exactly the nodes from which a path leads to the goal.
 pub(crate) fn nodes_reaching(graph: &Graph, goal: u32) -> Result<Marks, AllocError>
     requires { goal < length graph.now }
     ensures size { IfOk result (λ marks. length marks ≡ length graph.now) }
-    ensures exact {
-        IfOk result (MarksAll (λ node. HasPath (HasEdge graph.now) node goal))
-    }
+    ensures exact { IfOk result (MarksAll (λ node. HasPath (HasEdge graph.now) node goal)) }
 {
     let mut marks = Marks::new(graph.allocator(), graph.size(), false)?;
     let mut pending = Vec::new(graph.allocator());

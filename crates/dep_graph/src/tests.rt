@@ -32,8 +32,20 @@ struct Listing<'a> {
 #[test]
 fn lists_orders_and_cycles(rt: HostRuntime) -> Result<(), Fail> {
     let cases = [
-        Listing { name: "no nodes", size: 0, edges: &[], ordered: true, nodes: &[] },
-        Listing { name: "no edges", size: 2, edges: &[], ordered: true, nodes: &[0, 1] },
+        Listing {
+            name: "no nodes",
+            size: 0,
+            edges: &[],
+            ordered: true,
+            nodes: &[],
+        },
+        Listing {
+            name: "no edges",
+            size: 2,
+            edges: &[],
+            ordered: true,
+            nodes: &[0, 1],
+        },
         Listing {
             name: "a diamond",
             size: 4,
@@ -48,8 +60,20 @@ fn lists_orders_and_cycles(rt: HostRuntime) -> Result<(), Fail> {
             ordered: true,
             nodes: &[1, 3, 2, 0],
         },
-        Listing { name: "a and b", size: 2, edges: &[(0, 1), (1, 0)], ordered: false, nodes: &[0, 1] },
-        Listing { name: "one alone", size: 2, edges: &[(1, 1)], ordered: false, nodes: &[1] },
+        Listing {
+            name: "a and b",
+            size: 2,
+            edges: &[(0, 1), (1, 0)],
+            ordered: false,
+            nodes: &[0, 1],
+        },
+        Listing {
+            name: "one alone",
+            size: 2,
+            edges: &[(1, 1)],
+            ordered: false,
+            nodes: &[1],
+        },
         Listing {
             name: "behind a stem",
             size: 4,
@@ -83,10 +107,38 @@ struct Closing<'a> {
 #[test]
 fn refuses_what_closes(rt: HostRuntime) -> Result<(), Fail> {
     let cases = [
-        Closing { name: "back", size: 2, edges: &[(0, 1)], before: 1, after: 0, path: &[0, 1] },
-        Closing { name: "itself", size: 1, edges: &[], before: 0, after: 0, path: &[0] },
-        Closing { name: "forward", size: 2, edges: &[], before: 0, after: 1, path: &[] },
-        Closing { name: "again", size: 2, edges: &[(0, 1)], before: 0, after: 1, path: &[] },
+        Closing {
+            name: "back",
+            size: 2,
+            edges: &[(0, 1)],
+            before: 1,
+            after: 0,
+            path: &[0, 1],
+        },
+        Closing {
+            name: "itself",
+            size: 1,
+            edges: &[],
+            before: 0,
+            after: 0,
+            path: &[0],
+        },
+        Closing {
+            name: "forward",
+            size: 2,
+            edges: &[],
+            before: 0,
+            after: 1,
+            path: &[],
+        },
+        Closing {
+            name: "again",
+            size: 2,
+            edges: &[(0, 1)],
+            before: 0,
+            after: 1,
+            path: &[],
+        },
         Closing {
             name: "through the least",
             size: 5,

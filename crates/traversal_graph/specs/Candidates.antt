@@ -1,5 +1,5 @@
 -- The candidates for edges: four lists, by the places of items and of rows.
-use Rattle.std.specs.Prelude.{ℕ, ◌+◌, ◌==◌, Bool, false, cond, List, [], ◌∷◌, ◌++◌, map, length, nat_eq}
+use Rattle.std.specs.Prelude.{ℕ, ◌+◌, ◌==◌, Bool, false, cond, List, [], ◌∷◌, ◌++◌, length, nat_lt}
 use Rattle.std.specs.Option.{option_map_or}
 use Rattle.std.specs.List.{list_any, position_or_len}
 use Rattle.std.specs.Str.{bytes_eq}
@@ -25,7 +25,8 @@ place_of items name = position_or_len (λ (i : Item). bytes_eq name i.name) item
 
 -- 1. from each item that an item needs to that item
 abbrev pub needs_into : List Item → ℕ → Item → List (ℕ × ℕ)
-needs_into items place item = map (λ (need : List ℕ). (place_of items need, place)) item.needs
+needs_into items place item =
+    each item.needs (λ (_ : ℕ) (need : List ℕ). edge_if (nat_lt (place_of items need) (length items)) (place_of items need) place)
 
 abbrev pub need_edges : List Item → List (ℕ × ℕ)
 need_edges items = each items (needs_into items)

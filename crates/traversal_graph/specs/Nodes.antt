@@ -1,6 +1,7 @@
 -- The nodes of a graph, and what a graph is of its items and rows.
-use Rattle.std.specs.Prelude.{◌≡◌, ℕ, List, [], ◌∷◌, ◌++◌, map, IsPermutation}
-use Rattle.std.specs.List.Sorted.{IsStrictlyIncreasing}
+use Rattle.std.specs.Prelude.{◌≡◌, ℕ, List, [], ◌∷◌, ◌++◌, map, nat_eq, IsPermutation}
+use Rattle.std.specs.List.{IsDistinct}
+use Rattle.std.specs.List.Sorted.{IsNonDecreasing, IsStrictlyIncreasing}
 use Rattle.heat_plan.specs.declared.item.Item.{Item}
 use Rattle.traversal_graph.specs.declared.brief.RowBrief.{RowBrief}
 use Rattle.traversal_graph.specs.declared.shape.Node.{Node}
@@ -23,10 +24,11 @@ cleanup_nodes rows = map (λ (row : RowBrief). C row.no) rows
 abbrev pub numbers_of : List RowBrief → List ℕ
 numbers_of rows = map (λ (row : RowBrief). row.no) rows
 
--- the same rows by rising number
+-- the same rows by their numbers, which rise where no two are equal
 pub record IsSortedCopy (rows sorted : List RowBrief) : Type 0 where
   pub same : IsPermutation rows sorted
-  pub rising : IsStrictlyIncreasing (numbers_of sorted)
+  pub ordered : IsNonDecreasing (numbers_of sorted)
+  pub rising : IsDistinct nat_eq (numbers_of rows) → IsStrictlyIncreasing (numbers_of sorted)
 
 -- update nodes in the items' order, then clean-up nodes by rising number, and the candidates that are kept
 pub record IsBuilt (items : List Item) (chosen : List ℕ) (rows : List RowBrief) (graph : TravGraph) : Type 0 where

@@ -1,8 +1,7 @@
 //! The edges that a graph may have, sort by sort, in the order in which they are tried.
 
-ghost use Rattle.std.specs.Prelude.{◌≡◌, ◌==◌, ◌+◌, ◌<◌, ◌≤◌, false, Contains, length, All, OnOk};
+ghost use Rattle.std.specs.Prelude.{◌≡◌, ◌==◌, ◌+◌, ◌<◌, ◌≤◌, false, length, OnOk};
 ghost use Rattle.std.specs.Option.{option_map_or};
-ghost use Rattle.heat_plan.specs.Plans.{names_of};
 ghost use Rattle.traversal_graph.specs.Candidates.{place_of, need_edges, needs_into, row_edges, rows_behind, require_edges, required_behind, replace_edges, replaced_behind};
 ghost use Rattle.traversal_graph.specs.Drafts.{IsDraft, Draws};
 
@@ -15,7 +14,6 @@ use std::alloc::AllocError;
 pub(crate) fn add_needs(draft: &mut Draft, items: &[Item]) -> Result<(), AllocError>
     requires draft { IsDraft draft.old }
     requires size { length items.now ≤ length draft.old.graph }
-    requires met { All (λ item. All (Contains (names_of items.now)) item.needs) items.now }
     ensures { OnOk result (Draws (need_edges items.now) draft.old draft.new) }
 {
     for (place, item) in items.iter().enumerate() {
@@ -34,12 +32,13 @@ fn add_needs_of(
     requires draft { IsDraft draft.old }
     requires size { length items.now ≤ length draft.old.graph }
     requires place { place < length items.now }
-    requires met { All (Contains (names_of items.now)) item.now.needs }
     ensures { OnOk result (Draws (needs_into items.now place item.now) draft.old draft.new) }
 {
     for need in item.needs.as_slice() {
-        let before = place_of_name(items, need) as u32;
-        draft.draw(before, place)?;
+        let before = place_of_name(items, need);
+        if before < items.len() {
+            draft.draw(before as u32, place)?;
+        }
     }
     Ok(())
 }

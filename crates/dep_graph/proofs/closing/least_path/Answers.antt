@@ -15,26 +15,27 @@ use Rattle.dep_graph.proofs.closing.least_path.Goals as goal
 abbrev Longer : goal.In_ok-push-2 → Type 0
 Longer c =
     IsPath (GoesTowards (HasEdge c.args.graph.now) c.args.goal) c.args.from c.step_towards-at.result
-      (c.loop-at.path ++ c.step_towards-at.result ∷ [])
+    (c.loop-at.path ++ c.step_towards-at.result ∷ [])
     × All (λ x. x < length c.args.graph.now) (c.loop-at.path ++ c.step_towards-at.result ∷ [])
 
 longer : (c : goal.In_ok-push-2) → Longer c
-longer c =
-    (IsPath-push _ _ _ _ _ c.loop-at.invariant.path c.step_towards-at.ensures.step,
-      All-push (λ x. x < length c.args.graph.now) _ _ c.loop-at.invariant.below
-        (rw (← c.requires.size) (IsMarked-within _ _ c.step_towards-at.ensures.marked)))
+longer c = (
+  IsPath-push _ _ _ _ _ c.loop-at.invariant.path c.step_towards-at.ensures.step,
+  All-push (λ x. x < length c.args.graph.now) _ _ c.loop-at.invariant.below
+      (rw (← c.requires.size) (IsMarked-within _ _ c.step_towards-at.ensures.marked)),
+)
 
 pub loop-at-smaller : goal.loop-at-smaller
 loop-at-smaller c =
     let short : length (c.loop-at.path ++ c.step_towards-at.result ∷ []) ≤ length c.args.graph.now =
-      path_short _ _ _ _ _ c.requires.acyclic (longer c).0 (longer c).1 in
+    path_short _ _ _ _ _ c.requires.acyclic (longer c).0 (longer c).1 in
     let more : length c.push-in-loop-at.new.self ≡ length c.loop-at.path + 1 =
-      ap length c.in_ok-push-2.ensures.ok ∙ length_push _ _ in
+    ap length c.in_ok-push-2.ensures.ok ∙ length_push _ _ in
     omega (arith, short, more, length_push c.loop-at.path c.step_towards-at.result)
 
 pub loop-at-preserved : goal.loop-at-preserved
 loop-at-preserved c = rw c.in_ok-push-2.ensures.ok (record {
-    path = (longer c).0;
-    marked = c.step_towards-at.ensures.marked;
-    below = (longer c).1;
-  })
+  path = (longer c).0;
+  marked = c.step_towards-at.ensures.marked;
+  below = (longer c).1;
+})

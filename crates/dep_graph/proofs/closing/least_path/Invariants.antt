@@ -8,10 +8,10 @@ use Rattle.dep_graph.proofs.closing.least_path.Given as goal
 
 abbrev pub invariant-loop-at : goal.invariant-loop-at
 invariant-loop-at l = record {
-    path : IsPath (GoesTowards (HasEdge l.graph) l.goal) l.from l.at l.path;
-    marked : IsMarked l.reaching l.at;
-    below : All (λ node. node < length l.graph) l.path;
-  }
+  path : IsPath (GoesTowards (HasEdge l.graph) l.goal) l.from l.at l.path;
+  marked : IsMarked l.reaching l.at;
+  below : All (λ node. node < length l.graph) l.path;
+}
 
 abbrev pub decreases-loop-at : goal.decreases-loop-at
 decreases-loop-at l = length l.graph - length l.path

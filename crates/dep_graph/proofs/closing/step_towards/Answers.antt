@@ -1,6 +1,6 @@
 -- A node that reaches the goal and isn't it has a successor that does.
 use Rattle.std.proofs.Common.{Some}
-use Rattle.dep_graph.proofs.MarkLemmas.{IsMarked-within, neighbours_within, least_of_kind}
+use Rattle.dep_graph.proofs.MarkLemmas.{neighbours_within, least_of_kind}
 use Rattle.dep_graph.proofs.ClosingLemmas.{GoesTowards-marked, goes_on}
 use Rattle.dep_graph.proofs.closing.step_towards.Goals as goal
 
@@ -16,4 +16,4 @@ unreachable-requires c =
 pub returns-clause-step : goal.returns-clause-step
 returns-clause-step c =
     GoesTowards-marked _ _ _ _ _ c.succs.ensures.joins c.requires.size c.requires.exact
-      (least_of_kind _ _ _ (Some c.in-Some.succ) c.succs.ensures.exact c.in-Some.ensures)
+    (least_of_kind _ _ _ (Some c.in-Some.succ) c.succs.ensures.exact c.in-Some.ensures)

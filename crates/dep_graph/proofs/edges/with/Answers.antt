@@ -1,5 +1,4 @@
 -- The copy is the list, and the node goes in there.
-use Rattle.std.proofs.Common.{◌≡◌, ◌∙◌}
 use Rattle.dep_graph.proofs.edges.with.Goals as goal
 
 pub put_in-requires : goal.put_in-requires

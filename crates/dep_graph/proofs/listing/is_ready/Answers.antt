@@ -15,5 +15,5 @@ returns-then-left-node-clause-ready c =
 pub returns-then-left-node-clause-held : goal.returns-then-left-node-clause-held
 returns-then-left-node-clause-held c =
     OnFalse_from _ (IsHeld (HasEdge c.args.graph.now) c.args.left.now c.args.node) (λ f m.
-      let found = (none_or_some _ _ _ _ c.least_left_pred.ensures c.is_none.ensures).1 f in
-      (found.0, found.1.is.0, found.1.is.1))
+    let found = (none_or_some _ _ _ _ c.least_left_pred.ensures c.is_none.ensures).1 f in
+    (found.0, found.1.is.0, found.1.is.1))

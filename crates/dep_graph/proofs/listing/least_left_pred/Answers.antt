@@ -1,5 +1,4 @@
 -- The predecessors are all in the list, which rises.
-use Rattle.std.proofs.Common.{◌<◌, length}
 use Rattle.dep_graph.proofs.MarkLemmas.{neighbours_within, least_of_kind}
 use Rattle.dep_graph.proofs.listing.least_left_pred.Goals as goal
 

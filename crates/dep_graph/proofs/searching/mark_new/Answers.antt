@@ -1,5 +1,4 @@
 -- A node that has its mark changes nothing; another gets its mark and waits.
-use Rattle.std.proofs.Common.{◌≡◌, ◌<◌, Bool, false, length, get_or}
 use Rattle.std.proofs.lemmas.List.{take_more}
 use Rattle.dep_graph.proofs.SearchLemmas.{MarksNew-skip, MarksNew-push}
 use Rattle.dep_graph.proofs.searching.mark_new.Goals as goal
@@ -10,11 +9,12 @@ loop-node-preserved c =
     let lt = c.loop-node-test.true in
     rw (take_more c.args.nodes.now c.loop-node.node-index 0 lt)
     (elim c.if-not-as_slice-node.branch [
-      then-not-as_slice-node+in_ok-push w ↦
-        rw (w.marks-is, w.pending-is, w.put.ensures, w.in_ok-push.ensures.items)
+      | then-not-as_slice-node+in_ok-push w ↦
+          rw (w.marks-is, w.pending-is, w.put.ensures, w.in_ok-push.ensures.items)
           (MarksNew-push _ _ _ _ _ _ c.loop-node.invariant
-            (rw c.loop-node.invariant.size (c.requires c.loop-node.node-index 0 lt))
-            (rw c.as_slice.ensures at w.if-not-as_slice-node.true))
-    | else-not-as_slice-node w ↦
-        rw (w.marks-is, w.pending-is)
-          (MarksNew-skip _ _ _ _ _ _ c.loop-node.invariant (rw c.as_slice.ensures at w.if-not-as_slice-node.false)) ])
+          (rw c.loop-node.invariant.size (c.requires c.loop-node.node-index 0 lt))
+          (rw c.as_slice.ensures at w.if-not-as_slice-node.true))
+      | else-not-as_slice-node w ↦
+          rw (w.marks-is, w.pending-is)
+          (MarksNew-skip _ _ _ _ _ _ c.loop-node.invariant (rw c.as_slice.ensures at w.if-not-as_slice-node.false))
+    ])

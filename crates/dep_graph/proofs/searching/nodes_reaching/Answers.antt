@@ -9,17 +9,17 @@ use Rattle.dep_graph.proofs.searching.nodes_reaching.Goals as goal
 pub loop-node-init : goal.loop-node-init
 loop-node-init c =
     rw (c.put.ensures, c.in_ok-marks.ensures, c.in_ok-push.ensures.items, c.new-pending.ensures.items, c.size.ensures.size)
-      (IsSearch-start _ _ c.requires)
+    (IsSearch-start _ _ c.requires)
 
 pub preds-requires : goal.preds-requires
 preds-requires c =
     rw (← c.loop-node.invariant.size) (IsMarked-within _ _
-      (c.loop-node.invariant.waits c.in-Some.node (rw c.in-Some.ensures.items (Contains-push _ _))))
+    (c.loop-node.invariant.waits c.in-Some.node (rw c.in-Some.ensures.items (Contains-push _ _))))
 
 pub mark_new-requires : goal.mark_new-requires
 mark_new-requires c =
     neighbours_within _ _ _ c.preds.ensures.exact
-      (λ x edge. rw c.loop-node.invariant.size (c.preds.ensures.joins x _ edge).0)
+    (λ x edge. rw c.loop-node.invariant.size (c.preds.ensures.joins x _ edge).0)
 
 pub loop-node-preserved : goal.loop-node-preserved
 loop-node-preserved c =

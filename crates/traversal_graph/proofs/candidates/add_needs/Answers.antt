@@ -9,7 +9,3 @@ loop-place-init c = Draws-none _ c.requires.draft
 pub loop-place-preserved : goal.loop-place-preserved
 loop-place-preserved c =
     Draws-more _ _ c.index-items-place.result _ _ _ _ c.loop-place-test.true c.index-items-place.is c.loop-place.invariant c.in_ok-add_needs_of.ensures
-
-pub add_needs_of-requires-clause-met : goal.add_needs_of-requires-clause-met
-add_needs_of-requires-clause-met c =
-    rw (← c.index-items-place.is) at (c.requires.met c.loop-place.place c.index-items-place.result c.loop-place-test.true)

@@ -16,9 +16,9 @@ with-requires-2 c =
 pub invariant_of-self : goal.invariant_of-self
 invariant_of-self c =
     (edge_made _ _ _ _ _ _ _ _ _ c.self.invariant c.self.view_is c.requires.before c.requires.after
-      c.index.ensures c.index-2.ensures c.in_ok-preds.ensures c.in_ok-succs.ensures).1
+    c.index.ensures c.index-2.ensures c.in_ok-preds.ensures c.in_ok-succs.ensures).1
 
 pub returns-clause-ok : goal.returns-clause-ok
 returns-clause-ok c =
     (edge_made _ _ _ _ _ _ _ _ _ c.self.invariant c.self.view_is c.requires.before c.requires.after
-      c.index.ensures c.index-2.ensures c.in_ok-preds.ensures c.in_ok-succs.ensures).0
+    c.index.ensures c.index-2.ensures c.in_ok-preds.ensures c.in_ok-succs.ensures).0
