@@ -13,6 +13,8 @@ mod phase;
 mod plan;
 mod properties;
 mod refusal;
+#[cfg(test)]
+mod tests;
 mod token;
 
 pub use calls::{Answered, Request};
