@@ -13,14 +13,14 @@ each_from-push {A = A} place [] x f =
 each_from-push place (y ∷ ys) x f =
     let e : (place + 1) + length ys ≡ place + length (y ∷ ys) = omega arith in
     ap (λ (l : List (ℕ × ℕ)). f place y ++ l) (each_from-push (place + 1) ys x f ∙ ap (λ (p : ℕ). each_from (place + 1) ys f ++ f p x) e)
-      ∙ sym (append_assoc (f place y) (each_from (place + 1) ys f) (f (place + length (y ∷ ys)) x))
+    ∙ sym (append_assoc (f place y) (each_from (place + 1) ys f) (f (place + length (y ∷ ys)) x))
 
 each_more : {A : Type 0} (xs : List A) (i : ℕ) (x : A) (f : ℕ → A → List (ℕ × ℕ)) → i < length xs → x ≡ get_or xs i x
     → each (take (i + 1) xs) f ≡ each (take i xs) f ++ f i x
 each_more xs i x f lt read =
     let n : 0 + length (take i xs) ≡ i = omega (arith, length-take-le i xs) in
     ap (λ l. each_from 0 l f) (take_more xs i x lt ∙ ap (λ y. take i xs ++ y ∷ []) (sym read))
-      ∙ each_from-push 0 (take i xs) x f ∙ ap (λ (p : ℕ). each (take i xs) f ++ f p x) n
+    ∙ each_from-push 0 (take i xs) x f ∙ ap (λ (p : ℕ). each (take i xs) f ++ f p x) n
 
 -- a loop's step, and its end
 pub Draws-more : {A : Type 0} (xs : List A) (i : ℕ) (x : A) (f : ℕ → A → List (ℕ × ℕ)) (old mid new : Draft) → i < length xs

@@ -27,18 +27,21 @@ pub ListsAll-more : (edges : List (ℕ × ℕ)) (i : ℕ) (pair : ℕ → ℕ ×
     → ListsAll (λ y. Contains (take i edges) (pair y)) old → PutsIn old x new
     → ListsAll (λ y. Contains (take (i + 1) edges) (pair y)) new
 ListsAll-more edges i pair x old new lt apart is h puts = rw (take_more edges i (0, 0) lt, is) (record {
-    rising = puts.rising;
-    each = λ y. (there y, back y);
-  })
+  rising = puts.rising;
+  each = λ y. (there y, back y);
+})
   where
     there : (y : ℕ) → Contains new y → Contains (take i edges ++ pair x ∷ []) (pair y)
     there y c = elim ((puts.each y).0 c) [
-        inl k ↦ Contains-append_left (take i edges) (pair x ∷ []) (pair y) ((h.each y).0 k)
-      | inr e ↦ rw e (Contains-push (take i edges) (pair x)) ]
+      | inl k ↦ Contains-append_left (take i edges) (pair x ∷ []) (pair y) ((h.each y).0 k)
+      | inr e ↦ rw e (Contains-push (take i edges) (pair x))
+    ]
+
     back : (y : ℕ) → Contains (take i edges ++ pair x ∷ []) (pair y) → Contains new y
     back y c = (puts.each y).1 (elim (Contains-push_cases (take i edges) (pair x) (pair y) c) [
-        inl k ↦ inl ((h.each y).1 k)
-      | inr e ↦ inr (sym (apart x y e)) ])
+      | inl k ↦ inl ((h.each y).1 k)
+      | inr e ↦ inr (sym (apart x y e))
+    ])
 
 -- an edge more, of another node
 pub ListsAll-skip : (edges : List (ℕ × ℕ)) (i : ℕ) (pair : ℕ → ℕ × ℕ) (old : List ℕ) → i < length edges
@@ -46,45 +49,52 @@ pub ListsAll-skip : (edges : List (ℕ × ℕ)) (i : ℕ) (pair : ℕ → ℕ ×
     → ListsAll (λ y. Contains (take i edges) (pair y)) old
     → ListsAll (λ y. Contains (take (i + 1) edges) (pair y)) old
 ListsAll-skip edges i pair old lt apart h = rw (take_more edges i (0, 0) lt) (record {
-    rising = h.rising;
-    each = λ y. (there y, back y);
-  })
+  rising = h.rising;
+  each = λ y. (there y, back y);
+})
   where
     there : (y : ℕ) → Contains old y → Contains (take i edges ++ get_or edges i (0, 0) ∷ []) (pair y)
     there y c = Contains-append_left (take i edges) (get_or edges i (0, 0) ∷ []) (pair y) ((h.each y).0 c)
+
     back : (y : ℕ) → Contains (take i edges ++ get_or edges i (0, 0) ∷ []) (pair y) → Contains old y
     back y c = (h.each y).1 (elim (Contains-push_cases (take i edges) (get_or edges i (0, 0)) (pair y) c) [
-        inl k ↦ k
-      | inr e ↦ absurd (apart y e) ])
+      | inl k ↦ k
+      | inr e ↦ absurd (apart y e)
+    ])
 
 -- a node more that is of the kind
 pub ListsAll-below_more : (Is : ℕ → Type 0) (n : ℕ) (nodes : List ℕ) → Is n
     → ListsAll (λ x. (x < n) × Is x) nodes → ListsAll (λ x. (x < n + 1) × Is x) (nodes ++ n ∷ [])
 ListsAll-below_more Is n nodes is h = record {
-    rising = all_pairs_push (λ x y. x < y) nodes n h.rising (λ k d lt. ((h.each (get_or nodes k d)).0 (Contains-get_or nodes k d lt)).0);
-    each = λ x. (there x, back x);
-  }
+  rising = all_pairs_push (λ x y. x < y) nodes n h.rising (λ k d lt. ((h.each (get_or nodes k d)).0 (Contains-get_or nodes k d lt)).0);
+  each = λ x. (there x, back x);
+}
   where
     there : (x : ℕ) → Contains (nodes ++ n ∷ []) x → (x < n + 1) × Is x
     there x c = elim (Contains-push_cases nodes n x c) [
-        inl k ↦ (let b = (h.each x).0 k in (omega (arith, b.0), b.1))
-      | inr e ↦ (omega arith, (let P : ℕ → Type 0 = Is in subst P e is)) ]
+      | inl k ↦ (let b = (h.each x).0 k in (omega (arith, b.0), b.1))
+      | inr e ↦ (omega arith, (let P : ℕ → Type 0 = Is in subst P e is))
+    ]
+
     back : (x : ℕ) → (x < n + 1) × Is x → Contains (nodes ++ n ∷ []) x
     back x (lt, k) = elim (cases_lt x n) [
-        inl below ↦ Contains-append_left nodes (n ∷ []) x ((h.each x).1 (below, k))
-      | inr above ↦ (let e : n ≡ x = omega arith in let C : ℕ → Type 0 = λ z. Contains (nodes ++ n ∷ []) z in subst C e (Contains-push nodes n)) ]
+      | inl below ↦ Contains-append_left nodes (n ∷ []) x ((h.each x).1 (below, k))
+      | inr above ↦ (let e : n ≡ x = omega arith in let C : ℕ → Type 0 = λ z. Contains (nodes ++ n ∷ []) z in subst C e (Contains-push nodes n))
+    ]
 
 -- a node more that isn't
 pub ListsAll-below_skip : (Is : ℕ → Type 0) (n : ℕ) (nodes : List ℕ) → (Is n → ⊥)
     → ListsAll (λ x. (x < n) × Is x) nodes → ListsAll (λ x. (x < n + 1) × Is x) nodes
 ListsAll-below_skip Is n nodes none h = record {
-    rising = h.rising;
-    each = λ x. (there x, back x);
-  }
+  rising = h.rising;
+  each = λ x. (there x, back x);
+}
   where
     there : (x : ℕ) → Contains nodes x → (x < n + 1) × Is x
     there x c = let b = (h.each x).0 c in (omega (arith, b.0), b.1)
+
     back : (x : ℕ) → (x < n + 1) × Is x → Contains nodes x
     back x (lt, k) = elim (cases_lt x n) [
-        inl below ↦ (h.each x).1 (below, k)
-      | inr above ↦ (let e : x ≡ n = omega arith in absurd (none (let P : ℕ → Type 0 = Is in subst P e k))) ]
+      | inl below ↦ (h.each x).1 (below, k)
+      | inr above ↦ (let e : x ≡ n = omega arith in absurd (none (let P : ℕ → Type 0 = Is in subst P e k)))
+    ]

@@ -16,4 +16,4 @@ Considers kept before after new =
 pub data Keeps (first : List (ℕ × ℕ)) : List (ℕ × ℕ) → List (ℕ × ℕ) → Type 0 where
   begins : (candidates kept : List (ℕ × ℕ)) → candidates ≡ [] → kept ≡ first → Keeps first candidates kept
   goes_on : (earlier mid candidates kept : List (ℕ × ℕ)) (before after : ℕ) → Keeps first earlier mid
-    → Considers mid before after kept → candidates ≡ earlier ++ (before, after) ∷ [] → Keeps first candidates kept
+      → Considers mid before after kept → candidates ≡ earlier ++ (before, after) ∷ [] → Keeps first candidates kept

@@ -42,7 +42,12 @@ impl Draft {
     }
 
     /// Keeps an edge where the test passes, unless it would close a cycle.
-    pub(crate) fn draw_if(&mut self, passes: bool, before: u32, after: u32) -> Result<(), AllocError>
+    pub(crate) fn draw_if(
+        &mut self,
+        passes: bool,
+        before: u32,
+        after: u32,
+    ) -> Result<(), AllocError>
         requires draft { IsDraft self.old }
         requires before { before < length self.old.graph }
         requires after { after < length self.old.graph }

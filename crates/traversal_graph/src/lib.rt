@@ -9,6 +9,8 @@ mod candidates;
 mod draft;
 mod lists;
 mod shape;
+#[cfg(test)]
+mod tests;
 
 pub use brief::RowBrief;
 pub use building::build;

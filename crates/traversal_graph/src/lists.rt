@@ -13,10 +13,8 @@ use std::alloc::AllocError;
 impl TravGraph {
     /// The nodes into which no edge leads, rising.
     pub fn leaves(&self) -> Result<Seq<u32>, AllocError>
-        ensures {
-            IfOk result (ListsAll (λ node.
-                (node < length self.now.nodes) × ((before : ℕ) → ¬ Joins self.now.edges before node)))
-        }
+        ensures { IfOk result (ListsAll (λ node.
+            (node < length self.now.nodes) × ((before : ℕ) → ¬ Joins self.now.edges before node))) }
     {
         let Ok(count) = u32::try_from(self.nodes.len()) else {
             return Err(AllocError);

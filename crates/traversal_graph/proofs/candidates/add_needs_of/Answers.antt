@@ -12,11 +12,12 @@ loop-need-init c = Draws-none _ c.requires.draft
 
 pub loop-need-preserved : goal.loop-need-preserved
 loop-need-preserved c = elim c.if-before-items.branch [
-      then-before-items+in_ok-draw w ↦ rw w.draft-is
-        (Draws-more _ _ c.need-item.result _ _ _ _ c.loop-need-test.true c.need-item.is c.loop-need.invariant
-          (Draws-if _ _ _ _ _ (lt-ltb _ _ (rw c.place_of_name-before.ensures at w.if-before-items.true))
-            (rw c.place_of_name-before.ensures at w.in_ok-draw.ensures)))
-    | else-before-items w ↦ rw w.draft-is
-        (Draws-more _ _ c.need-item.result _ _ _ _ c.loop-need-test.true c.need-item.is c.loop-need.invariant
-          (Draws-unless _ _ _ _ (le-ltb _ _ (rw c.place_of_name-before.ensures at w.if-before-items.false))
-            c.loop-need.invariant.draft_is)) ]
+  | then-before-items+in_ok-draw w ↦ rw w.draft-is
+      (Draws-more _ _ c.need-item.result _ _ _ _ c.loop-need-test.true c.need-item.is c.loop-need.invariant
+      (Draws-if _ _ _ _ _ (lt-ltb _ _ (rw c.place_of_name-before.ensures at w.if-before-items.true))
+      (rw c.place_of_name-before.ensures at w.in_ok-draw.ensures)))
+  | else-before-items w ↦ rw w.draft-is
+      (Draws-more _ _ c.need-item.result _ _ _ _ c.loop-need-test.true c.need-item.is c.loop-need.invariant
+      (Draws-unless _ _ _ _ (le-ltb _ _ (rw c.place_of_name-before.ensures at w.if-before-items.false))
+      c.loop-need.invariant.draft_is))
+]

@@ -7,5 +7,5 @@ use Rattle.traversal_graph.proofs.candidates.add_needs_of.Given as goal
 abbrev pub invariant-loop-need : goal.invariant-loop-need
 invariant-loop-need l =
     Draws (each (take l.need-index l.need-items)
-      (λ (_ : ℕ) (need : List ℕ). edge_if (nat_lt (place_of l.items need) (length l.items)) (place_of l.items need) l.place))
-      l.initial.draft l.draft
+    (λ (_ : ℕ) (need : List ℕ). edge_if (nat_lt (place_of l.items need) (length l.items)) (place_of l.items need) l.place))
+    l.initial.draft l.draft

@@ -9,4 +9,4 @@ returns-in-WouldClose c =
 pub returns : goal.returns
 returns c =
     Draws-added _ _ _ _ _ c.requires.draft (rw c.in_default.is at c.in_ok-add_unless_cycle.ensures.ok)
-      c.in_ok-add_unless_cycle.ensures.acyclic c.in_ok-push.ensures.ok
+    c.in_ok-add_unless_cycle.ensures.acyclic c.in_ok-push.ensures.ok

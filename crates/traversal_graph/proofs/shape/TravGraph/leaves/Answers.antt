@@ -8,13 +8,14 @@ use Rattle.traversal_graph.proofs.shape.TravGraph.leaves.Goals.{then-not-is_behi
 
 pub loop-node-preserved : goal.loop-node-preserved
 loop-node-preserved c = elim c.if-not-is_behind.branch [
-      then-not-is_behind+in_ok-push w ↦ rw (w.leaves-is, w.in_ok-push.ensures.ok)
-        (ListsAll-below_more (λ node. (before : ℕ) → ¬ Joins c.args.self.now.edges before node) c.loop-node.node _
-          (rw c.as_slice.ensures at (OnFalse_at w.if-not-is_behind.true c.is_behind.ensures.leaf)) c.loop-node.invariant)
-    | else-not-is_behind w ↦ rw w.leaves-is
-        (ListsAll-below_skip (λ node. (before : ℕ) → ¬ Joins c.args.self.now.edges before node) c.loop-node.node _
-          (λ none. let found = rw c.as_slice.ensures at (OnTrue_at w.if-not-is_behind.false c.is_behind.ensures.leads) in none found.0 found.1)
-          c.loop-node.invariant) ]
+  | then-not-is_behind+in_ok-push w ↦ rw (w.leaves-is, w.in_ok-push.ensures.ok)
+      (ListsAll-below_more (λ node. (before : ℕ) → ¬ Joins c.args.self.now.edges before node) c.loop-node.node _
+      (rw c.as_slice.ensures at (OnFalse_at w.if-not-is_behind.true c.is_behind.ensures.leaf)) c.loop-node.invariant)
+  | else-not-is_behind w ↦ rw w.leaves-is
+      (ListsAll-below_skip (λ node. (before : ℕ) → ¬ Joins c.args.self.now.edges before node) c.loop-node.node _
+      (λ none. let found = rw c.as_slice.ensures at (OnTrue_at w.if-not-is_behind.false c.is_behind.ensures.leads) in none found.0 found.1)
+      c.loop-node.invariant)
+]
 
 pub returns : goal.returns
 returns c =
