@@ -1,0 +1,206 @@
+-- A search against the edges: what is marked reaches the goal, and what reaches it is marked.
+use Rattle.std.proofs.Common.{◌≡◌, ◌⊎◌, ℕ, ◌+◌, ◌<◌, Bool, true, false, not, cond, List, [], ◌∷◌, ◌++◌, length, get_or, set, replicate, refl, sym, ap, subst, ◌∙◌, inl, inr, arith}
+use Rattle.std.specs.Prelude.{Contains}
+use Rattle.std.proofs.lemmas.Bool.{cases_eq, false≢true}
+use Rattle.std.proofs.lemmas.List.{get_or-set_same, get_or-set_other, length-set, get_or-replicate, length-replicate, length_push}
+use Rattle.std.proofs.lemmas.List.Elements.{Contains-push, Contains-push_cases, Contains-append_left}
+use Rattle.std.proofs.lemmas.List.Sums.{sum_by-set}
+use Rattle.dep_graph.specs.Paths.{Leads, HasPath}
+use Rattle.dep_graph.specs.Edges.{Links, HasEdge}
+use Rattle.dep_graph.specs.Lists.{ListsAll}
+use Rattle.dep_graph.specs.Marks.{IsMarked, MarksAll, MarksNew, unmarked_count}
+use Rattle.dep_graph.proofs.PathLemmas.{HasPath-refl, HasPath-step, leads_of}
+use Rattle.dep_graph.proofs.MarkLemmas.{IsMarked-within}
+
+none_in : (x : ℕ) → Contains {X = ℕ} [] x → ⊥
+none_in x (k, lt, e) = absurd (omega arith)
+
+pub IsMarked-set : (marks : List Bool) (x node : ℕ) → x < length marks → IsMarked (set marks x true) node
+    → (node ≡ x) ⊎ IsMarked marks node
+IsMarked-set marks x node lt m = elim (cases_eq node x) [
+  | inl e ↦ inl e
+  | inr ne ↦ inr (rw (← get_or-set_other marks x node true false ne) m)
+]
+
+pub IsMarked-set_same : (marks : List Bool) (x : ℕ) → x < length marks → IsMarked (set marks x true) x
+IsMarked-set_same marks x lt = get_or-set_same marks x true false lt
+
+pub IsMarked-set_kept : (marks : List Bool) (x node : ℕ) → x < length marks → IsMarked marks node → IsMarked (set marks x true) node
+IsMarked-set_kept marks x node lt m = elim (cases_eq node x) [
+  | inl e ↦ (let M : ℕ → Type 0 = λ z. IsMarked (set marks x true) z in subst M (sym e) (IsMarked-set_same marks x lt))
+  | inr ne ↦ rw (get_or-set_other marks x node true false ne) m
+]
+
+unmarked_count-set : (marks : List Bool) (x : ℕ) → x < length marks → get_or marks x false ≡ false
+    → unmarked_count (set marks x true) + 1 ≡ unmarked_count marks
+unmarked_count-set marks x lt m =
+    let e = sum_by-set (λ (b : Bool). cond (not b) 1 0) marks x true false lt in
+    let one : ◌≡◌ {A = ℕ} (cond (not (get_or marks x false)) 1 0) 1 = ap (λ (b : Bool). cond (not b) 1 0) m in
+    omega (arith, e, one)
+
+-- no node yet
+pub MarksNew-none : (marks : List Bool) (waiting : List ℕ) → MarksNew [] marks waiting marks waiting
+MarksNew-none marks waiting = record {
+  size = refl;
+  kept = λ x m. m;
+  all = λ x h. absurd (none_in x h);
+  only = λ x m. inl m;
+  waits = λ x h. h;
+  joined = λ x h. inl h;
+  work = refl;
+}
+
+-- a node that has its mark
+pub MarksNew-skip : (nodes : List ℕ) (old : List Bool) (waiting : List ℕ) (new : List Bool) (pending : List ℕ) (x : ℕ)
+    → MarksNew nodes old waiting new pending → IsMarked new x
+    → MarksNew (nodes ++ x ∷ []) old waiting new pending
+MarksNew-skip nodes old waiting new pending x h m = record {
+  size = h.size;
+  kept = h.kept;
+  all = all;
+  only = only;
+  waits = h.waits;
+  joined = joined;
+  work = h.work;
+}
+  where
+    all : (y : ℕ) → Contains (nodes ++ x ∷ []) y → IsMarked new y
+    all y c = elim (Contains-push_cases nodes x y c) [
+      | inl k ↦ h.all y k
+      | inr e ↦ (let M : ℕ → Type 0 = λ z. IsMarked new z in subst M e m)
+    ]
+
+    only : (y : ℕ) → IsMarked new y → IsMarked old y ⊎ (Contains (nodes ++ x ∷ []) y × Contains pending y)
+    only y k = elim (h.only y k) [ inl o ↦ inl o | inr c ↦ inr (Contains-append_left nodes (x ∷ []) y c.0, c.1) ]
+
+    joined : (y : ℕ) → Contains pending y → Contains waiting y ⊎ Contains (nodes ++ x ∷ []) y
+    joined y k = elim (h.joined y k) [ inl o ↦ inl o | inr c ↦ inr (Contains-append_left nodes (x ∷ []) y c) ]
+
+-- a node that gets its mark now
+pub MarksNew-push : (nodes : List ℕ) (old : List Bool) (waiting : List ℕ) (new : List Bool) (pending : List ℕ) (x : ℕ)
+    → MarksNew nodes old waiting new pending → x < length new → get_or new x false ≡ false
+    → MarksNew (nodes ++ x ∷ []) old waiting (set new x true) (pending ++ x ∷ [])
+MarksNew-push nodes old waiting new pending x h lt m = record {
+  size = length-set new x true ∙ h.size;
+  kept = λ y k. IsMarked-set_kept new x y lt (h.kept y k);
+  all = all;
+  only = only;
+  waits = λ y k. Contains-append_left pending (x ∷ []) y (h.waits y k);
+  joined = joined;
+  work = omega (arith, h.work, unmarked_count-set new x lt m, length_push pending x);
+}
+  where
+    all : (y : ℕ) → Contains (nodes ++ x ∷ []) y → IsMarked (set new x true) y
+    all y c = elim (Contains-push_cases nodes x y c) [
+      | inl k ↦ IsMarked-set_kept new x y lt (h.all y k)
+      | inr e ↦ (let M : ℕ → Type 0 = λ z. IsMarked (set new x true) z in subst M e (IsMarked-set_same new x lt))
+    ]
+
+    here : (l : List ℕ) (y : ℕ) → y ≡ x → Contains (l ++ x ∷ []) y
+    here l y e = let C : ℕ → Type 0 = λ z. Contains (l ++ x ∷ []) z in subst C (sym e) (Contains-push l x)
+
+    only : (y : ℕ) → IsMarked (set new x true) y → IsMarked old y ⊎ (Contains (nodes ++ x ∷ []) y × Contains (pending ++ x ∷ []) y)
+    only y k = elim (IsMarked-set new x y lt k) [
+      | inl e ↦ inr (here nodes y e, here pending y e)
+      | inr was ↦ elim (h.only y was) [
+        | inl o ↦ inl o
+        | inr c ↦ inr (Contains-append_left nodes (x ∷ []) y c.0, Contains-append_left pending (x ∷ []) y c.1)
+      ]
+    ]
+
+    joined : (y : ℕ) → Contains (pending ++ x ∷ []) y → Contains waiting y ⊎ Contains (nodes ++ x ∷ []) y
+    joined y k = elim (Contains-push_cases pending x y k) [
+      | inl c ↦ elim (h.joined y c) [ inl o ↦ inl o | inr d ↦ inr (Contains-append_left nodes (x ∷ []) y d) ]
+      | inr e ↦ inr (here nodes y (sym e))
+    ]
+
+-- marks that reach the goal; where one is on a node that doesn't wait, its predecessors have theirs
+pub record IsSearch (graph : Links) (goal : ℕ) (marks : List Bool) (pending : List ℕ) : Type 0 where
+  pub size : length marks ≡ length graph
+  pub goal_is : IsMarked marks goal
+  pub reaches : (x : ℕ) → IsMarked marks x → HasPath (HasEdge graph) x goal
+  pub waits : (x : ℕ) → Contains pending x → IsMarked marks x
+  pub done : (x y : ℕ) → IsMarked marks y → HasEdge graph x y → IsMarked marks x ⊎ Contains pending y
+
+pub IsSearch-start : (graph : Links) (goal : ℕ) → goal < length graph
+    → IsSearch graph goal (set (replicate (length graph) false) goal true) ([] ++ goal ∷ [])
+IsSearch-start graph goal lt = record {
+  size = length-set _ goal true ∙ length-replicate (length graph) false;
+  goal_is = IsMarked-set_same bare goal inside;
+  reaches = λ x m. (let P : ℕ → Type 0 = λ z. HasPath (HasEdge graph) z goal in subst P (sym (only x m)) (HasPath-refl (HasEdge graph) goal));
+  waits = waits;
+  done = λ x y m e. inr (let C : ℕ → Type 0 = λ z. Contains ([] ++ goal ∷ []) z in subst C (sym (only y m)) (Contains-push [] goal));
+}
+  where
+    bare : List Bool
+    bare = replicate (length graph) false
+
+    inside : goal < length bare
+    inside = rw (length-replicate (length graph) false) lt
+
+    bare_none : (x : ℕ) → IsMarked bare x → ⊥
+    bare_none x m =
+        let in' : x < length graph = rw (length-replicate (length graph) false) at (IsMarked-within bare x m) in
+        false≢true (sym (get_or-replicate (length graph) x false false in') ∙ m)
+
+    only : (x : ℕ) → IsMarked (set bare goal true) x → x ≡ goal
+    only x m = elim (IsMarked-set bare goal x inside m) [ inl e ↦ e | inr k ↦ absurd (bare_none x k) ]
+
+    waits : (x : ℕ) → Contains ([] ++ goal ∷ []) x → IsMarked (set bare goal true) x
+    waits x c = elim (Contains-push_cases [] goal x c) [
+      | inl k ↦ absurd (none_in x k)
+      | inr e ↦ (let M : ℕ → Type 0 = λ z. IsMarked (set bare goal true) z in subst M e (IsMarked-set_same bare goal inside))
+    ]
+
+-- one node's predecessors have their marks
+pub IsSearch-more : (graph : Links) (goal : ℕ) (marks new : List Bool) (pending rest next nodes : List ℕ) (node : ℕ)
+    → IsSearch graph goal marks pending → pending ≡ rest ++ node ∷ []
+    → ListsAll (λ pred. HasEdge graph pred node) nodes → MarksNew nodes marks rest new next
+    → IsSearch graph goal new next
+IsSearch-more graph goal marks new pending rest next nodes node s is lists h = record {
+  size = h.size ∙ s.size;
+  goal_is = h.kept goal s.goal_is;
+  reaches = reaches;
+  waits = waits;
+  done = done;
+}
+  where
+    waiting : (x : ℕ) → Contains rest x → Contains pending x
+    waiting x c = rw is (Contains-append_left rest (node ∷ []) x c)
+
+    last : Contains pending node
+    last = rw is (Contains-push rest node)
+
+    reaches : (x : ℕ) → IsMarked new x → HasPath (HasEdge graph) x goal
+    reaches x m = elim (h.only x m) [
+      | inl o ↦ s.reaches x o
+      | inr c ↦ HasPath-step (HasEdge graph) x node goal ((lists.each x).0 c.0) (s.reaches node (s.waits node last))
+    ]
+
+    waits : (x : ℕ) → Contains next x → IsMarked new x
+    waits x c = elim (h.joined x c) [
+      | inl o ↦ h.kept x (s.waits x (waiting x o))
+      | inr d ↦ h.all x d
+    ]
+
+    done : (x y : ℕ) → IsMarked new y → HasEdge graph x y → IsMarked new x ⊎ Contains next y
+    done x y m e = elim (h.only y m) [
+      | inl o ↦ old (s.done x y o e)
+      | inr c ↦ inr c.1
+    ]
+      where
+        old : IsMarked marks x ⊎ Contains pending y → IsMarked new x ⊎ Contains next y
+        old (inl k) = inl (h.kept x k)
+        old (inr k) = elim (Contains-push_cases rest node y (rw is at k)) [
+          | inl c ↦ inr (h.waits y c)
+          | inr same ↦ inl (h.all x ((lists.each x).1 (let F : ℕ → Type 0 = λ z. HasEdge graph x z in subst F (sym same) e)))
+        ]
+
+-- where none waits, exactly what reaches the goal is marked
+pub MarksAll-search : (graph : Links) (goal : ℕ) (marks : List Bool) → IsSearch graph goal marks []
+    → MarksAll (λ node. HasPath (HasEdge graph) node goal) marks
+MarksAll-search graph goal marks s x lt = (s.reaches x, (λ h. let p = leads_of (HasEdge graph) x goal h in back x p.0 p.1))
+  where
+    back : (x : ℕ) (p : List ℕ) → Leads (HasEdge graph) x p goal → IsMarked marks x
+    back x [] e = let M : ℕ → Type 0 = λ z. IsMarked marks z in subst M (sym e) s.goal_is
+    back x (y ∷ p) (e, r) = elim (s.done x y (back y p r) e) [ inl m ↦ m | inr c ↦ absurd (none_in y c) ]

@@ -1,0 +1,108 @@
+//! A graph: each node's predecessors and successors, both rising.
+
+ghost use Rattle.std.specs.Prelude.{◌≡◌, ◌<◌, [], length, replicate, IfOk, OnOk, OnErr};
+ghost use Rattle.dep_graph.specs.Lists.{IsRising, ListsAll, PutsIn};
+ghost use Rattle.dep_graph.specs.Paths.{IsAcyclic};
+ghost use Rattle.dep_graph.specs.Edges.{HasEdge, JoinsNodes, IsBare, AddsEdge};
+
+use crate::put_in;
+use heat_value::Seq;
+use std::alloc::{AllocError, Global};
+use std::marker::Model;
+
+/// Nodes 0 to n - 1 and a set of edges between them.
+#[derive(Drop)]
+pub struct Graph {
+    preds: Vec<Seq<u32>>,
+    succs: Vec<Seq<u32>>,
+}
+
+impl Model for Graph {
+    ghost use Rattle.dep_graph.specs.Edges.{Links, IsTwofold};
+
+    ghost Value = { Links };
+
+    ghost view = { λ graph. graph.preds.items };
+
+    ghost invariant = { λ graph. IsTwofold graph.preds.items graph.succs.items };
+}
+
+impl Graph {
+    /// A graph of `n` nodes without edges.
+    pub fn new(alloc: Global, n: u32) -> Result<Graph, AllocError>
+        ensures bare { IfOk result (IsBare n) }
+        ensures acyclic { IfOk result (λ graph. IsAcyclic (HasEdge graph)) }
+    {
+        Ok(Graph {
+            preds: empty_lists(alloc, n)?,
+            succs: empty_lists(alloc, n)?,
+        })
+    }
+
+    /// How many nodes there are.
+    pub fn size(&self) -> u32
+        ensures size { result ≡ length self.now }
+        ensures joins { JoinsNodes self.now }
+    {
+        self.preds.len() as u32
+    }
+
+    /// The allocator that the graph was made with.
+    pub fn allocator(&self) -> Global {
+        *self.preds.allocator()
+    }
+
+    /// The nodes with an edge to this one, rising.
+    pub fn preds(&self, node: u32) -> &[u32]
+        requires { node < length self.now }
+        ensures exact { ListsAll (λ pred. HasEdge self.now pred node) result.now }
+        ensures joins { JoinsNodes self.now }
+    {
+        self.preds[node as usize].as_slice()
+    }
+
+    /// The nodes to which this one has an edge, rising.
+    pub fn succs(&self, node: u32) -> &[u32]
+        requires { node < length self.now }
+        ensures exact { ListsAll (λ succ. HasEdge self.now node succ) result.now }
+        ensures joins { JoinsNodes self.now }
+    {
+        self.succs[node as usize].as_slice()
+    }
+
+    /// Adds an edge, unless it is there.
+    pub fn add_edge(&mut self, before: u32, after: u32) -> Result<(), AllocError>
+        requires before { before < length self.old }
+        requires after { after < length self.old }
+        ensures ok { OnOk result (AddsEdge before after self.old self.new) }
+        ensures err { OnErr result (self.new ≡ self.old) }
+    {
+        // Both lists are made before either is stored, so that want of memory changes nothing.
+        let preds = with(&self.preds[after as usize], before)?;
+        let succs = with(&self.succs[before as usize], after)?;
+        self.preds[after as usize] = preds;
+        self.succs[before as usize] = succs;
+        Ok(())
+    }
+}
+
+/// So many lists without nodes.
+fn empty_lists(alloc: Global, n: u32) -> Result<Vec<Seq<u32>>, AllocError>
+    ensures { IfOk result (λ lists. lists.items ≡ replicate n []) }
+{
+    let mut lists = Vec::with_capacity(alloc, n as usize)?;
+    for _ in 0..n {
+        lists.push(Seq::new(alloc))?;
+    }
+    Ok(lists)
+}
+
+/// A copy of a rising list with one node put in.
+fn with(list: &Seq<u32>, node: u32) -> Result<Seq<u32>, AllocError>
+    requires { IsRising list.now }
+    ensures { IfOk result (PutsIn list.now node) }
+{
+    let mut nodes = Seq::from_vec(Vec::from_slice(list.allocator(), list.as_slice())?);
+    put_in(&mut nodes, node)?;
+    Ok(nodes)
+}

@@ -1,0 +1,20 @@
+//! Graphs over numbered nodes: edges that are kept both ways, an order that respects them or a
+//! cycle, edges that are refused where they would close a cycle, and numbers for names. It answers
+//! to the paths and cycles of `specs/Paths.antt`, and knows nothing of what its nodes stand for.
+#![tactic(auto)]
+
+mod closing;
+mod edges;
+mod listing;
+mod marks;
+mod numbering;
+mod rising;
+mod searching;
+#[cfg(test)]
+mod tests;
+
+pub use closing::Added;
+pub use edges::Graph;
+pub use listing::Order;
+pub use numbering::Names;
+pub use rising::put_in;

@@ -1,0 +1,42 @@
+-- Lists made of each item and its place, one item more.
+use Rattle.std.proofs.Common.{◌≡◌, ℕ, zero, suc, ◌+◌, ◌<◌, ◌≤◌, Bool, true, false, List, [], ◌∷◌, ◌++◌, length, get_or, take, refl, sym, ap, ◌∙◌, append_assoc, arith}
+use Rattle.std.proofs.lemmas.List.{append-nil, take_more, take_all, length-take-le}
+use Rattle.traversal_graph.specs.declared.draft.Draft.{Draft}
+use Rattle.traversal_graph.specs.Candidates.{each_from, each, edge_if}
+use Rattle.traversal_graph.specs.Drafts.{IsDraft, Draws}
+use Rattle.traversal_graph.proofs.DrawLemmas.{Draws-none, Draws-append}
+
+each_from-push : {A : Type 0} (place : ℕ) (xs : List A) (x : A) (f : ℕ → A → List (ℕ × ℕ))
+    → each_from place (xs ++ x ∷ []) f ≡ each_from place xs f ++ f (place + length xs) x
+each_from-push {A = A} place [] x f =
+    let e : place ≡ place + length {A = A} [] = omega arith in append-nil (f place x) ∙ ap (λ (p : ℕ). f p x) e
+each_from-push place (y ∷ ys) x f =
+    let e : (place + 1) + length ys ≡ place + length (y ∷ ys) = omega arith in
+    ap (λ (l : List (ℕ × ℕ)). f place y ++ l) (each_from-push (place + 1) ys x f ∙ ap (λ (p : ℕ). each_from (place + 1) ys f ++ f p x) e)
+    ∙ sym (append_assoc (f place y) (each_from (place + 1) ys f) (f (place + length (y ∷ ys)) x))
+
+each_more : {A : Type 0} (xs : List A) (i : ℕ) (x : A) (f : ℕ → A → List (ℕ × ℕ)) → i < length xs → x ≡ get_or xs i x
+    → each (take (i + 1) xs) f ≡ each (take i xs) f ++ f i x
+each_more xs i x f lt read =
+    let n : 0 + length (take i xs) ≡ i = omega (arith, length-take-le i xs) in
+    ap (λ l. each_from 0 l f) (take_more xs i x lt ∙ ap (λ y. take i xs ++ y ∷ []) (sym read))
+    ∙ each_from-push 0 (take i xs) x f ∙ ap (λ (p : ℕ). each (take i xs) f ++ f p x) n
+
+-- a loop's step, and its end
+pub Draws-more : {A : Type 0} (xs : List A) (i : ℕ) (x : A) (f : ℕ → A → List (ℕ × ℕ)) (old mid new : Draft) → i < length xs
+    → x ≡ get_or xs i x → Draws (each (take i xs) f) old mid → Draws (f i x) mid new
+    → Draws (each (take (i + 1) xs) f) old new
+Draws-more xs i x f old mid new lt read a b = rw (each_more xs i x f lt read) (Draws-append (each (take i xs) f) (f i x) old mid new a b)
+
+pub Draws-all : {A : Type 0} (xs : List A) (i : ℕ) (f : ℕ → A → List (ℕ × ℕ)) (old new : Draft) → length xs ≤ i
+    → Draws (each (take i xs) f) old new → Draws (each xs f) old new
+Draws-all xs i f old new le h = rw (take_all i xs le) at h
+
+-- an edge, where the test passes
+pub Draws-if : (passes : Bool) (before after : ℕ) (old new : Draft) → passes ≡ true
+    → Draws ((before, after) ∷ []) old new → Draws (edge_if passes before after) old new
+Draws-if passes before after old new e h = rw e h
+
+pub Draws-unless : (passes : Bool) (before after : ℕ) (draft : Draft) → passes ≡ false
+    → IsDraft draft → Draws (edge_if passes before after) draft draft
+Draws-unless passes before after draft e h = rw e (Draws-none draft h)

@@ -1,0 +1,5 @@
+pub mod DrawLemmas
+pub mod EachLemmas
+pub mod ListLemmas
+pub mod NodeLemmas
+pub mod PlaceLemmas

@@ -1,0 +1,4 @@
+pub mod Builds
+pub mod Candidates
+pub mod Nodes
+pub mod Drafts

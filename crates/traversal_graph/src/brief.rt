@@ -1,0 +1,26 @@
+//! What a graph is built from, of each row of the stack.
+
+use heat_plan::{ResName, RowNo};
+use heat_value::{Seq, TryCopy};
+use std::alloc::AllocError;
+
+/// A row as the graph sees it.
+#[derive(Debug, Drop)]
+pub struct RowBrief {
+    pub no: RowNo,
+    pub name: ResName,
+    pub requires_: Seq<RowNo>,
+    pub replaces: Option<RowNo>,
+}
+
+impl TryCopy for RowBrief {
+    fn copy(&self) -> Result<RowBrief, AllocError> {
+        let required = self.requires_.as_slice();
+        Ok(RowBrief {
+            no: self.no,
+            name: self.name.copy()?,
+            requires_: Seq::from_vec(Vec::from_slice(self.requires_.allocator(), required)?),
+            replaces: self.replaces,
+        })
+    }
+}

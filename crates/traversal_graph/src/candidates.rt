@@ -1,0 +1,174 @@
+//! The edges that a graph may have, sort by sort, in the order in which they are tried.
+
+ghost use Rattle.std.specs.Prelude.{◌≡◌, ◌==◌, ◌+◌, ◌<◌, ◌≤◌, false, length, OnOk};
+ghost use Rattle.std.specs.Option.{option_map_or};
+ghost use Rattle.traversal_graph.specs.Candidates.{place_of, need_edges, needs_into, row_edges, rows_behind, require_edges, required_behind, replace_edges, replaced_behind};
+ghost use Rattle.traversal_graph.specs.Drafts.{IsDraft, Draws};
+
+use crate::RowBrief;
+use crate::draft::Draft;
+use heat_plan::{Item, ResName, RowNo};
+use std::alloc::AllocError;
+
+/// From each item that an item needs to that item.
+pub(crate) fn add_needs(draft: &mut Draft, items: &[Item]) -> Result<(), AllocError>
+    requires draft { IsDraft draft.old }
+    requires size { length items.now ≤ length draft.old.graph }
+    ensures { OnOk result (Draws (need_edges items.now) draft.old draft.new) }
+{
+    for (place, item) in items.iter().enumerate() {
+        add_needs_of(draft, items, place as u32, item)?;
+    }
+    Ok(())
+}
+
+/// From each item that one item needs to that item.
+fn add_needs_of(
+    draft: &mut Draft,
+    items: &[Item],
+    place: u32,
+    item: &Item,
+) -> Result<(), AllocError>
+    requires draft { IsDraft draft.old }
+    requires size { length items.now ≤ length draft.old.graph }
+    requires place { place < length items.now }
+    ensures { OnOk result (Draws (needs_into items.now place item.now) draft.old draft.new) }
+{
+    for need in item.needs.as_slice() {
+        let before = place_of_name(items, need);
+        if before < items.len() {
+            draft.draw(before as u32, place)?;
+        }
+    }
+    Ok(())
+}
+
+/// The place of the item of a name, and past all items where there is none.
+fn place_of_name(items: &[Item], name: &ResName) -> usize
+    ensures { result ≡ place_of items.now name.now }
+{
+    for (place, item) in items.iter().enumerate() {
+        if *name == item.name {
+            return place;
+        }
+    }
+    items.len()
+}
+
+/// From each item to the rows of its name.
+pub(crate) fn add_rows(
+    draft: &mut Draft,
+    items: &[Item],
+    rows: &[RowBrief],
+) -> Result<(), AllocError>
+    requires draft { IsDraft draft.old }
+    requires size { length items.now + length rows.now ≤ length draft.old.graph }
+    ensures { OnOk result (Draws (row_edges items.now rows.now) draft.old draft.new) }
+{
+    let first = items.len() as u32;
+    for (place, item) in items.iter().enumerate() {
+        add_rows_behind(draft, first, rows, place as u32, item)?;
+    }
+    Ok(())
+}
+
+/// From one item to the rows of its name.
+fn add_rows_behind(
+    draft: &mut Draft,
+    first: u32,
+    rows: &[RowBrief],
+    place: u32,
+    item: &Item,
+) -> Result<(), AllocError>
+    requires draft { IsDraft draft.old }
+    requires size { first + length rows.now ≤ length draft.old.graph }
+    requires place { place < length draft.old.graph }
+    ensures { OnOk result (Draws (rows_behind first rows.now place item.now) draft.old draft.new) }
+{
+    for (r, row) in rows.iter().enumerate() {
+        draft.draw_if(row.name == item.name, place, first + r as u32)?;
+    }
+    Ok(())
+}
+
+/// From each row to the rows that it requires.
+pub(crate) fn add_requires(
+    draft: &mut Draft,
+    first: u32,
+    rows: &[RowBrief],
+) -> Result<(), AllocError>
+    requires draft { IsDraft draft.old }
+    requires size { first + length rows.now ≤ length draft.old.graph }
+    ensures { OnOk result (Draws (require_edges first rows.now) draft.old draft.new) }
+{
+    for (r, row) in rows.iter().enumerate() {
+        add_required_behind(draft, first, rows, r, row)?;
+    }
+    Ok(())
+}
+
+/// From one row to the rows that it requires.
+fn add_required_behind(
+    draft: &mut Draft,
+    first: u32,
+    rows: &[RowBrief],
+    r: usize,
+    row: &RowBrief,
+) -> Result<(), AllocError>
+    requires draft { IsDraft draft.old }
+    requires size { first + length rows.now ≤ length draft.old.graph }
+    requires place { r < length rows.now }
+    ensures { OnOk result (Draws (required_behind first rows.now r row.now) draft.old draft.new) }
+{
+    for (q, other) in rows.iter().enumerate() {
+        let required = row.requires_.as_slice().contains(&other.no);
+        draft.draw_if(required, first + r as u32, first + q as u32)?;
+    }
+    Ok(())
+}
+
+/// From each row to the row that it replaces.
+pub(crate) fn add_replaces(
+    draft: &mut Draft,
+    first: u32,
+    rows: &[RowBrief],
+) -> Result<(), AllocError>
+    requires draft { IsDraft draft.old }
+    requires size { first + length rows.now ≤ length draft.old.graph }
+    ensures { OnOk result (Draws (replace_edges first rows.now) draft.old draft.new) }
+{
+    for (r, row) in rows.iter().enumerate() {
+        add_replaced_behind(draft, first, rows, r, row)?;
+    }
+    Ok(())
+}
+
+/// From one row to the row that it replaces.
+fn add_replaced_behind(
+    draft: &mut Draft,
+    first: u32,
+    rows: &[RowBrief],
+    r: usize,
+    row: &RowBrief,
+) -> Result<(), AllocError>
+    requires draft { IsDraft draft.old }
+    requires size { first + length rows.now ≤ length draft.old.graph }
+    requires place { r < length rows.now }
+    ensures { OnOk result (Draws (replaced_behind first rows.now r row.now) draft.old draft.new) }
+{
+    for (q, other) in rows.iter().enumerate() {
+        let replaced = replaces(row, other.no);
+        draft.draw_if(replaced, first + r as u32, first + q as u32)?;
+    }
+    Ok(())
+}
+
+/// Whether a row replaces the row of a number.
+fn replaces(row: &RowBrief, no: RowNo) -> bool
+    ensures { result ≡ option_map_or (λ old. old == no) row.now.replaces false }
+{
+    match row.replaces {
+        Some(old) => old == no,
+        None => false,
+    }
+}

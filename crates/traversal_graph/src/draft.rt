@@ -1,0 +1,61 @@
+//! A graph while it is drawn: its edges so far, in the order in which they were kept.
+
+ghost use Rattle.std.specs.Prelude.{◌≡◌, ◌<◌, [], ◌∷◌, length, IfOk, OnOk};
+
+use dep_graph::{Added, Graph};
+use heat_value::Seq;
+use std::alloc::{AllocError, Global};
+
+/// The edges kept so far, also as a graph that finds what would close a cycle.
+#[derive(Drop)]
+pub(crate) struct Draft {
+    pub(crate) graph: Graph,
+    pub(crate) edges: Seq<(u32, u32)>,
+}
+
+impl Draft {
+    ghost use Rattle.traversal_graph.specs.Candidates.{edge_if};
+    ghost use Rattle.traversal_graph.specs.Drafts.{IsDraft, IsBareDraft, Draws};
+
+    /// So many nodes and no edge.
+    pub(crate) fn new(alloc: Global, size: u32) -> Result<Draft, AllocError>
+        ensures { IfOk result (IsBareDraft size) }
+    {
+        Ok(Draft {
+            graph: Graph::new(alloc, size)?,
+            edges: Seq::new(alloc),
+        })
+    }
+
+    /// Keeps an edge, unless it would close a cycle.
+    pub(crate) fn draw(&mut self, before: u32, after: u32) -> Result<(), AllocError>
+        requires draft { IsDraft self.old }
+        requires before { before < length self.old.graph }
+        requires after { after < length self.old.graph }
+        ensures { OnOk result (Draws ((before, after) ∷ []) self.old self.new) }
+    {
+        if let Added::WouldClose(_) = self.graph.add_unless_cycle(before, after)? {
+            return Ok(());
+        }
+        self.edges.push((before, after))?;
+        Ok(())
+    }
+
+    /// Keeps an edge where the test passes, unless it would close a cycle.
+    pub(crate) fn draw_if(
+        &mut self,
+        passes: bool,
+        before: u32,
+        after: u32,
+    ) -> Result<(), AllocError>
+        requires draft { IsDraft self.old }
+        requires before { before < length self.old.graph }
+        requires after { after < length self.old.graph }
+        ensures { OnOk result (Draws (edge_if passes before after) self.old self.new) }
+    {
+        if passes {
+            self.draw(before, after)?;
+        }
+        Ok(())
+    }
+}

@@ -1,0 +1,71 @@
+//! The lists that a traversal reads from its graph, each rising.
+
+ghost use Rattle.std.specs.Prelude.{◌≡◌, ◌<◌, ℕ, IfOk, length};
+ghost use Rattle.std.specs.Bool.{OnTrue, OnFalse};
+ghost use Rattle.dep_graph.specs.Lists.{ListsAll};
+ghost use Rattle.traversal_graph.specs.Builds.{Joins};
+
+use crate::TravGraph;
+use dep_graph::put_in;
+use heat_value::Seq;
+use std::alloc::AllocError;
+
+impl TravGraph {
+    /// The nodes into which no edge leads, rising.
+    pub fn leaves(&self) -> Result<Seq<u32>, AllocError>
+        ensures { IfOk result (ListsAll (λ node.
+            (node < length self.now.nodes) × ((before : ℕ) → ¬ Joins self.now.edges before node))) }
+    {
+        let Ok(count) = u32::try_from(self.nodes.len()) else {
+            return Err(AllocError);
+        };
+        let mut leaves = Seq::new(self.nodes.allocator());
+        for node in 0..count {
+            if !is_behind(self.edges.as_slice(), node) {
+                leaves.push(node)?;
+            }
+        }
+        Ok(leaves)
+    }
+
+    /// The nodes from which an edge leads to this one, rising.
+    pub fn preds(&self, node: u32) -> Result<Seq<u32>, AllocError>
+        requires { node < length self.now.nodes }
+        ensures { IfOk result (ListsAll (λ before. Joins self.now.edges before node)) }
+    {
+        let mut preds = Seq::new(self.edges.allocator());
+        for (before, after) in self.edges.as_slice() {
+            if *after == node {
+                put_in(&mut preds, *before)?;
+            }
+        }
+        Ok(preds)
+    }
+
+    /// The nodes to which an edge leads from this one, rising.
+    pub fn succs(&self, node: u32) -> Result<Seq<u32>, AllocError>
+        requires { node < length self.now.nodes }
+        ensures { IfOk result (ListsAll (λ after. Joins self.now.edges node after)) }
+    {
+        let mut succs = Seq::new(self.edges.allocator());
+        for (before, after) in self.edges.as_slice() {
+            if *before == node {
+                put_in(&mut succs, *after)?;
+            }
+        }
+        Ok(succs)
+    }
+}
+
+/// Whether an edge leads into a node.
+fn is_behind(edges: &[(u32, u32)], node: u32) -> bool
+    ensures leads { OnTrue result ((before : ℕ) × Joins edges.now before node) }
+    ensures leaf { OnFalse result ((before : ℕ) → ¬ Joins edges.now before node) }
+{
+    for (_, after) in edges {
+        if *after == node {
+            return true;
+        }
+    }
+    false
+}
