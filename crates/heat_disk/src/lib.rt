@@ -1,0 +1,10 @@
+//! Disks
+#![tactic(auto)]
+
+mod disk;
+mod fuse;
+mod half;
+
+pub use disk::{Disk, DiskFailed};
+pub use fuse::Fuse;
+pub use half::Half;
