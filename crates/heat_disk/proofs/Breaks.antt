@@ -89,3 +89,54 @@ module _ (at : ℕ) (bytes : List ℕ) (s : Side) (sound : MayLeave s s.seen) (w
   -- an image from before the write, torn by it
   pub torn_from : (d : List ℕ) × MayLeave s d × Torn at (length bytes) d image
   torn_from = (old, old_left, old_torn)
+
+module _ (len : ℕ) (s : Side) (sound : MayLeave s s.seen) (within : len ≤ length s.seen) (image : List ℕ) (left : MayLeave (after (cut_to len) s) image) where
+  -- behind the image, what was there at the last sync
+  longer : ℕ → ℕ
+  longer i = cond (nat_lt i (length image)) (get_or image i 0) (get_or s.kept i 0)
+
+  whole : List ℕ
+  whole = tabulate (max s.least (length image)) longer
+
+  length-whole : length whole ≡ max s.least (length image)
+  unfolding whole
+  length-whole = length-tabulate _ _
+
+  whole_at : (i : ℕ) → i < length whole → get_or whole i 0 ≡ longer i
+  unfolding whole
+  whole_at i less = get_or-tabulate _ _ i (omega (arith, length-tabulate (max s.least (length image)) longer))
+
+  longer_front : (i : ℕ) → i < length image → longer i ≡ get_or image i 0
+  unfolding longer
+  longer_front i less = cond-true (nat_lt i (length image)) (get_or image i 0) (get_or s.kept i 0) (lt-ltb i (length image) less)
+
+  longer_behind : (i : ℕ) → length image ≤ i → longer i ≡ get_or s.kept i 0
+  unfolding longer
+  longer_behind i more = cond-false (nat_lt i (length image)) (get_or image i 0) (get_or s.kept i 0) (le-ltb i (length image) more)
+
+  whole_left : MayLeave s whole
+  whole_left = record {
+    no_shorter = omega (arith, length-whole);
+    no_longer = omega (arith, length-whole, left.no_longer, sound.no_longer, sound.no_shorter, length-take len s.seen);
+    stays = λ i less tight. whole_at i less ∙ kept i tight (cases_lt i (length image));
+  }
+    where
+      kept : (i : ℕ) → is_loose s i ≡ false → (i < length image) ⊎ (length image ≤ i) → longer i ≡ get_or s.kept i 0
+      kept i tight (inl front) = longer_front i front ∙ left.stays i front tight
+      kept i tight (inr behind) = longer_behind i behind
+
+  whole_cut : Cut len whole image
+  whole_cut = record {
+    front = is_front image whole (omega (arith, length-whole)) (λ i less. whole_at i (omega (arith, length-whole)) ∙ longer_front i less);
+    no_shorter = omega (arith, length-whole, left.no_shorter, length-take len s.seen);
+  }
+
+  -- an image from before the cut, of which it leaves the front
+  pub cut_from : (d : List ℕ) × MayLeave s d × Cut len d image
+  cut_from = (whole, whole_left, whole_cut)
+
+-- once all is on the disk, a crash leaves what is there
+pub only_resting : (bytes image : List ℕ) → MayLeave (resting bytes) image → image ≡ bytes
+only_resting bytes image left =
+    let same : length image ≡ length bytes = omega (arith, left.no_shorter, left.no_longer) in
+    ext_get_or 0 image bytes same (λ i less. left.stays i less (not_from_true (nat_lt i (length bytes)) (lt-ltb i (length bytes) (omega arith))))

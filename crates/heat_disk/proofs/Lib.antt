@@ -1,2 +1,5 @@
 pub mod Tables
 pub mod Breaks
+pub mod Fillings
+pub mod Logs
+pub mod Replays

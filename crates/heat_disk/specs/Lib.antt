@@ -6,3 +6,5 @@ pub mod Causes
 pub mod Fuse
 pub mod History
 pub mod Sound
+pub mod Replay
+pub mod Events

@@ -1,0 +1,30 @@
+//! Bytes of a file in memory: written over, and read.
+ghost use Rattle.std.specs.Prelude.{◌≡◌, ◌+◌, ◌≤◌, ◌++◌, min, length, take, drop, replicate, IsOk, OnOk, OnErr, vec_len, vec_capacity};
+ghost use Rattle.heat_disk.specs.Images.{overwritten};
+
+use std::alloc::AllocError;
+
+/// Writes these bytes over what stands at this place, and past the end.
+pub(crate) fn overwrite(file: &mut Vec<u8>, at: usize, bytes: &[u8]) -> Result<(), AllocError>
+    ensures ok { OnOk result (file.new.items ≡ overwritten at bytes.now file.old.items) }
+    ensures err { OnErr result (file.new.items ≡ file.old.items) }
+    ensures capacity { vec_capacity file.old ≤ vec_capacity file.new }
+    ensures succeeds { at + length bytes.now ≤ vec_capacity file.old → at ≤ vec_len file.old → IsOk result }
+{
+    let len = file.len();
+    let from = if at < len { at } else { len };
+    let over = if bytes.len() < len - from { bytes.len() } else { len - from };
+    file.extend_from_slice(&bytes[over..])?;
+    file[from..from + over].copy_from_slice(&bytes[..over]);
+    Ok(())
+}
+
+/// Fills the buffer as far as the bytes go, and says how many those are.
+pub(crate) fn fill(buf: &mut [u8], bytes: &[u8]) -> usize
+    ensures count { result ≡ min (length buf.old) (length bytes.now) }
+    ensures bytes { buf.new ≡ take result bytes.now ++ drop result buf.old }
+{
+    let count = if bytes.len() < buf.len() { bytes.len() } else { buf.len() };
+    buf[..count].copy_from_slice(&bytes[..count]);
+    count
+}
