@@ -1,11 +1,15 @@
 -- The longest image of a half with one byte where anything may stand, step by step.
-use Rattle.std.proofs.Common.{◌≡◌, ◌⊎◌, ℕ, ◌+◌, ◌-◌, ◌<◌, ◌≤◌, min, max, Bool, true, false, not, ◌&&◌, ◌||◌, cond, nat_lt, nat_le, List, [], ◌∷◌, ◌++◌, length, get_or, take, drop, replicate, refl, sym, ◌∙◌, ap, inl, inr, ⊎_elim, arith, length-take, length-drop}
+use Rattle.std.proofs.Common.{◌≡◌, ◌⊎◌, ℕ, ◌+◌, ◌-◌, ◌<◌, ◌≤◌, min, max, Bool, true, false, not, ◌&&◌, ◌||◌, cond, nat_lt, nat_le, List, [], ◌∷◌, ◌++◌, length, get_or, take, drop, replicate, Option, Some, None, Result, Ok, Err, IfOk, refl, sym, ◌∙◌, ap, subst, inl, inr, ⊎_elim, arith, length-take, length-drop}
 use Rattle.std.proofs.lemmas.Bool.{cases_lt, cases_Bool, or_cases, or_parts, or_left, or_right, or_from, cond-true, cond-false, and_from, and_left, and_right, lt-ltb, le-ltb, le-leb, lt-leb, not_from_true}
 use Rattle.std.proofs.lemmas.List.{ext_get_or, get_or-replicate, length-replicate}
+use Rattle.heat_disk.specs.declared.half.Half.{Half}
+use Rattle.heat_disk.specs.declared.half.Half.TheVariants.{First, Second}
+use Rattle.heat_disk.specs.Halves.{Pair, part}
 use Rattle.heat_disk.specs.Images.{overwritten}
-use Rattle.heat_disk.specs.History.{Step, wrote, cut_to, synced, Side, resting, moved, after, is_in, is_loose, MayLeave, tabulate, filled}
+use Rattle.heat_disk.specs.Memory.{Kept, fresh, shown_by}
+use Rattle.heat_disk.specs.History.{Step, wrote, cut_to, synced, Side, resting, moved, after, is_in, is_loose, MayLeave, tabulate, filled, Call, side, sides, LeavesPair, image_of}
 use Rattle.heat_disk.specs.Replay.{filled_after}
-use Rattle.heat_disk.specs.Sound.{length-overwritten, overwritten_front, overwritten_range, overwritten_behind, loose_more, tight_from, sound_resting}
+use Rattle.heat_disk.specs.Sound.{length-overwritten, overwritten_front, overwritten_range, overwritten_behind, loose_more, tight_from, sound_resting, sound_side, sound_sides}
 use Rattle.heat_disk.proofs.Tables.{length-tabulate, get_or-tabulate}
 
 pub length-filled : (b : ℕ) (s : Side) → length (filled b s) ≡ s.greatest
@@ -120,3 +124,21 @@ filled-after b (cut_to len) s sound =
     let same : (after (cut_to len) s).greatest ≡ s.greatest = omega (arith, length-take len s.seen, sound.no_longer) in
     ap (λ (n : ℕ). tabulate n (λ i. cond (is_loose s i) b (get_or s.kept i 0))) same
 filled-after b synced s sound = filled-resting b s.seen
+
+-- both images of a crash are among those that it may leave
+filled_side : (half : Half) (start : List ℕ) (calls : List Call) (b : ℕ) → MayLeave (side half start calls) (filled b (side half start calls))
+filled_side half start calls b = let sound = sound_side half start calls in filled_left b (side half start calls) (omega (arith, sound.no_shorter, sound.no_longer))
+
+pub image_may_be_left : (fill : Option ℕ) (start : Pair) (calls : List Call) → LeavesPair (sides start calls) (image_of fill (sides start calls))
+image_may_be_left None start calls = sound_sides start calls
+image_may_be_left (Some b) start calls = (filled_side First start.0 calls b, filled_side Second start.1 calls b)
+
+pub image_left : {E : Type 0} (fill : Option ℕ) (disk : Kept) (first second : List ℕ) (result : Result Kept E)
+    → first ≡ part First (image_of fill (sides disk.start disk.calls)) → second ≡ part Second (image_of fill (sides disk.start disk.calls))
+    → IfOk result (λ crashed. crashed ≡ fresh (first, second) []) → IfOk result (λ crashed. (shown_by disk).may_leave (shown_by crashed).seen)
+image_left what disk first second (Err e) a b is = tt
+image_left what disk first second (Ok crashed) a b is =
+    let left = image_may_be_left what disk.start disk.calls in
+    subst (λ (d : Kept). (shown_by disk).may_leave (shown_by d).seen) (sym is)
+      (subst (λ (l : List ℕ). LeavesPair (sides disk.start disk.calls) (l, second)) (sym a)
+        (subst (λ (l : List ℕ). LeavesPair (sides disk.start disk.calls) ((image_of what (sides disk.start disk.calls)).0, l)) (sym b) left))

@@ -3,3 +3,4 @@ pub mod Breaks
 pub mod Fillings
 pub mod Logs
 pub mod Replays
+pub mod Done

@@ -8,3 +8,5 @@ pub mod History
 pub mod Sound
 pub mod Replay
 pub mod Events
+pub mod Memory
+pub mod Stored

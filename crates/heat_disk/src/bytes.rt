@@ -1,6 +1,6 @@
 //! Bytes of a file in memory: written over, and read.
 ghost use Rattle.std.specs.Prelude.{◌≡◌, ◌+◌, ◌≤◌, ◌++◌, min, length, take, drop, replicate, IsOk, OnOk, OnErr, vec_len, vec_capacity};
-ghost use Rattle.heat_disk.specs.Images.{overwritten};
+ghost use Rattle.heat_disk.specs.Images.{overwritten, Fills};
 
 use std::alloc::AllocError;
 
@@ -19,12 +19,14 @@ pub(crate) fn overwrite(file: &mut Vec<u8>, at: usize, bytes: &[u8]) -> Result<(
     Ok(())
 }
 
-/// Fills the buffer as far as the bytes go, and says how many those are.
-pub(crate) fn fill(buf: &mut [u8], bytes: &[u8]) -> usize
-    ensures count { result ≡ min (length buf.old) (length bytes.now) }
-    ensures bytes { buf.new ≡ take result bytes.now ++ drop result buf.old }
+/// Puts the bytes from this place on in front of the buffer, as far as both go, and says how many.
+pub(crate) fn fill(buf: &mut [u8], bytes: &[u8], at: usize) -> usize
+    ensures count { result ≤ length buf.old }
+    ensures fills { Fills bytes.now at buf.old buf.new result }
 {
-    let count = if bytes.len() < buf.len() { bytes.len() } else { buf.len() };
-    buf[..count].copy_from_slice(&bytes[..count]);
+    let from = if at < bytes.len() { at } else { bytes.len() };
+    let rest = &bytes[from..];
+    let count = if rest.len() < buf.len() { rest.len() } else { buf.len() };
+    buf[..count].copy_from_slice(&rest[..count]);
     count
 }

@@ -2,11 +2,15 @@
 #![tactic(auto)]
 
 mod bytes;
+mod content;
 mod disk;
 mod fuse;
 mod half;
 mod history;
+mod memory;
+mod memory_disk;
 
 pub use disk::{Disk, DiskFailed};
 pub use fuse::Fuse;
 pub use half::Half;
+pub use memory::MemDisk;
