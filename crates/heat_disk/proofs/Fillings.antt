@@ -1,12 +1,12 @@
 -- The longest image of a half with one byte where anything may stand, step by step.
-use Rattle.std.proofs.Common.{◌≡◌, ◌⊎◌, ℕ, ◌+◌, ◌-◌, ◌<◌, ◌≤◌, min, max, Bool, true, false, not, ◌&&◌, ◌||◌, cond, nat_lt, nat_le, List, [], ◌∷◌, ◌++◌, length, get_or, take, drop, replicate, Option, Some, None, Result, Ok, Err, IfOk, refl, sym, ◌∙◌, ap, subst, inl, inr, ⊎_elim, arith, length-take, length-drop}
+use Rattle.std.proofs.Common.{◌≡◌, ◌⊎◌, ℕ, ◌+◌, ◌-◌, ◌<◌, ◌≤◌, min, max, Bool, true, false, not, ◌&&◌, ◌||◌, cond, nat_lt, nat_le, List, [], ◌∷◌, ◌++◌, length, get_or, take, drop, replicate, Option, Some, None, Result, Ok, Err, IfOk, IsSome, refl, sym, ◌∙◌, ap, subst, inl, inr, ⊎_elim, arith, length-take, length-drop}
 use Rattle.std.proofs.lemmas.Bool.{cases_lt, cases_Bool, or_cases, or_parts, or_left, or_right, or_from, cond-true, cond-false, and_from, and_left, and_right, lt-ltb, le-ltb, le-leb, lt-leb, not_from_true}
 use Rattle.std.proofs.lemmas.List.{ext_get_or, get_or-replicate, length-replicate}
 use Rattle.heat_disk.specs.declared.half.Half.{Half}
 use Rattle.heat_disk.specs.declared.half.Half.TheVariants.{First, Second}
 use Rattle.heat_disk.specs.Halves.{Pair, part}
 use Rattle.heat_disk.specs.Images.{overwritten}
-use Rattle.heat_disk.specs.Memory.{Kept, fresh, shown_by}
+use Rattle.heat_disk.specs.Memory.{Kept, fresh, shown_by, IsLongest}
 use Rattle.heat_disk.specs.History.{Step, wrote, cut_to, synced, Side, resting, moved, after, is_in, is_loose, MayLeave, tabulate, filled, Call, side, sides, LeavesPair, image_of}
 use Rattle.heat_disk.specs.Replay.{filled_after}
 use Rattle.heat_disk.specs.Sound.{length-overwritten, overwritten_front, overwritten_range, overwritten_behind, loose_more, tight_from, sound_resting, sound_side, sound_sides}
@@ -142,3 +142,14 @@ image_left what disk first second (Ok crashed) a b is =
     subst (λ (d : Kept). (shown_by disk).may_leave (shown_by d).seen) (sym is)
       (subst (λ (l : List ℕ). LeavesPair (sides disk.start disk.calls) (l, second)) (sym a)
         (subst (λ (l : List ℕ). LeavesPair (sides disk.start disk.calls) ((image_of what (sides disk.start disk.calls)).0, l)) (sym b) left))
+
+-- and with a byte for the free places, none is longer
+pub image_longest : {E : Type 0} (fill : Option ℕ) → IsSome fill → (disk : Kept) (first second : List ℕ) (result : Result Kept E)
+    → first ≡ part First (image_of fill (sides disk.start disk.calls)) → second ≡ part Second (image_of fill (sides disk.start disk.calls))
+    → IfOk result (λ crashed. crashed ≡ fresh (first, second) []) → IfOk result (IsLongest (shown_by disk))
+image_longest None some disk first second result a b is = cc
+image_longest (Some byte) some disk first second (Err e) a b is = tt
+image_longest (Some byte) some disk first second (Ok crashed) a b is = record {
+  first = λ c left. omega (arith, filled_longest byte (side First disk.start.0 disk.calls) c.0 left.0, ap length a, ap (λ (d : Kept). length (shown_by d).seen.0) is);
+  second = λ c left. omega (arith, filled_longest byte (side Second disk.start.1 disk.calls) c.1 left.1, ap length b, ap (λ (d : Kept). length (shown_by d).seen.1) is);
+}

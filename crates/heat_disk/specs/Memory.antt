@@ -1,5 +1,5 @@
 -- A disk in memory, as data: what it began with, its calls, and which of them fail.
-use Rattle.std.specs.Prelude.{◌≡◌, ℕ, ◌+◌, ◌-◌, ◌^◌, min, max, Bool, true, cond, ◌&&◌, ◌==◌, nat_lt, List, [], ◌∷◌, length, Result, is_err}
+use Rattle.std.specs.Prelude.{◌≡◌, ℕ, ◌+◌, ◌-◌, ◌≤◌, ◌^◌, min, max, Bool, true, cond, ◌&&◌, ◌==◌, nat_lt, List, [], ◌∷◌, length, Result, is_err}
 use Rattle.std.specs.List.{list_any}
 use Rattle.heat_disk.specs.declared.half.Half.{Half}
 use Rattle.heat_disk.specs.Halves.{Pair, part, changed}
@@ -93,3 +93,8 @@ wider half end bytes calls disk = record {
 pub record IsNumbered {T E : Type 0} (work : Kept → Kept) (result : Result T E) (old new : Kept) : Type 0 where
   pub fails : is_err result ≡ fails_next old
   pub after : new ≡ cond (fails_next old) (counted old) (work (counted old))
+
+-- no image that a crash of the first may leave has a longer half
+pub record IsLongest (disk : Shown) (crashed : Kept) : Type 0 where
+  pub first : (c : Pair) → disk.may_leave c → length c.0 ≤ length (shown_by crashed).seen.0
+  pub second : (c : Pair) → disk.may_leave c → length c.1 ≤ length (shown_by crashed).seen.1

@@ -1,11 +1,11 @@
 //! A disk in memory. It keeps a list of all its writes, cuts and syncs, so it tells what a crash may
 //! leave at each moment, and can crash. The calls whose numbers are listed fail, and change nothing.
-ghost use Rattle.std.specs.Prelude.{is_err, ◌≡◌, ◌≤◌, ◌+◌, max, [], Option, None, IfOk, OnOk, OnErr, IsTrue, length};
+ghost use Rattle.std.specs.Prelude.{is_err, IsSome, ◌≡◌, ◌≤◌, ◌+◌, max, [], Option, None, IfOk, OnOk, OnErr, IsTrue, length};
 ghost use Rattle.heat_disk.specs.Halves.{Pair, part, beside, changed};
 ghost use Rattle.heat_disk.specs.Shown.{HasRoom};
 ghost use Rattle.heat_disk.specs.Causes.{HasCause};
 ghost use Rattle.heat_disk.specs.History.{wrote, cut_to, synced, sides, image_of, side};
-ghost use Rattle.heat_disk.specs.Memory.{fails_next, fresh, shown_by, counted, done, wider, IsNumbered};
+ghost use Rattle.heat_disk.specs.Memory.{fails_next, fresh, shown_by, counted, done, wider, IsLongest, IsNumbered};
 
 use crate::content::Content;
 use crate::half::Half;
@@ -172,6 +172,7 @@ impl MemDisk {
     pub fn crash(&self, fill: Option<u8>) -> Result<MemDisk, AllocError>
         ensures image { IfOk result (λ disk. disk ≡ fresh (image_of fill (sides self.now.start self.now.calls)) []) }
         ensures may_be_left { IfOk result (λ disk. (shown_by self.now).may_leave (shown_by disk).seen) }
+        ensures longest { IsSome fill → IfOk result (IsLongest (shown_by self.now)) }
     {
         let first = self.image(Half::First, fill)?;
         let second = self.image(Half::Second, fill)?;

@@ -5,7 +5,7 @@ ghost use Rattle.heat_disk.specs.Shown.{HasRoom, IsLeft, IsAtLeast, Spends, Same
 ghost use Rattle.heat_disk.specs.Calls.{Measures, Reads, Writes, Cuts, Syncs};
 ghost use Rattle.heat_disk.specs.Causes.{HasCause};
 ghost use Rattle.heat_disk.specs.History.{wrote, cut_to, synced, sides, image_of};
-ghost use Rattle.heat_disk.specs.Memory.{shown_by, done, IsNumbered};
+ghost use Rattle.heat_disk.specs.Memory.{shown_by, done, wider, IsNumbered};
 ghost use Rattle.heat_disk.specs.Sound.{lawful_history};
 
 use crate::bytes::fill;
@@ -88,6 +88,8 @@ impl Disk for MemDisk {
     }
 
     fn room(&mut self, half: Half, end: u64, bytes: u64, calls: u64) -> Result<(), AllocError>
+        ensures exact { OnOk result (self.new ≡ wider half end bytes calls self.old) }
+        ensures same { OnErr result (self.new ≡ self.old) }
         ensures made { OnOk result (IsAtLeast end bytes calls (part half (shown_by self.new).room)) }
         ensures kept { IsLeft 0 0 (part half (shown_by self.old).room) (part half (shown_by self.new).room) }
         ensures other { beside half (shown_by self.new).room ≡ beside half (shown_by self.old).room }
