@@ -1,0 +1,4 @@
+pub mod Sameness
+pub mod Lists
+pub mod Conversions
+pub mod Puts

@@ -1,0 +1,10 @@
+pub mod Data
+pub mod Code
+pub mod Meaning
+pub mod Falls
+pub mod Compact
+pub mod Coercion
+pub mod Path
+pub mod Reading
+pub mod Places
+pub mod Lending

@@ -1,0 +1,20 @@
+//! Texts, lists and JSON values for all crates above, which contracts see as plain data.
+//! A value is read exactly as `serde_json` reads it, and written as compact JSON; no grammar of JSON
+//! stands here. No call changes anything but its arguments.
+#![tactic(auto)]
+
+mod copying;
+mod fault;
+mod path;
+mod seq;
+mod text;
+mod value;
+
+pub use copying::TryCopy;
+pub use fault::ValueFault;
+pub use path::{Path, Step};
+pub use seq::Seq;
+pub use text::Text;
+pub use value::coercion::text_of;
+pub use value::reading::MAX_DEPTH;
+pub use value::{Entry, Items, Props, Value};
