@@ -10,3 +10,4 @@ pub mod Replay
 pub mod Events
 pub mod Memory
 pub mod Stored
+pub mod Files

@@ -4,6 +4,7 @@
 mod bytes;
 mod content;
 mod disk;
+mod file;
 mod fuse;
 mod half;
 mod history;
@@ -11,6 +12,7 @@ mod memory;
 mod memory_disk;
 
 pub use disk::{Disk, DiskFailed};
+pub use file::FileDisk;
 pub use fuse::Fuse;
 pub use half::Half;
 pub use memory::MemDisk;
