@@ -4,3 +4,5 @@ pub mod Fillings
 pub mod Logs
 pub mod Replays
 pub mod Done
+pub mod Moments
+pub mod Parts
