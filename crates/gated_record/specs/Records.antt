@@ -1,5 +1,5 @@
 -- What the bytes of a half stand for: records of a key and a value, each behind a gate.
-use Rattle.std.specs.Prelude.{◌≡◌, ◌⊎◌, ℕ, List, [], ◌∷◌, ◌++◌, if◌then◌else◌, ◌==◌}
+use Rattle.std.specs.Prelude.{◌≡◌, ◌⊎◌, ℕ, List, [], ◌∷◌, ◌++◌, ◌≤◌, length, take, if◌then◌else◌, ◌==◌}
 
 -- a record's key and value
 abbrev pub Record : Type 0
@@ -22,3 +22,7 @@ at_rest records = written records ++ 0 ∷ []
 -- the bytes stand for these records, with one more or without it
 abbrev pub IsWithOrWithout : List Record → Record → List ℕ → Type 0
 IsWithOrWithout records pair bytes = (recovered bytes ≡ records) ⊎ (recovered bytes ≡ records ++ pair ∷ [])
+
+-- the bytes stand for these records, with so many of the others behind them
+abbrev pub IsGrown : List Record → List Record → List ℕ → Type 0
+IsGrown records others bytes = (n : ℕ) × (n ≤ length others) × (recovered bytes ≡ records ++ take n others)

@@ -7,4 +7,4 @@ mod fault;
 mod log;
 
 pub use fault::LogFault;
-pub use log::Log;
+pub use log::{Log, MAX_RECORDS, start};

@@ -1,9 +1,10 @@
 -- Each image after a step of a half is an image from before it that went through the step.
-use Rattle.std.proofs.Common.{◌≡◌, ◌⊎◌, ℕ, ◌+◌, ◌-◌, ◌<◌, ◌≤◌, min, max, Bool, true, false, ◌&&◌, cond, nat_lt, nat_le, List, [], ◌∷◌, ◌++◌, length, get_or, take, drop, refl, sym, ◌∙◌, ap, inl, inr, ⊎_elim, arith, length-take, length-drop}
+use Rattle.std.proofs.Common.{◌≡◌, ◌⊎◌, ℕ, ◌+◌, ◌-◌, ◌<◌, ◌≤◌, min, max, Bool, true, false, ◌&&◌, cond, nat_lt, nat_le, List, [], ◌∷◌, ◌++◌, length, get_or, take, drop, refl, sym, ◌∙◌, ap, subst, inl, inr, ⊎_elim, arith, length-take, length-drop}
 use Rattle.std.proofs.lemmas.Bool.{cases_lt, or_parts, cond-true, cond-false, and_from, and_left, and_right, lt-ltb, le-ltb, le-leb, lt-leb, not_from_true, not-false}
 use Rattle.std.proofs.lemmas.List.{ext_get_or, get_or-take, get_or-drop, drop_all}
 use Rattle.heat_disk.specs.Images.{overwritten, Torn, Cut}
-use Rattle.heat_disk.specs.History.{wrote, cut_to, synced, Side, resting, moved, after, is_in, is_loose, MayLeave, tabulate}
+use Rattle.heat_disk.specs.History.{wrote, cut_to, synced, Side, resting, moved, after, is_in, is_loose, MayLeave, tabulate, Call, sides, seen_of, LeavesPair}
+use Rattle.heat_disk.specs.Halves.{Pair}
 use Rattle.heat_disk.specs.Sound.{length-overwritten, loose_more, tight_from}
 use Rattle.heat_disk.proofs.Tables.{length-tabulate, get_or-tabulate, is_front, same_rest}
 
@@ -140,3 +141,9 @@ pub only_resting : (bytes image : List ℕ) → MayLeave (resting bytes) image �
 only_resting bytes image left =
     let same : length image ≡ length bytes = omega (arith, left.no_shorter, left.no_longer) in
     ext_get_or 0 image bytes same (λ i less. left.stays i less (not_from_true (nat_lt i (length bytes)) (lt-ltb i (length bytes) (omega arith))))
+
+-- before its first call a disk leaves what it reads as
+pub fresh_durable : (start : Pair) (calls : List Call) → calls ≡ [] → (c : Pair) → LeavesPair (sides start calls) c → c ≡ seen_of (sides start calls)
+fresh_durable start calls none =
+    subst (λ (l : List Call). (c : Pair) → LeavesPair (sides start l) c → c ≡ seen_of (sides start l)) (sym none)
+      (λ c left. ap (λ (l : List ℕ). (l, c.1)) (only_resting start.0 c.0 left.0) ∙ ap (λ (l : List ℕ). (start.0, l)) (only_resting start.1 c.1 left.1))

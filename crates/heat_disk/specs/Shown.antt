@@ -71,6 +71,10 @@ pub record IsLawful (disk : Shown) : Type 0 where
   -- since an earlier moment there are at least as many
   pub widens : (t u : ℕ) (c : Pair) → t ≤ u → disk.left_since u c → disk.left_since t c
 
+-- a crash now leaves both halves as they read
+abbrev pub IsDurable : Shown → Type 0
+IsDurable disk = (c : Pair) → disk.may_leave c → c ≡ disk.seen
+
 -- A crash at any moment since old leaves an image that has P.
 pub record LeavesOnly (old new : Shown) (P : Pair → Type 0) : Type 0 where
   pub later : old.moment ≤ new.moment

@@ -2,7 +2,7 @@
 //! leave at each moment, and can crash. The calls whose numbers are listed fail, and change nothing.
 ghost use Rattle.std.specs.Prelude.{is_err, IsSome, ◌≡◌, ◌≤◌, ◌+◌, max, [], Option, None, IfOk, OnOk, OnErr, IsTrue, length};
 ghost use Rattle.heat_disk.specs.Halves.{Pair, part, beside, changed};
-ghost use Rattle.heat_disk.specs.Shown.{HasRoom};
+ghost use Rattle.heat_disk.specs.Shown.{HasRoom, IsDurable};
 ghost use Rattle.heat_disk.specs.Causes.{HasCause};
 ghost use Rattle.heat_disk.specs.History.{wrote, cut_to, synced, sides, image_of, side};
 ghost use Rattle.heat_disk.specs.Memory.{fails_next, fresh, shown_by, counted, done, wider, IsLongest, IsNumbered};
@@ -39,7 +39,8 @@ impl Model for MemDisk {
 impl MemDisk {
     /// An empty disk, of which the calls with these numbers fail. The first call has the number 1.
     pub fn new(alloc: Global, fails: &[u64]) -> Result<MemDisk, AllocError>
-        ensures { IfOk result (λ disk. disk ≡ fresh ([], []) fails.now) }
+        ensures fresh { IfOk result (λ disk. disk ≡ fresh ([], []) fails.now) }
+        ensures durable { IfOk result (λ disk. IsDurable (shown_by disk)) }
     {
         MemDisk::holding(alloc, &[], &[], fails)
     }
@@ -51,7 +52,8 @@ impl MemDisk {
         second: &[u8],
         fails: &[u64],
     ) -> Result<MemDisk, AllocError>
-        ensures { IfOk result (λ disk. disk ≡ fresh (first.now, second.now) fails.now) }
+        ensures fresh { IfOk result (λ disk. disk ≡ fresh (first.now, second.now) fails.now) }
+        ensures durable { IfOk result (λ disk. IsDurable (shown_by disk)) }
     {
         Ok(MemDisk {
             first: Content::new(alloc, first)?,
@@ -171,6 +173,7 @@ impl MemDisk {
     /// any byte may stand, and all others as they are.
     pub fn crash(&self, fill: Option<u8>) -> Result<MemDisk, AllocError>
         ensures image { IfOk result (λ disk. disk ≡ fresh (image_of fill (sides self.now.start self.now.calls)) []) }
+        ensures durable { IfOk result (λ disk. IsDurable (shown_by disk)) }
         ensures may_be_left { IfOk result (λ disk. (shown_by self.now).may_leave (shown_by disk).seen) }
         ensures longest { IsSome fill → IfOk result (IsLongest (shown_by self.now)) }
     {
