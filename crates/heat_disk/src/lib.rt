@@ -10,6 +10,8 @@ mod half;
 mod history;
 mod memory;
 mod memory_disk;
+#[cfg(test)]
+mod tests;
 
 pub use disk::{Disk, DiskFailed};
 pub use file::FileDisk;

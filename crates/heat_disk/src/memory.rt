@@ -75,6 +75,13 @@ impl MemDisk {
         }
     }
 
+    /// How many of its calls have failed.
+    pub fn faults(&self) -> u64
+        ensures { result ≡ self.now.faults }
+    {
+        self.faults
+    }
+
     /// Numbers a call, and fails it where the number is listed.
     pub(crate) fn count(&mut self) -> Result<(), DiskFailed>
         ensures fails { is_err result ≡ fails_next self.old }
