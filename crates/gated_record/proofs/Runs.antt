@@ -19,7 +19,7 @@ begins half count old others law rest = record {
   rest = rest;
   records = sym (append-nil (records_of half old));
   leaves = started old (λ c. IsGrown (records_of half old) others (part half c)) law
-    (λ c now. (0, omega arith, ap recovered (rest.durable c now) ∙ sym (append-nil (records_of half old))));
+      (λ c now. (0, omega arith, ap recovered (rest.durable c now) ∙ sym (append-nil (records_of half old))));
 }
 
 module _ (half : Half) (count : ℕ) (old mid new : Shown) (others : List Record) (i : ℕ) (d : Record) (less : i < length others) (so_far : IsRun half count old mid others i)

@@ -56,7 +56,7 @@ module _ (half : Half) (count key value : ℕ) (old : Shown) (law : IsLawful old
       without c now =
           let from = writes.crash c now in
           torn_behind (records_of half old) count rest.count_is (part half c)
-            (subst (λ (l : List ℕ). Torn (3 * count + 1) 3 l (part half c)) (only_rest from.0 from.1) from.2.0)
+          (subst (λ (l : List ℕ). Torn (3 * count + 1) 3 l (part half c)) (only_rest from.0 from.1) from.2.0)
 
       at_first : SoFar old first Either
       at_first = next old roomed first Either at_roomed writes.time (λ c now. inl (without c now))
@@ -90,7 +90,7 @@ module _ (half : Half) (count key value : ℕ) (old : Shown) (law : IsLawful old
             with_or_without c now =
                 let from = opens.crash c now in
                 torn_gate (records_of half old) count rest.count_is key value (part half c)
-                  (subst (λ (l : List ℕ). Torn (3 * count) 1 l (part half c)) (durable from.0 from.1 ∙ first_is) from.2.0)
+                (subst (λ (l : List ℕ). Torn (3 * count) 1 l (part half c)) (durable from.0 from.1 ∙ first_is) from.2.0)
 
             at_third : SoFar old third Either
             at_third = next old staged_on third Either at_staged opens.time with_or_without

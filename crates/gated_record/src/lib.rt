@@ -5,6 +5,8 @@
 
 mod fault;
 mod log;
+#[cfg(test)]
+mod tests;
 
 pub use fault::LogFault;
 pub use log::{Log, MAX_RECORDS, start};

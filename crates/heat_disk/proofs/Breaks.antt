@@ -25,7 +25,7 @@ healed_in : (at n : ℕ) (s : Side) (image : List ℕ) (i : ℕ) → at ≤ i �
 unfolding healed
 healed_in at n s image i from less =
     cond-true (nat_le at i && nat_lt i (at + n)) (get_or s.kept i 0) (get_or image i 0)
-      (and_from (nat_le at i) (nat_lt i (at + n)) (le-leb at i from) (lt-ltb i (at + n) less))
+    (and_from (nat_le at i) (nat_lt i (at + n)) (le-leb at i from) (lt-ltb i (at + n) less))
 
 module _ (at : ℕ) (bytes : List ℕ) (s : Side) (sound : MayLeave s s.seen) (within : at ≤ length s.seen) (image : List ℕ) (left : MayLeave (after (wrote at bytes) s) image) where
   n : ℕ
@@ -52,7 +52,7 @@ module _ (at : ℕ) (bytes : List ℕ) (s : Side) (sound : MayLeave s s.seen) (w
   tight_there : (i : ℕ) → is_loose s i ≡ false → (i < at) ⊎ (at + length bytes ≤ i) → i < length image → get_or image i 0 ≡ get_or s.kept i 0
   tight_there i tight outside less =
       left.stays i less (tight_from (length (take at s.seen)) (length bytes) s (overwritten at bytes s.seen) i tight
-        (⊎_elim (λ (l : i < at). inl (omega (arith, from_is))) (λ (l : at + length bytes ≤ i). inr (omega (arith, from_is))) outside))
+      (⊎_elim (λ (l : i < at). inl (omega (arith, from_is))) (λ (l : at + length bytes ≤ i). inr (omega (arith, from_is))) outside))
 
   old_left : MayLeave s old
   old_left = record {
@@ -76,16 +76,18 @@ module _ (at : ℕ) (bytes : List ℕ) (s : Side) (sound : MayLeave s s.seen) (w
     where
       longest : length image ≤ max (length old) (at + length bytes)
       longest = omega (arith, length-old, left.no_longer, sound.no_longer, length-overwritten at bytes s.seen, from_is)
+
       same_front : (i : ℕ) → i < length (take at old) → get_or (take at old) i 0 ≡ get_or (take (length (take at old)) image) i 0
       same_front i less =
           get_or-take at old i 0 (omega (arith, length-take at old))
           ∙ old_at i (omega (arith, length-take at old))
           ∙ healed_out at (length bytes) s image i (inl (omega (arith, length-take at old)))
           ∙ sym (get_or-take (length (take at old)) image i 0 less)
+
       ends : (length old < length image) ⊎ (length image ≤ length old) → drop (at + length bytes) image ≡ drop (at + length bytes) old
       ends (inl grown) = drop_all (at + length bytes) image (omega (arith, longest)) ∙ sym (drop_all (at + length bytes) old (omega (arith, longest)))
       ends (inr whole) = same_rest (at + length bytes) image old (omega (arith, length-old))
-        (λ i behind less. sym (old_at i (omega (arith, length-old)) ∙ healed_out at (length bytes) s image i (inr behind)))
+          (λ i behind less. sym (old_at i (omega (arith, length-old)) ∙ healed_out at (length bytes) s image i (inr behind)))
 
   -- an image from before the write, torn by it
   pub torn_from : (d : List ℕ) × MayLeave s d × Torn at (length bytes) d image
@@ -146,4 +148,4 @@ only_resting bytes image left =
 pub fresh_durable : (start : Pair) (calls : List Call) → calls ≡ [] → (c : Pair) → LeavesPair (sides start calls) c → c ≡ seen_of (sides start calls)
 fresh_durable start calls none =
     subst (λ (l : List Call). (c : Pair) → LeavesPair (sides start l) c → c ≡ seen_of (sides start l)) (sym none)
-      (λ c left. ap (λ (l : List ℕ). (l, c.1)) (only_resting start.0 c.0 left.0) ∙ ap (λ (l : List ℕ). (start.0, l)) (only_resting start.1 c.1 left.1))
+    (λ c left. ap (λ (l : List ℕ). (l, c.1)) (only_resting start.0 c.0 left.0) ∙ ap (λ (l : List ℕ). (start.0, l)) (only_resting start.1 c.1 left.1))

@@ -78,14 +78,14 @@ module _ {T E : Type 0} (r : T) (half : Half) (old mid new : Kept) (counts : mid
   pub wrote_kept : (at : ℕ) (bytes : List ℕ) → new ≡ done half (wrote at bytes) mid → at ≤ length (part half (shown_by old).seen) → Writes {T = T} {E = E} half at bytes (Ok r) (shown_by old) (shown_by new)
   wrote_kept at bytes is within =
       subst (λ (d : Kept). Writes {T = T} {E = E} half at bytes (Ok r) (shown_by old) (shown_by d)) (sym (is ∙ ap (done half (wrote at bytes)) counts))
-        (writes old.start old.calls old.room (done half (wrote at bytes) (counted old)).room r half at bytes within)
+      (writes old.start old.calls old.room (done half (wrote at bytes) (counted old)).room r half at bytes within)
 
   pub cut_kept : (len : ℕ) → new ≡ done half (cut_to len) mid → len ≤ length (part half (shown_by old).seen) → Cuts {T = T} {E = E} half len (Ok r) (shown_by old) (shown_by new)
   cut_kept len is within =
       subst (λ (d : Kept). Cuts {T = T} {E = E} half len (Ok r) (shown_by old) (shown_by d)) (sym (is ∙ ap (done half (cut_to len)) counts))
-        (cuts old.start old.calls old.room (done half (cut_to len) (counted old)).room r half len within)
+      (cuts old.start old.calls old.room (done half (cut_to len) (counted old)).room r half len within)
 
   pub synced_kept : new ≡ done half synced mid → Syncs {T = T} {E = E} half (Ok r) (shown_by old) (shown_by new)
   synced_kept is =
       subst (λ (d : Kept). Syncs {T = T} {E = E} half (Ok r) (shown_by old) (shown_by d)) (sym (is ∙ ap (done half synced) counts))
-        (syncs old.start old.calls old.room (done half synced (counted old)).room r half)
+      (syncs old.start old.calls old.room (done half synced (counted old)).room r half)

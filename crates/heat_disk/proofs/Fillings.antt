@@ -39,8 +39,8 @@ filled_longest b s image left = omega (arith, length-filled b s, left.no_longer)
 pub filled-resting : (b : ℕ) (bytes : List ℕ) → filled b (resting bytes) ≡ bytes
 filled-resting b bytes =
     ext_get_or 0 (filled b (resting bytes)) bytes (length-filled b (resting bytes))
-      (λ i less. filled_tight b (resting bytes) i (omega (arith, length-filled b (resting bytes)))
-        (not_from_true (nat_lt i (length bytes)) (lt-ltb i (length bytes) (omega (arith, length-filled b (resting bytes))))))
+    (λ i less. filled_tight b (resting bytes) i (omega (arith, length-filled b (resting bytes)))
+    (not_from_true (nat_lt i (length bytes)) (lt-ltb i (length bytes) (omega (arith, length-filled b (resting bytes))))))
 
 module _ (b at : ℕ) (bytes : List ℕ) (s : Side) (sound : MayLeave s s.seen) where
   from : ℕ
@@ -75,24 +75,24 @@ module _ (b at : ℕ) (bytes : List ℕ) (s : Side) (sound : MayLeave s s.seen) 
   unfolding now
   kept_loose i loose =
       ⊎_elim
-        (λ (e : is_in s.loose i ≡ true). or_left (is_in (after (wrote at bytes) s).loose i) (not (nat_lt i (length s.kept))) (or_right (nat_le (length (take at s.seen)) i && nat_lt i (length (take at s.seen) + length bytes)) (is_in s.loose i) e))
-        (λ (e : not (nat_lt i (length s.kept)) ≡ true). or_right (is_in (after (wrote at bytes) s).loose i) (not (nat_lt i (length s.kept))) e)
-        (or_cases (is_in s.loose i) (not (nat_lt i (length s.kept))) loose)
+      (λ (e : is_in s.loose i ≡ true). or_left (is_in (after (wrote at bytes) s).loose i) (not (nat_lt i (length s.kept))) (or_right (nat_le (length (take at s.seen)) i && nat_lt i (length (take at s.seen) + length bytes)) (is_in s.loose i) e))
+      (λ (e : not (nat_lt i (length s.kept)) ≡ true). or_right (is_in (after (wrote at bytes) s).loose i) (not (nat_lt i (length s.kept))) e)
+      (or_cases (is_in s.loose i) (not (nat_lt i (length s.kept))) loose)
 
   in_range : (i : ℕ) → from ≤ i → i < from + length bytes → is_loose now i ≡ true
   unfolding now from
   in_range i lower upper =
       or_left (is_in (after (wrote at bytes) s).loose i) (not (nat_lt i (length s.kept)))
-        (or_left (nat_le (length (take at s.seen)) i && nat_lt i (length (take at s.seen) + length bytes)) (is_in s.loose i)
-          (and_from (nat_le (length (take at s.seen)) i) (nat_lt i (length (take at s.seen) + length bytes)) (le-leb (length (take at s.seen)) i lower) (lt-ltb i (length (take at s.seen) + length bytes) upper)))
+      (or_left (nat_le (length (take at s.seen)) i && nat_lt i (length (take at s.seen) + length bytes)) (is_in s.loose i)
+      (and_from (nat_le (length (take at s.seen)) i) (nat_lt i (length (take at s.seen) + length bytes)) (le-leb (length (take at s.seen)) i lower) (lt-ltb i (length (take at s.seen) + length bytes) upper)))
 
   outside : (i : ℕ) → i < s.greatest → (i < from) ⊎ (from + length bytes ≤ i) → get_or (filled b now) i 0 ≡ get_or was i 0
   unfolding was from now
   outside i less out =
       ⊎_elim
-        (λ (e : is_loose s i ≡ true). filled_loose b (after (wrote at bytes) s) i (omega arith) (kept_loose i e) ∙ sym (filled_loose b s i less e))
-        (λ (e : is_loose s i ≡ false). filled_tight b (after (wrote at bytes) s) i (omega arith) (tight_from (length (take at s.seen)) (length bytes) s (overwritten at bytes s.seen) i e out) ∙ sym (filled_tight b s i less e))
-        (cases_Bool (is_loose s i))
+      (λ (e : is_loose s i ≡ true). filled_loose b (after (wrote at bytes) s) i (omega arith) (kept_loose i e) ∙ sym (filled_loose b s i less e))
+      (λ (e : is_loose s i ≡ false). filled_tight b (after (wrote at bytes) s) i (omega arith) (tight_from (length (take at s.seen)) (length bytes) s (overwritten at bytes s.seen) i e out) ∙ sym (filled_tight b s i less e))
+      (cases_Bool (is_loose s i))
 
   length-was : length was ≡ s.greatest
   unfolding was
@@ -140,8 +140,8 @@ image_left what disk first second (Err e) a b is = tt
 image_left what disk first second (Ok crashed) a b is =
     let left = image_may_be_left what disk.start disk.calls in
     subst (λ (d : Kept). (shown_by disk).may_leave (shown_by d).seen) (sym is)
-      (subst (λ (l : List ℕ). LeavesPair (sides disk.start disk.calls) (l, second)) (sym a)
-        (subst (λ (l : List ℕ). LeavesPair (sides disk.start disk.calls) ((image_of what (sides disk.start disk.calls)).0, l)) (sym b) left))
+    (subst (λ (l : List ℕ). LeavesPair (sides disk.start disk.calls) (l, second)) (sym a)
+    (subst (λ (l : List ℕ). LeavesPair (sides disk.start disk.calls) ((image_of what (sides disk.start disk.calls)).0, l)) (sym b) left))
 
 -- and with a byte for the free places, none is longer
 pub image_longest : {E : Type 0} (fill : Option ℕ) → IsSome fill → (disk : Kept) (first second : List ℕ) (result : Result Kept E)

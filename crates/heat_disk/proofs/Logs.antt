@@ -13,7 +13,7 @@ log_of-push [] event store before = refl
 log_of-push (first ∷ events) event store before =
     log_of-push events event (drop (size_of first.act) store) ((first.half, step_of first.act store) ∷ before)
     ∙ ap (λ (rest : List ℕ). (event.half, step_of event.act rest) ∷ log_of events (drop (size_of first.act) store) ((first.half, step_of first.act store) ∷ before))
-        (drop-drop (total events) (size_of first.act) store)
+    (drop-drop (total events) (size_of first.act) store)
 
 pub total-push : (events : List Event) (event : Event) → total (events ++ event ∷ []) ≡ total events + size_of event.act
 total-push [] event = omega arith

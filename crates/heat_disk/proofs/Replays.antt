@@ -35,11 +35,11 @@ pub step_on : (half h : Half) (start : List ℕ) (fill : ℕ) (step : Step) (cal
 step_on half h start fill step calls seen longest seen_new longest_new same so_far a b =
     let s = side half start calls in
     at_side half start fill ((h, step) ∷ calls) (after step s) seen_new longest_new
-      (cond-true (is_same h half) (after step s) s same)
-      (a ∙ ap (λ (l : List ℕ). seen_after step l) so_far.seen_is ∙ sym (seen-after step s))
-      (b ∙ ap (λ (l : List ℕ). filled_after fill step l longest) so_far.seen_is
-        ∙ ap (λ (l : List ℕ). filled_after fill step s.seen l) so_far.longest_is
-        ∙ sym (filled-after fill step s (sound_side half start calls)))
+    (cond-true (is_same h half) (after step s) s same)
+    (a ∙ ap (λ (l : List ℕ). seen_after step l) so_far.seen_is ∙ sym (seen-after step s))
+    (b ∙ ap (λ (l : List ℕ). filled_after fill step l longest) so_far.seen_is
+    ∙ ap (λ (l : List ℕ). filled_after fill step s.seen l) so_far.longest_is
+    ∙ sym (filled-after fill step s (sound_side half start calls)))
 
 -- a call on the other
 pub step_off : (half h : Half) (start : List ℕ) (fill : ℕ) (step : Step) (calls : List Call) (seen longest : List ℕ) → is_same h half ≡ false → IsAt half start fill calls seen longest → IsAt half start fill ((h, step) ∷ calls) seen longest
@@ -97,9 +97,9 @@ module _ (events : List Event) (i : ℕ) (d : Event) (less : i < length events) 
       let event = get_or events i d in
       let step = same_step store rest bytes size is same front in
       subst (λ (calls : List Call). IsAt half start fill calls seen_new longest_new) (sym (log_next store))
-        (step_on half event.half start fill (step_of event.act (drop (total (take i events)) store)) (log_of (take i events) store []) seen longest seen_new longest_new here so_far
-          (a ∙ ap (λ (t : Step). seen_after t seen) step)
-          (b ∙ ap (λ (t : Step). filled_after fill t seen longest) step))
+      (step_on half event.half start fill (step_of event.act (drop (total (take i events)) store)) (log_of (take i events) store []) seen longest seen_new longest_new here so_far
+      (a ∙ ap (λ (t : Step). seen_after t seen) step)
+      (b ∙ ap (λ (t : Step). filled_after fill t seen longest) step))
 
   -- and on the other
   pub next_off : (half : Half) (start : List ℕ) (fill : ℕ) (store seen longest : List ℕ) → is_same (get_or events i d).half half ≡ false
@@ -107,4 +107,4 @@ module _ (events : List Event) (i : ℕ) (d : Event) (less : i < length events) 
   next_off half start fill store seen longest other so_far =
       let event = get_or events i d in
       subst (λ (calls : List Call). IsAt half start fill calls seen longest) (sym (log_next store))
-        (step_off half event.half start fill (step_of event.act (drop (total (take i events)) store)) (log_of (take i events) store []) seen longest other so_far)
+      (step_off half event.half start fill (step_of event.act (drop (total (take i events)) store)) (log_of (take i events) store []) seen longest other so_far)

@@ -38,11 +38,12 @@ overwritten_behind at bytes old i behind =
   where
     place : ℕ
     place = at + length bytes + (i - (length (take at old) + length bytes))
+
     there : get_or old place 0 ≡ get_or old i 0
     there = ⊎_elim
-      (λ (less : at < length old). let same : place ≡ i = omega (arith, length-take at old) in ap (λ (k : ℕ). get_or old k 0) same)
-      (λ (more : length old ≤ at). get_or_past old place 0 (omega arith) ∙ sym (get_or_past old i 0 (omega (arith, length-take at old))))
-      (cases_lt at (length old))
+        (λ (less : at < length old). let same : place ≡ i = omega (arith, length-take at old) in ap (λ (k : ℕ). get_or old k 0) same)
+        (λ (more : length old ≤ at). get_or_past old place 0 (omega arith) ∙ sym (get_or_past old i 0 (omega (arith, length-take at old))))
+        (cases_lt at (length old))
 
 -- a place that isn't loose once there is one more range lies outside it, and wasn't loose before
 pub loose_more : (from n : ℕ) (s : Side) (bytes : List ℕ) (i : ℕ) → is_loose (moved bytes ((from, n) ∷ s.loose) s) i ≡ false → (is_loose s i ≡ false) × ((i < from) ⊎ (from + n ≤ i))
@@ -68,8 +69,8 @@ sound_write at bytes s sound =
       no_shorter = omega arith;
       no_longer = omega arith;
       stays = λ i less tight.
-        let parts = loose_more (length (take at s.seen)) (length bytes) s now i tight in
-        ⊎_elim
+          let parts = loose_more (length (take at s.seen)) (length bytes) s now i tight in
+          ⊎_elim
           (λ (front : i < length (take at s.seen)). overwritten_front at bytes s.seen i front ∙ sound.stays i (omega (arith, length-take at s.seen)) parts.0)
           (λ (behind : length (take at s.seen) + length bytes ≤ i). overwritten_behind at bytes s.seen i behind ∙ sound.stays i (omega (arith, length-overwritten at bytes s.seen)) parts.0)
           parts.1;
@@ -92,7 +93,7 @@ sound_side half start [] = sound_resting start
 sound_side half start (call ∷ earlier) =
     let before = sound_side half start earlier in
     cond_both (is_same call.0 half) (after call.1 (side half start earlier)) (side half start earlier) (λ (s : Side). MayLeave s s.seen)
-      (λ _. sound_after call.1 (side half start earlier) before) (λ _. before)
+    (λ _. sound_after call.1 (side half start earlier) before) (λ _. before)
 
 pub sound_sides : (start : Pair) (calls : List Call) → LeavesPair (sides start calls) (seen_of (sides start calls))
 sound_sides start calls = (sound_side First start.0 calls, sound_side Second start.1 calls)

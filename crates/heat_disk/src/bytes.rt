@@ -13,7 +13,11 @@ pub(crate) fn overwrite(file: &mut Vec<u8>, at: usize, bytes: &[u8]) -> Result<(
 {
     let len = file.len();
     let from = if at < len { at } else { len };
-    let over = if bytes.len() < len - from { bytes.len() } else { len - from };
+    let over = if bytes.len() < len - from {
+        bytes.len()
+    } else {
+        len - from
+    };
     file.extend_from_slice(&bytes[over..])?;
     file[from..from + over].copy_from_slice(&bytes[..over]);
     Ok(())
@@ -26,7 +30,11 @@ pub(crate) fn fill(buf: &mut [u8], bytes: &[u8], at: usize) -> usize
 {
     let from = if at < bytes.len() { at } else { bytes.len() };
     let rest = &bytes[from..];
-    let count = if rest.len() < buf.len() { rest.len() } else { buf.len() };
+    let count = if rest.len() < buf.len() {
+        rest.len()
+    } else {
+        buf.len()
+    };
     buf[..count].copy_from_slice(&rest[..count]);
     count
 }

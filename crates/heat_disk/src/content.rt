@@ -24,9 +24,9 @@ impl Model for Content {
     ghost Value = { Held };
 
     ghost view = { λ a. record {
-        start = a.start.items;
-        held = a.held.items;
-        room = record { end = a.end; bytes = a.bytes; calls = a.calls };
+      start = a.start.items;
+      held = a.held.items;
+      room = record { end = a.end; bytes = a.bytes; calls = a.calls };
     } };
 
     ghost invariant = { λ a. a.end ≤ vec_capacity a.held };
@@ -74,7 +74,10 @@ impl Content {
     /// Takes the memory for its own bytes up to this end.
     pub(crate) fn widen(&mut self, end: u64, bytes: u64, calls: u64) -> Result<(), AllocError>
         ensures ok { OnOk result (self.new ≡ record {
-            start = self.old.start; held = self.old.held; room = widened end bytes calls self.old.room }) }
+          start = self.old.start;
+          held = self.old.held;
+          room = widened end bytes calls self.old.room;
+        }) }
         ensures err { OnErr result (self.new ≡ self.old) }
     {
         let len = self.held.len();
@@ -83,8 +86,16 @@ impl Content {
             self.held.reserve(far as usize - len)?;
         }
         self.end = far;
-        self.bytes = if self.bytes < bytes { bytes } else { self.bytes };
-        self.calls = if self.calls < calls { calls } else { self.calls };
+        self.bytes = if self.bytes < bytes {
+            bytes
+        } else {
+            self.bytes
+        };
+        self.calls = if self.calls < calls {
+            calls
+        } else {
+            self.calls
+        };
         Ok(())
     }
 
@@ -92,9 +103,10 @@ impl Content {
         requires at { at ≤ length self.old.held }
         requires room { HasRoom self.old.room at (length bytes.now) }
         ensures { self.new ≡ record {
-            start = self.old.start;
-            held = overwritten at bytes.now self.old.held;
-            room = less (length bytes.now) self.old.room } }
+          start = self.old.start;
+          held = overwritten at bytes.now self.old.held;
+          room = less (length bytes.now) self.old.room;
+        } }
     {
         match overwrite(&mut self.held, at as usize, bytes) {
             Ok(()) => {}
@@ -107,7 +119,10 @@ impl Content {
     pub(crate) fn cut(&mut self, len: u64)
         requires { HasRoom self.old.room 0 0 }
         ensures { self.new ≡ record {
-            start = self.old.start; held = take len self.old.held; room = less 0 self.old.room } }
+          start = self.old.start;
+          held = take len self.old.held;
+          room = less 0 self.old.room;
+        } }
     {
         self.held.truncate(len as usize);
         self.calls -= 1;
@@ -116,7 +131,10 @@ impl Content {
     pub(crate) fn sync(&mut self)
         requires { HasRoom self.old.room 0 0 }
         ensures { self.new ≡ record {
-            start = self.old.start; held = self.old.held; room = less 0 self.old.room } }
+          start = self.old.start;
+          held = self.old.held;
+          room = less 0 self.old.room;
+        } }
     {
         self.calls -= 1;
     }

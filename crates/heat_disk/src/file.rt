@@ -89,8 +89,16 @@ impl Opened {
         ensures { room_of self.new ≡ widened end bytes calls (room_of self.old) }
     {
         self.end = if self.end < end { end } else { self.end };
-        self.bytes = if self.bytes < bytes { bytes } else { self.bytes };
-        self.calls = if self.calls < calls { calls } else { self.calls };
+        self.bytes = if self.bytes < bytes {
+            bytes
+        } else {
+            self.bytes
+        };
+        self.calls = if self.calls < calls {
+            calls
+        } else {
+            self.calls
+        };
     }
 
     fn reach(&self) -> io::Result<&File> {

@@ -80,9 +80,9 @@ impl Model for History {
     ghost Value = { Told };
 
     ghost view = { λ a. record {
-        calls = log_of a.events.items a.store.items [];
-        more_calls = vec_capacity a.events - vec_len a.events;
-        more_bytes = vec_capacity a.store - vec_len a.store;
+      calls = log_of a.events.items a.store.items [];
+      more_calls = vec_capacity a.events - vec_len a.events;
+      more_bytes = vec_capacity a.store - vec_len a.store;
     } };
 
     ghost invariant = { λ a. total a.events.items ≡ length a.store.items };

@@ -8,9 +8,9 @@ ghost use Rattle.heat_disk.specs.History.{wrote, cut_to, synced, sides, image_of
 ghost use Rattle.heat_disk.specs.Memory.{fails_next, fresh, shown_by, counted, done, wider, IsLongest, IsNumbered};
 
 use crate::content::Content;
+use crate::disk::DiskFailed;
 use crate::half::Half;
 use crate::history::History;
-use crate::disk::DiskFailed;
 use std::alloc::{AllocError, Global};
 use std::marker::Model;
 

@@ -59,7 +59,12 @@ fn runs(
 }
 
 /// A crash with this byte where anything may stand leaves this of First.
-fn leaves(rt: &impl Abort, disk: &MemDisk, fill: Option<u8>, want: &[u8]) -> Result<(), AllocError> {
+fn leaves(
+    rt: &impl Abort,
+    disk: &MemDisk,
+    fill: Option<u8>,
+    want: &[u8],
+) -> Result<(), AllocError> {
     let found = disk.crash(fill)?;
     assert_eq!(rt; found.bytes(Half::First), want);
     Ok(())
@@ -95,7 +100,10 @@ fn tries_all(rt: &impl Abort, alloc: Global, lines: &[u8]) -> Result<(), AllocEr
 
 #[test]
 fn crash_images(rt: HostRuntime) -> Result<(), Fail> {
-    tries_all(&rt, rt.alloc(), b"0|s|y||
+    tries_all(
+        &rt,
+        rt.alloc(),
+        b"0|s|y||
 0|w0abc|y|abc|???
 0|w0abc S|yy|abc|???
 0|w0abc s|yy|abc|abc
@@ -104,19 +112,24 @@ fn crash_images(rt: HostRuntime) -> Result<(), Fail> {
 0|w0abcd s c1|yyy|a|abcd
 0|w0abcd s c1 w1X|yyyy|aX|a?cd
 0|w0ab s w2XYZ c1|yyyy|a|ab???
-0|w0abcd s c2 s|yyyy|ab|ab")?;
+0|w0abcd s c2 s|yyyy|ab|ab",
+    )?;
     Ok(())
 }
 
 #[test]
 fn the_listed_call_fails(rt: HostRuntime) -> Result<(), Fail> {
-    tries_all(&rt, rt.alloc(), b"1|w0ab s|ny||
+    tries_all(
+        &rt,
+        rt.alloc(),
+        b"1|w0ab s|ny||
 2|w0ab s w1X c1 l r|ynyyyy|a|??
 3|w0ab s w1X c1 l r|yynyyy|a|ab
 4|w0ab s w1X c1 l r|yyynyy|aX|a?
 5|w0ab s w1X c1 l r|yyyyny|a|a?
 6|w0ab s w1X c1 l r|yyyyyn|a|a?
-7|w0ab s w1X c1 l r|yyyyyy|a|a?")?;
+7|w0ab s w1X c1 l r|yyyyyy|a|a?",
+    )?;
     Ok(())
 }
 
@@ -173,7 +186,10 @@ fn a_file_keeps_what_was_synced(rt: HostRuntime) -> Result<(), Fail> {
 fn second_lies_behind_the_path(rt: HostRuntime) -> Result<(), Fail> {
     let mut disk = FileDisk::at(&rt, &Text::from_str(rt.alloc(), "another_of_the_test")?);
     assert_eq!(rt; puts(&mut disk, Half::Second, b"d")?, 3);
-    assert_eq!(rt; fs::read(&rt, "another_of_the_test.2")?.as_slice(), b"d".as_slice());
+    assert_eq!(rt;
+        fs::read(&rt, "another_of_the_test.2")?.as_slice(),
+        b"d".as_slice()
+    );
     Ok(())
 }
 

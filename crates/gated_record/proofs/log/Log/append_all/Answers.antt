@@ -15,8 +15,8 @@ returns-in_err-append-clause-any_moment g c tells =
     let mid = g.D.Disk.shown c.loop-key.self.disk in
     let new = g.D.Disk.shown c.append.new.self.disk in
     leaves_run c.args.self.now.half c.loop-key.self.count old mid new c.args.records.now i (0, 0) c.loop-key-test.true (so_far.run tells)
-      (subst (λ (h : Half). LeavesOnly mid new (λ image. IsWithOrWithout (records_of h mid) (get_or c.args.records.now i (0, 0)) (part h image))) so_far.half
-        (c.append.ensures.any_moment (so_far.tells ∙ tells)))
+    (subst (λ (h : Half). LeavesOnly mid new (λ image. IsWithOrWithout (records_of h mid) (get_or c.args.records.now i (0, 0)) (part h image))) so_far.half
+    (c.append.ensures.any_moment (so_far.tells ∙ tells)))
 
 pub loop-key-preserved : goal.loop-key-preserved
 loop-key-preserved g c =
@@ -33,10 +33,10 @@ loop-key-preserved g c =
       tells = same.1 ∙ so_far.tells;
       faults = omega (arith, same.2, so_far.faults);
       run = λ tells.
-        let told = so_far.tells ∙ tells in
-        runs_on c.args.self.now.half c.loop-key.self.count old mid new c.args.records.now i (0, 0) c.loop-key-test.true (so_far.run tells)
+          let told = so_far.tells ∙ tells in
+          runs_on c.args.self.now.half c.loop-key.self.count old mid new c.args.records.now i (0, 0) c.loop-key-test.true (so_far.run tells)
           (subst (λ (h : Half). LeavesOnly mid new (λ image. IsWithOrWithout (records_of h mid) (get_or c.args.records.now i (0, 0)) (part h image))) so_far.half
-            (c.append.ensures.any_moment told))
+          (c.append.ensures.any_moment told))
           c.append.new.self.count
           (subst (λ (h : Half). IsAtRest h c.append.new.self.count new) half (c.in_ok-append.ensures.rest told))
           (subst (λ (h : Half). records_of h new ≡ records_of h mid ++ get_or c.args.records.now i (0, 0) ∷ []) so_far.half (c.in_ok-append.ensures.acknowledged told));

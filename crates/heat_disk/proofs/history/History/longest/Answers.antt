@@ -42,16 +42,16 @@ loop-event-preserved c =
     rest_at events i none less store c.loop-event.rest.now c.split_at.result.1.now c.size.result so_far.rest c.size.ensures c.split_at.ensures.back in
     elim c.if-is.branch [
       | then-is+in_ok-replay w ↦ record {
-          whole = so_far.whole;
-          rest = ap (λ r. r.now) w.rest-is ∙ rest;
-          replayed = next_on events i none less c.args.half c.args.start.now c.args.fill store c.loop-event.rest.now c.split_at.result.0.now c.size.result
+        whole = so_far.whole;
+        rest = ap (λ r. r.now) w.rest-is ∙ rest;
+        replayed = next_on events i none less c.args.half c.args.start.now c.args.fill store c.loop-event.rest.now c.split_at.result.0.now c.size.result
             c.loop-event.seen.items c.loop-event.longest.items c.if-is.seen.items c.if-is.longest.items
             so_far.rest c.size.ensures c.split_at.ensures.front (sym c.is.ensures ∙ w.if-is.true) so_far.replayed
             (ap (λ v. v.items) w.seen-is ∙ w.in_ok-replay.ensures.seen) (ap (λ v. v.items) w.longest-is ∙ w.in_ok-replay.ensures.longest);
-        }
+      }
       | else-is w ↦ record {
-          whole = so_far.whole;
-          rest = ap (λ r. r.now) w.rest-is ∙ rest;
-          replayed = rw (w.seen-is, w.longest-is) (next_off events i none less c.args.half c.args.start.now c.args.fill store c.loop-event.seen.items c.loop-event.longest.items (sym c.is.ensures ∙ w.if-is.false) so_far.replayed);
-        }
+        whole = so_far.whole;
+        rest = ap (λ r. r.now) w.rest-is ∙ rest;
+        replayed = rw (w.seen-is, w.longest-is) (next_off events i none less c.args.half c.args.start.now c.args.fill store c.loop-event.seen.items c.loop-event.longest.items (sym c.is.ensures ∙ w.if-is.false) so_far.replayed);
+      }
     ]

@@ -11,11 +11,11 @@ pub invariant_of-self : goal.invariant_of-self
 invariant_of-self c =
     let event : Event = record { half = c.args.half; act = Write c.args.at (length c.args.bytes.now) } in
     rw (c.push_reserved.ensures.items, c.in-Ok.ensures.items)
-      (omega (arith, total-push c.self.inside.events.items event, c.self.invariant, length-append c.self.inside.store.items c.args.bytes.now))
+    (omega (arith, total-push c.self.inside.events.items event, c.self.invariant, length-append c.self.inside.store.items c.args.bytes.now))
 
 pub returns-clause-calls : goal.returns-clause-calls
 returns-clause-calls c =
     let event : Event = record { half = c.args.half; act = Write c.args.at (length c.args.bytes.now) } in
     rw (c.push_reserved.ensures.items, c.in-Ok.ensures.items, ← c.self.view_is)
-      (log_of-written c.self.inside.events.items event c.self.inside.store.items c.args.bytes.now c.self.invariant refl
-      ∙ ap (λ bytes. (c.args.half, wrote c.args.at bytes) ∷ log_of c.self.inside.events.items c.self.inside.store.items []) (take_all (length c.args.bytes.now) c.args.bytes.now (omega arith)))
+    (log_of-written c.self.inside.events.items event c.self.inside.store.items c.args.bytes.now c.self.invariant refl
+    ∙ ap (λ bytes. (c.args.half, wrote c.args.at bytes) ∷ log_of c.self.inside.events.items c.self.inside.store.items []) (take_all (length c.args.bytes.now) c.args.bytes.now (omega arith)))
