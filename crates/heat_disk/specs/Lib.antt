@@ -1,0 +1,13 @@
+pub mod Halves
+pub mod Images
+pub mod Shown
+pub mod Calls
+pub mod Causes
+pub mod Fuse
+pub mod History
+pub mod Sound
+pub mod Replay
+pub mod Events
+pub mod Memory
+pub mod Stored
+pub mod Files
