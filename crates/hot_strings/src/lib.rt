@@ -1,0 +1,13 @@
+//! The text functions of templates: join, split, replace and digest, each a relation between whole
+//! texts. A result is a value of at most `MAX_SIZE` bytes of compact JSON, and nothing much longer is
+//! ever built. No call changes its arguments.
+#![tactic(auto)]
+
+mod draft;
+mod fault;
+mod joining;
+mod size;
+
+pub use fault::StringFault;
+pub use joining::join;
+pub use size::MAX_SIZE;
