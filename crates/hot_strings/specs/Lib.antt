@@ -1,3 +1,4 @@
 pub mod Size
 pub mod Joined
 pub mod Faults
+pub mod Digest

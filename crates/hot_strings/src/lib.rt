@@ -3,11 +3,13 @@
 //! ever built. No call changes its arguments.
 #![tactic(auto)]
 
+mod digesting;
 mod draft;
 mod fault;
 mod joining;
 mod size;
 
+pub use digesting::{digest, is_digest_name};
 pub use fault::StringFault;
 pub use joining::join;
 pub use size::MAX_SIZE;
