@@ -1,2 +1,4 @@
 pub mod Sizes
 pub mod Joins
+pub mod PlaceLemmas
+pub mod Splits

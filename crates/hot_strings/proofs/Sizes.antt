@@ -1,8 +1,9 @@
 -- How long a text is as JSON.
-use Rattle.std.proofs.Common.{◌≡◌, ◌+◌, ◌<◌, ◌≤◌, ℕ, List, [], ◌∷◌, ◌++◌, length, ap, sym, refl, ◌∙◌, arith, length-append}
+use Rattle.std.proofs.Common.{◌≡◌, ◌≢◌, ◌+◌, true, ◌<◌, ◌≤◌, ℕ, List, [], ◌∷◌, ◌++◌, length, ap, sym, refl, ◌∙◌, arith, length-append}
 use Rattle.std.proofs.lemmas.Grind.{flat_map-append}
 use Rattle.json.specs.Print.{escape_byte, escape, quoted}
-use Rattle.heat_value.specs.Data.{words}
+use Rattle.heat_value.specs.Compact.{compact, nodes_text}
+use Rattle.heat_value.specs.Data.{Data, words, items, Nodes, no_nodes, node, node_last}
 use Rattle.hot_strings.specs.Size.{IsTooLong}
 use Rattle.hot_strings.specs.Faults.{IsOfResult}
 use Rattle.hot_strings.specs.declared.fault.StringFault.{StringFault}
@@ -28,3 +29,23 @@ IsOfResult-append F03 s t whole is h = h
 IsOfResult-append F04 s t whole is h = h
 IsOfResult-append F06 s t whole is h = rw is (IsTooLong-append s t h)
 IsOfResult-append Memory s t whole is h = h
+
+-- a list's text is as long as that of a part behind others
+pub length-nodes_text-true : (ns : Nodes) → ns ≢ no_nodes → length (nodes_text true ns) ≡ length (compact (items ns))
+length-nodes_text-true no_nodes h = absurd (h refl)
+length-nodes_text-true (node d ns) h = omega arith
+
+pub length-nodes_text-last : (ns : Nodes) (d : Data)
+    → length (nodes_text true (node_last ns d)) ≡ length (nodes_text true ns) + (1 + length (compact d))
+length-nodes_text-last no_nodes d = omega (arith, length-append (compact d) (93 ∷ []))
+length-nodes_text-last (node e ns) d =
+    omega (arith, length-nodes_text-last ns d, length-append (compact e) (nodes_text true (node_last ns d)), length-append (compact e) (nodes_text true ns))
+
+pub node_last-some : (ns : Nodes) (d : Data) → node_last ns d ≢ no_nodes
+node_last-some no_nodes d e = cc
+node_last-some (node x ns) d e = cc
+
+pub length-compact-words : (s : List ℕ) → length (compact (words s)) ≡ length (escape s) + 2
+length-compact-words s = length-quoted s
+
+pub ruleset for_lists = (length-nodes_text-true, length-nodes_text-last, length-compact-words, node_last-some)

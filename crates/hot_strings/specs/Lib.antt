@@ -1,4 +1,7 @@
 pub mod Size
+pub mod Only
+pub mod Places
 pub mod Joined
-pub mod Faults
+pub mod Split
 pub mod Digest
+pub mod Faults

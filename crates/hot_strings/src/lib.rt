@@ -3,13 +3,17 @@
 //! ever built. No call changes its arguments.
 #![tactic(auto)]
 
+mod cutting;
 mod digesting;
 mod draft;
 mod fault;
 mod joining;
+mod listing;
 mod size;
+mod splitting;
 
 pub use digesting::{digest, is_digest_name};
 pub use fault::StringFault;
 pub use joining::join;
 pub use size::MAX_SIZE;
+pub use splitting::split;
