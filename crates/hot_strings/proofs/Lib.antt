@@ -2,3 +2,4 @@ pub mod Sizes
 pub mod Joins
 pub mod PlaceLemmas
 pub mod Splits
+pub mod Passed

@@ -49,3 +49,8 @@ pub length-compact-words : (s : List ℕ) → length (compact (words s)) ≡ len
 length-compact-words s = length-quoted s
 
 pub ruleset for_lists = (length-nodes_text-true, length-nodes_text-last, length-compact-words, node_last-some)
+
+-- a text for which there is no room makes the list too long
+pub IsTooLong-last : (ns : Nodes) (s : List ℕ) (room : ℕ) → room + length (nodes_text true ns) ≡ 1048576 → room < 3 + length (escape s) → IsTooLong (items (node_last ns (words s)))
+IsTooLong-last ns s room within short =
+    omega (arith, length-nodes_text-true (node_last ns (words s)) (node_last-some ns (words s)), length-nodes_text-last ns (words s), length-compact-words s)

@@ -68,14 +68,6 @@ joined-AreSplit d s [] h = absurd h
 joined-AreSplit d s (p ∷ []) h = h.0
 joined-AreSplit d s (p ∷ q ∷ ps) h = ap (λ t. p ++ (d ++ t)) (joined-AreSplit d h.0 (q ∷ ps) h.2) ∙ sym h.1.whole
 
--- whatever the pieces of the rest are, behind those that were passed they are those of the text
-abbrev pub LeadsTo : List ℕ → List ℕ → List (List ℕ) → List ℕ → Type 0
-LeadsTo d s done rest = (ps : List (List ℕ)) → AreSplit d rest ps → AreSplit d s (done ++ ps)
-
-pub LeadsTo-step : (d s : List ℕ) (done : List (List ℕ)) (rest p tail : List ℕ) → LeadsTo d s done rest → StandsFirst d rest p tail → LeadsTo d s (done ++ p ∷ []) tail
-LeadsTo-step d s done rest p tail leads first ps h =
-    subst (λ (qs : List (List ℕ)). AreSplit d s qs) (sym (append_assoc done (p ∷ []) ps)) (leads (p ∷ ps) (AreSplit-cons d rest p tail ps first h))
-
 pub texts-push : (ps : List (List ℕ)) (p : List ℕ) → texts (ps ++ p ∷ []) ≡ node_last (texts ps) (words p)
 texts-push [] p = refl
 texts-push (q ∷ ps) p = ap (node (words q)) (texts-push ps p)
@@ -85,3 +77,5 @@ pub length-texts-append : (ps qs : List (List ℕ)) → length (nodes_text true 
 length-texts-append [] [] = omega arith
 length-texts-append [] (q ∷ qs) = omega (arith, length-append (compact (words q)) (nodes_text true (texts qs)))
 length-texts-append (p ∷ ps) qs = omega (arith, length-texts-append ps qs, length-append (compact (words p)) (nodes_text true (texts ps)), length-append (compact (words p)) (nodes_text true (texts (ps ++ qs))))
+
+pub ruleset for_split = (AreSplit-one, joined-AreSplit)

@@ -15,6 +15,7 @@ use crate::size::{MAX_SIZE, room_after};
 use heat_value::{Text, Value};
 use std::alloc::Global;
 
+#[tactic(auto, using(crate::proofs::Splits::for_split))]
 /// The pieces of a text, or the piece at an index. The faults come in this order: F02 for an index
 /// that is no whole number of 0 or more, F03 for an empty delimiter, F02 for an index out of range,
 /// F06 for a value that is too long.

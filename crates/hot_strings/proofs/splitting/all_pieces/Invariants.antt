@@ -1,7 +1,7 @@
 use Rattle.std.proofs.Common.{◌≡◌, List, ℕ, length}
 use Rattle.std.specs.Str.{IsUtf8}
 use Rattle.hot_strings.specs.Split.{texts}
-use Rattle.hot_strings.proofs.Splits.{LeadsTo}
+use Rattle.hot_strings.proofs.Passed.{LeadsTo}
 use Rattle.hot_strings.proofs.splitting.all_pieces.Given as goal
 
 -- the listing has the pieces that were passed
