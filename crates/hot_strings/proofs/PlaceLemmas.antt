@@ -1,12 +1,14 @@
 -- Finding where a text stands first in another.
-use Rattle.std.proofs.Common.{◌≡◌, ◌≢◌, ◌+◌, ◌<◌, ◌≤◌, ℕ, suc, List, [], ◌∷◌, ◌++◌, length, take, drop, ◌⊎◌, inl, inr, Option, Some, None, refl, ap, sym, ◌∙◌, subst, arith, append_assoc, length-append}
+use Rattle.std.proofs.Common.{◌≡◌, ◌≢◌, ◌+◌, ◌<◌, ◌≤◌, ℕ, suc, List, [], ◌∷◌, ◌++◌, length, take, drop, ◌⊎◌, inl, inr, Bool, true, false, Option, Some, None, refl, ap, sym, ◌∙◌, subst, arith, append_assoc, length-append}
 use Rattle.std.proofs.lemmas.Bool.{cases_eq, cases_lt}
 use Rattle.std.proofs.lemmas.List.{take-append-drop}
 use Rattle.std.proofs.lemmas.List.Prefix.{front_rest}
 use denote.Ref.{Bor}
 use Rattle.std.specs.Option.{MatchOption}
-use Rattle.std.specs.Str.Pattern.{FindsText, SplitsAroundMatch}
-use Rattle.hot_strings.specs.Places.{Begins, Lacks, StandsFirst}
+use Rattle.std.specs.Str.Pattern.{FindsText, FindsTextPrefix, HasMatch, HasPrefixMatch, SplitsAroundMatch}
+use Rattle.std.specs.Bool.{MatchBool}
+use Rattle.std.proofs.lemmas.Str.Pattern.{contains_text}
+use Rattle.hot_strings.specs.Places.{Begins, IsPart, Lacks, StandsFirst}
 
 -- two ways to cut a list at one place are the same
 pub append_same : {A : Type 0} (p q t u : List A) → length p ≡ length q → p ++ t ≡ q ++ u → (p ≡ q) × (t ≡ u)
@@ -78,3 +80,13 @@ pub parts_found : (d s : List ℕ) (r : Option (Bor (List ℕ) × Bor (List ℕ)
     → MatchOption r (Lacks d s) (λ x. StandsFirst d s x.0.now x.1.now)
 parts_found d s None h = Lacks-found d s h
 parts_found d s (Some x) (i, j, found, front, back, le, len, rest) = StandsFirst-found d s x.0.now x.1.now i j found front back len
+
+-- what `contains` answers at a text
+pub part_found : (d s : List ℕ) (r : Bool) → MatchBool r (HasMatch (FindsText d) s) (FindsText d s None) → MatchBool r (IsPart d s) (Lacks d s)
+part_found d s true h = (contains_text true d s h).0 refl
+part_found d s false h = Lacks-found d s h
+
+-- what `starts_with` answers at a text
+pub begins_found : (d s : List ℕ) (r : Bool) → MatchBool r (HasPrefixMatch (FindsTextPrefix d) s) (FindsTextPrefix d s None) → MatchBool r (Begins d s) (¬ (Begins d s))
+begins_found d s true (n, found, cut) = (drop n s, found.1)
+begins_found d s false h = λ b. h b.0 b.1

@@ -3,5 +3,6 @@ pub mod Only
 pub mod Places
 pub mod Joined
 pub mod Split
+pub mod Pieces
 pub mod Digest
 pub mod Faults

@@ -9,11 +9,14 @@ mod draft;
 mod fault;
 mod joining;
 mod listing;
+mod pieces;
+mod replacing;
 mod size;
 mod splitting;
 
 pub use digesting::{digest, is_digest_name};
 pub use fault::StringFault;
 pub use joining::join;
+pub use replacing::replace;
 pub use size::MAX_SIZE;
 pub use splitting::split;
