@@ -1,9 +1,10 @@
 -- Which key stands at the front of a text.
-use Rattle.std.proofs.Common.{◌≡◌, ◌≢◌, ◌+◌, ◌<◌, ◌≤◌, ℕ, zero, suc, List, [], ◌∷◌, ◌++◌, length, ◌⊎◌, inl, inr, Option, Some, None, refl, ap, sym, ◌∙◌, subst, arith, get_or, take}
+use Rattle.std.proofs.Common.{◌≡◌, ◌≢◌, ◌+◌, ◌<◌, ◌≤◌, ℕ, zero, suc, List, [], ◌∷◌, ◌++◌, length, ◌⊎◌, inl, inr, Bool, true, false, ◌==◌, Option, Some, None, refl, ap, sym, ◌∙◌, subst, arith, get_or, take}
 use Rattle.std.specs.Option.{MatchOption}
 use Rattle.std.specs.List.{All, Any, Contains, slice_get, slice_index_or}
 use Rattle.std.proofs.lemmas.Bool.{cases_lt}
-use Rattle.std.proofs.lemmas.List.{take_all}
+use Rattle.std.proofs.lemmas.Bool.Decides.{Decides-eqb}
+use Rattle.std.proofs.lemmas.List.{take_all, nil_from_length}
 use Rattle.std.proofs.lemmas.Option.{slice_get_read}
 use Rattle.std.proofs.lemmas.List.Elements.{All-nil, All-cons, All-head, All-tail, All-weaker, All-contains, All-more}
 use Rattle.hot_strings.specs.Places.{Begins}
@@ -103,11 +104,28 @@ pub All-end : {X : Type 0} (P : X → Type 0) (xs : List X) (i : ℕ) → length
 All-end P xs i l all = subst (λ (ys : List _). All P ys) (take_all i xs l) all
 
 -- a longer key that begins is the best
-pub best_more : (params : Params) (s : List ℕ) (i longest : ℕ) (p : List ℕ × List ℕ) → i < length params → p ≡ get_or params i p → Begins p.0 s → longest < length p.0
+pub best_more : (params : Params) (s : List ℕ) (i longest : ℕ) (p : List ℕ × List ℕ) (k : List ℕ) → i < length params → p ≡ get_or params i p → k ≡ p.0 → Begins k s → longest < length k
     → All (λ q. Begins q.0 s → length q.0 ≤ longest) (take i params)
-    → All (λ q. Begins q.0 s → length q.0 ≤ length p.0) (take (i + 1) params) × IsBest params s (length p.0) i
-best_more params s i longest p l e here longer all = (
-  All-step (λ q. Begins q.0 s → length q.0 ≤ length p.0) params i p l e (λ _. omega arith)
-  (All-weaker (λ q. Begins q.0 s → length q.0 ≤ longest) (λ q. Begins q.0 s → length q.0 ≤ length p.0) (λ q h b. omega (arith, h b)) (take i params) all),
-  record { key = p.0; value = p.1; there = slice_get_read params (length params) i p refl l e; stands = here; length = refl },
+    → All (λ q. Begins q.0 s → length q.0 ≤ length k) (take (i + 1) params) × IsBest params s (length k) i
+best_more params s i longest p k l e is here longer all = (
+  All-step (λ q. Begins q.0 s → length q.0 ≤ length k) params i p l e (λ _. omega (arith, ap length is))
+  (All-weaker (λ q. Begins q.0 s → length q.0 ≤ longest) (λ q. Begins q.0 s → length q.0 ≤ length k) (λ q h b. omega (arith, h b)) (take i params) all),
+  record { key = p.0; value = p.1; there = slice_get_read params (length params) i p refl l e; stands = subst (λ (x : List ℕ). Begins x s) is here; length = ap length is },
 )
+
+-- a key that doesn't begin, or is no longer, leaves the best
+pub best_same : (params : Params) (s : List ℕ) (i longest : ℕ) (p : List ℕ × List ℕ) → i < length params → p ≡ get_or params i p → (Begins p.0 s → length p.0 ≤ longest)
+    → All (λ q. Begins q.0 s → length q.0 ≤ longest) (take i params) → All (λ q. Begins q.0 s → length q.0 ≤ longest) (take (i + 1) params)
+best_same params s i longest p l e own all = All-step (λ q. Begins q.0 s → length q.0 ≤ longest) params i p l e own all
+
+pub not_empty : (s k : List ℕ) → s ≡ k → false ≡ (length s == 0) → k ≢ []
+not_empty s k e h empty = let gone : false ≡ true = subst (λ (t : List ℕ). false ≡ (length t == 0)) (e ∙ empty) h in cc
+
+-- the item at a place
+pub item_there : (params : Params) (i : ℕ) (p : List ℕ × List ℕ) (k v : List ℕ) → i < length params → p ≡ get_or params i p → slice_get params i ≡ Some (k, v) → (p.0 ≡ k) × (p.1 ≡ v)
+item_there params i p k v l e there =
+    let same : p ≡ (k, v) = (let read : slice_get params i ≡ Some p = slice_get_read params (length params) i p refl l e in cc) in
+    (ap (λ (q : List ℕ × List ℕ). q.0) same, ap (λ (q : List ℕ × List ℕ). q.1) same)
+
+pub is_empty_list : (s : List ℕ) → true ≡ (length s == 0) → s ≡ []
+is_empty_list s h = nil_from_length s ((Decides-eqb (length s) 0).0 (sym h))

@@ -1,5 +1,5 @@
 -- The pieces of a template: there is exactly one list of them.
-use Rattle.std.proofs.Common.{◌≡◌, ◌≢◌, ◌+◌, ◌<◌, ◌≤◌, ℕ, zero, suc, List, [], ◌∷◌, ◌++◌, length, ◌⊎◌, inl, inr, Bool, true, false, ◌&&◌, refl, ap, sym, ◌∙◌, subst, arith, append_assoc, length-append}
+use Rattle.std.proofs.Common.{◌≡◌, ◌≢◌, ◌+◌, ◌<◌, ◌≤◌, ℕ, zero, suc, List, [], ◌∷◌, ◌++◌, length, ◌⊎◌, inl, inr, Result, Ok, Err, Bool, true, false, ◌&&◌, refl, ap, sym, ◌∙◌, subst, arith, append_assoc, length-append}
 use lib.Utf8.{scalar as scalar_of, scalars}
 use Rattle.std.specs.Char.{encode_utf8}
 use Rattle.std.proofs.lemmas.Grind.{flat_map-append}
@@ -8,6 +8,8 @@ use Rattle.hot_strings.specs.Faults.{IsOfResult}
 use Rattle.hot_strings.specs.declared.fault.StringFault.{StringFault}
 use Rattle.hot_strings.specs.declared.fault.StringFault.TheVariants.{F02, F03, F04, F06, Memory}
 use Rattle.hot_strings.proofs.Sizes.{IsTooLong-append}
+use Rattle.std.specs.Bool.{IsTrue}
+use Rattle.std.specs.Result.{OnOk}
 use Rattle.std.specs.List.{All}
 use Rattle.std.specs.Str.{IsUtf8, encode_utf8_all}
 use Rattle.std.proofs.lemmas.List.{append_cancel_left, append-nil}
@@ -15,7 +17,7 @@ use Rattle.std.proofs.lemmas.List.Elements.{All-contains}
 use Rattle.std.proofs.lemmas.Str.{encode_same}
 use Rattle.hot_strings.specs.Only.{HoldsOfOne}
 use Rattle.hot_strings.specs.Places.{Begins}
-use Rattle.hot_strings.specs.Pieces.{Params, Piece, key, character, source, target, IsLongestKey, NoKeyBegins, IsFirstPiece, ArePieces, AreDistinct, HasNoEmptyKey, replaced, IsOfReplaced}
+use Rattle.hot_strings.specs.Pieces.{Params, Piece, key, character, source, target, IsLongestKey, NoKeyBegins, IsFirstPiece, ArePieces, AreDistinct, HasNoEmptyKey, HasEveryKey, replaced, IsOfReplaced, IsReplaceFault}
 use Rattle.hot_strings.proofs.Characters.{IsUtf8-behind, encode_some}
 use Rattle.hot_strings.proofs.KeyLemmas.{longest_key, IsLongestKey-same, key_some}
 
@@ -104,3 +106,16 @@ push_refused F04 params s done ps pieces h = h
 push_refused F06 params s done ps pieces h =
     (replaced (done ++ ps), (done ++ ps, pieces, refl), rw (flat_map-append target done ps) (IsTooLong-append (replaced done) (replaced ps) h))
 push_refused Memory params s done ps pieces h = h
+
+-- behind the checks of the keys only the result has faults
+pub IsReplaceFault-checked : (e : StringFault) (params : Params) (s : List ℕ) (strict : Bool) → HasNoEmptyKey params → (IsTrue strict → HasEveryKey params s) → IsOfReplaced e params s
+    → IsReplaceFault e params s strict
+IsReplaceFault-checked F02 params s strict some all h = h
+IsReplaceFault-checked F03 params s strict some all h = absurd h
+IsReplaceFault-checked F04 params s strict some all h = absurd h
+IsReplaceFault-checked F06 params s strict some all h = (some, all, h)
+IsReplaceFault-checked Memory params s strict some all h = h
+
+pub OnOk-always : {T E P : Type 0} (r : Result T E) → P → OnOk r P
+OnOk-always (Ok v) h = h
+OnOk-always (Err e) h = tt

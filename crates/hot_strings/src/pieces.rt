@@ -17,7 +17,10 @@ pub fn first_piece<'a>(params: &'a [(Text, Text)], text: &'a str) -> (&'a str, &
     ensures utf8 { IsUtf8 result.1.now }
 {
     match longest_key(params, text) {
-        Some(i) => (params[i].1.as_str(), behind(text, params[i].0.as_str())),
+        Some(i) => {
+            let param = &params[i];
+            (param.1.as_str(), behind(text, param.0.as_str()))
+        }
         None => first_character(text),
     }
 }
@@ -32,7 +35,8 @@ fn longest_key(params: &[(Text, Text)], text: &str) -> Option<usize>
     let mut found = None;
     let mut longest = 0;
     for i in 0..params.len() {
-        let key = params[i].0.as_str();
+        let param = &params[i];
+        let key = param.0.as_str();
         if key.len() > longest && begins(text, key) {
             found = Some(i);
             longest = key.len();

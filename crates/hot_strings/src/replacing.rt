@@ -36,7 +36,7 @@ pub fn replace(
     if has_empty_key(params) {
         return Err(StringFault::F03);
     }
-    if strict && lacks_some_key(params, template.as_str()) {
+    if strict_fails(strict, params, template.as_str()) {
         return Err(StringFault::F04);
     }
     filled(alloc, template.as_str(), params)
@@ -53,6 +53,14 @@ fn has_empty_key(params: &[(Text, Text)]) -> bool
         }
     }
     false
+}
+
+// Whether some key stands nowhere in the template, where that counts.
+fn strict_fails(strict: bool, params: &[(Text, Text)], template: &str) -> bool
+    ensures { MatchBool result (IsTrue strict × LacksSomeKey params.now template.now)
+        (IsTrue strict → HasEveryKey params.now template.now) }
+{
+    strict && lacks_some_key(params, template)
 }
 
 // Whether some key stands nowhere in the template.
