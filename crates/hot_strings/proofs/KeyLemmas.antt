@@ -1,12 +1,12 @@
 -- Which key stands at the front of a text.
-use Rattle.std.proofs.Common.{◌≡◌, ◌≢◌, ◌+◌, ◌<◌, ◌≤◌, ℕ, zero, suc, List, [], ◌∷◌, ◌++◌, length, ◌⊎◌, inl, inr, Bool, true, false, ◌==◌, Option, Some, None, refl, ap, sym, ◌∙◌, subst, arith, get_or, take}
+use Rattle.std.proofs.Common.{◌≡◌, ◌≢◌, ◌+◌, ◌<◌, ◌≤◌, ℕ, zero, suc, List, [], ◌∷◌, ◌++◌, length, ◌⊎◌, inl, inr, Bool, true, false, ◌==◌, Option, Some, None, refl, ap, sym, ◌∙◌, subst, arith, get_or, take, drop, add-one, drop-cons}
 use Rattle.std.specs.Option.{MatchOption}
 use Rattle.std.specs.List.{All, Any, Contains, slice_get, slice_index_or}
 use Rattle.std.proofs.lemmas.Bool.{cases_lt}
 use Rattle.std.proofs.lemmas.Bool.Decides.{Decides-eqb}
 use Rattle.std.proofs.lemmas.List.{take_all, nil_from_length}
 use Rattle.std.proofs.lemmas.Option.{slice_get_read}
-use Rattle.std.proofs.lemmas.List.Elements.{All-nil, All-cons, All-head, All-tail, All-weaker, All-contains, All-more}
+use Rattle.std.proofs.lemmas.List.Elements.{All-nil, All-cons, All-head, All-tail, All-weaker, All-contains, All-more, All-take}
 use Rattle.hot_strings.specs.Places.{Begins}
 use Rattle.hot_strings.specs.Pieces.{Params, IsLongestKey, NoKeyBegins, AreDistinct, HasNoEmptyKey, HasEmptyKey}
 use Rattle.hot_strings.proofs.PlaceLemmas.{append_same, begins}
@@ -129,3 +129,10 @@ item_there params i p k v l e there =
 
 pub is_empty_list : (s : List ℕ) → true ≡ (length s == 0) → s ≡ []
 is_empty_list s h = nil_from_length s ((Decides-eqb (length s) 0).0 (sym h))
+
+-- of distinct keys none behind an item has its key
+pub AreDistinct-item : (params : Params) (i n : ℕ) (p : List ℕ × List ℕ) → i < length params → p ≡ get_or params i p → AreDistinct (drop i params)
+    → All (λ q. q.0 ≢ (get_or params i p).0) (take n (drop (i + 1) params))
+AreDistinct-item params i n p l e h =
+    let cut : drop i params ≡ get_or params i p ∷ drop (i + 1) params = rw (add-one, drop-cons params i p l) refl in
+    All-take (λ q. q.0 ≢ (get_or params i p).0) n (drop (i + 1) params) (subst (λ (ps : Params). AreDistinct ps) cut h).0
