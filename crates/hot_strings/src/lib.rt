@@ -14,6 +14,8 @@ mod pieces;
 mod replacing;
 mod size;
 mod splitting;
+#[cfg(test)]
+mod tests;
 
 pub use digesting::{digest, is_digest_name};
 pub use fault::StringFault;

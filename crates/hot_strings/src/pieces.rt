@@ -45,10 +45,15 @@ fn longest_key(params: &[(Text, Text)], text: &str) -> Option<usize>
     found
 }
 
-// Whether a key stands at the front of a text.
+// Whether a key stands at the front of a text. The first byte rules most keys out.
 fn begins(text: &str, key: &str) -> bool
     ensures { MatchBool result (Begins key.now text.now) (¬ (Begins key.now text.now)) }
 {
+    let bytes = text.as_bytes();
+    let wanted = key.as_bytes();
+    if bytes.len() > 0 && wanted.len() > 0 && bytes[0] != wanted[0] {
+        return false;
+    }
     text.starts_with(key)
 }
 
