@@ -132,3 +132,18 @@ nodes_code = code_by (List Token) token_code nodes_tokens nodes_from nodes_from-
 
 abbrev pub members_code : Coded Members
 members_code = code_by (List Token) token_code members_tokens members_from members_from-tokens
+
+abbrev top_data : List Part → Data
+top_data [] = null
+top_data (of_data d ∷ st) = d
+top_data (of_nodes ns ∷ st) = null
+top_data (of_members ms ∷ st) = null
+
+abbrev pub data_from : List Token → Data
+data_from ts = top_data (built ts)
+
+pub data_from-tokens : (d : Data) → data_from (tokens d) ≡ d
+data_from-tokens d = ap data_from (sym (append-nil (tokens d))) ∙ ap top_data (built-tokens d [])
+
+abbrev pub data_code : Coded Data
+data_code = code_by (List Token) token_code tokens data_from data_from-tokens

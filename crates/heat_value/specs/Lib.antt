@@ -8,3 +8,4 @@ pub mod Path
 pub mod Reading
 pub mod Places
 pub mod Lending
+pub mod Counts

@@ -7,6 +7,8 @@ mod copying;
 mod fault;
 mod path;
 mod seq;
+#[cfg(test)]
+mod tests;
 mod text;
 mod value;
 

@@ -1,0 +1,6 @@
+pub mod Numbers
+pub mod Names
+pub mod Tokens
+pub mod Order
+pub mod Plans
+pub mod Refusals

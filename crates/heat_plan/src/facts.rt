@@ -1,0 +1,50 @@
+//! What a provider tells of a resource that is ready.
+use crate::{Properties, ResName};
+use heat_value::{Seq, Text, TryCopy};
+use std::alloc::AllocError;
+
+/// A ready resource's id and attributes.
+#[derive(Debug, Drop)]
+pub struct Facts {
+    pub id: Text,
+    pub attrs: Properties,
+}
+
+/// The facts of one name.
+#[derive(Debug, Drop)]
+pub struct KnownFacts {
+    pub name: ResName,
+    pub facts: Facts,
+}
+
+/// The facts that an item's functions may read, by name.
+#[derive(Debug, Drop)]
+pub struct Known {
+    pub facts: Seq<KnownFacts>,
+}
+
+impl TryCopy for Facts {
+    fn copy(&self) -> Result<Facts, AllocError> {
+        Ok(Facts {
+            id: self.id.copy()?,
+            attrs: self.attrs.copy()?,
+        })
+    }
+}
+
+impl TryCopy for KnownFacts {
+    fn copy(&self) -> Result<KnownFacts, AllocError> {
+        Ok(KnownFacts {
+            name: self.name.copy()?,
+            facts: self.facts.copy()?,
+        })
+    }
+}
+
+impl TryCopy for Known {
+    fn copy(&self) -> Result<Known, AllocError> {
+        Ok(Known {
+            facts: self.facts.copy()?,
+        })
+    }
+}

@@ -1,0 +1,33 @@
+//! One resource that a plan asks for.
+use crate::{Kind, Needs, Properties, ResName};
+use heat_value::TryCopy;
+use std::alloc::AllocError;
+
+/// What becomes of a resource that no plan names any more.
+#[derive(Clone, Copy, Debug, PartialEq, Eq)]
+pub enum Policy {
+    Delete,
+    Retain,
+}
+
+/// A resource that a plan asks for; `needs` names the items that have to be there before it.
+#[derive(Debug, Drop)]
+pub struct Item {
+    pub name: ResName,
+    pub kind: Kind,
+    pub props: Properties,
+    pub needs: Needs,
+    pub policy: Policy,
+}
+
+impl TryCopy for Item {
+    fn copy(&self) -> Result<Item, AllocError> {
+        Ok(Item {
+            name: self.name.copy()?,
+            kind: self.kind.copy()?,
+            props: self.props.copy()?,
+            needs: self.needs.copy()?,
+            policy: self.policy,
+        })
+    }
+}

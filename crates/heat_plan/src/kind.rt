@@ -1,0 +1,21 @@
+//! A resource type.
+use heat_value::{Seq, Text, TryCopy};
+use std::alloc::AllocError;
+
+/// A resource type: its name, its attributes, and in `soft` the properties that change in place.
+#[derive(Debug, Drop)]
+pub struct Kind {
+    pub name: Text,
+    pub attrs: Seq<Text>,
+    pub soft: Seq<Text>,
+}
+
+impl TryCopy for Kind {
+    fn copy(&self) -> Result<Kind, AllocError> {
+        Ok(Kind {
+            name: self.name.copy()?,
+            attrs: self.attrs.copy()?,
+            soft: self.soft.copy()?,
+        })
+    }
+}

@@ -1,0 +1,31 @@
+//! Names, numbers, tokens and plans: the words that all layers above share.
+//! Each type keeps what it promises of itself; nothing here knows of a state, a step or a cloud.
+#![tactic(auto)]
+
+mod calls;
+mod facts;
+mod item;
+mod kind;
+mod names;
+mod needs;
+mod numbers;
+mod phase;
+mod plan;
+mod properties;
+mod refusal;
+#[cfg(test)]
+mod tests;
+mod token;
+
+pub use calls::{Answered, Request};
+pub use facts::{Facts, Known, KnownFacts};
+pub use item::{Item, Policy};
+pub use kind::Kind;
+pub use names::{ResName, StackName};
+pub use needs::{Needs, is_rising};
+pub use numbers::{EngineNo, LetterNo, RowNo, StackNo, TravNo, WORN};
+pub use phase::{Act, Status};
+pub use plan::{Condition, File, Output, Plan};
+pub use properties::{Expression, Properties};
+pub use refusal::Refusal;
+pub use token::Token;

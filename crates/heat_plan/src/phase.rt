@@ -1,0 +1,18 @@
+//! What is being done, and how far it is: of a stack's traversal and of a resource row.
+
+/// What is done.
+#[derive(Clone, Copy, Debug, PartialEq, Eq)]
+pub enum Act {
+    Init,
+    Create,
+    Update,
+    Delete,
+}
+
+/// How far it is.
+#[derive(Clone, Copy, Debug, PartialEq, Eq)]
+pub enum Status {
+    Complete,
+    InProgress,
+    Failed,
+}

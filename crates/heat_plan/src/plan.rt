@@ -1,0 +1,178 @@
+//! A plan: what a template asks for, once it is admitted.
+ghost use Rattle.std.specs.Prelude.{◌≡◌, List, ℕ};
+
+use crate::{Expression, Item, ResName};
+use heat_value::{Props, Seq, Text, TryCopy};
+use std::alloc::AllocError;
+use std::marker::Model;
+
+/// An output of a template, which is evaluated when it is listed.
+#[derive(Debug, Drop)]
+pub struct Output {
+    pub name: Text,
+    pub value: Expression,
+}
+
+/// A named condition and its value.
+#[derive(Debug, Drop)]
+pub struct Condition {
+    pub name: Text,
+    pub value: bool,
+}
+
+/// A file that a template reads, with its text.
+#[derive(Debug, Drop)]
+pub struct File {
+    pub name: Text,
+    pub content: Text,
+}
+
+/// Items in byte order of their names, each name once, whose needs are names of items and have no
+/// cycle; outputs; bound parameters; conditions; files; and the names of resources whose condition
+/// is false, none of which is an item's.
+#[derive(Debug, Drop)]
+pub struct Plan {
+    items: Seq<Item>,
+    outputs: Seq<Output>,
+    params: Props,
+    conds: Seq<Condition>,
+    files: Seq<File>,
+    absent: Seq<ResName>,
+}
+
+impl Model for Plan {
+    ghost use Rattle.heat_plan.specs.Plans.{PlanData, IsPlan};
+    ghost use Rattle.std.specs.Coded.{codes};
+    ghost use Rattle.heat_value.specs.Code.{data_code, members_code};
+
+    ghost Value = { PlanData };
+
+    ghost coded = { Prim.hlevel (codes, data_code, members_code) };
+
+    ghost view = { λ p. record {
+      items = p.items;
+      outputs = p.outputs;
+      params = p.params;
+      conds = p.conds;
+      files = p.files;
+      absent = p.absent;
+    } };
+
+    ghost invariant = { λ p. IsPlan p.items p.absent };
+}
+
+impl Plan {
+    ghost use Rattle.heat_plan.specs.Plans.{IsPlan};
+
+    /// A plan of these parts.
+    pub fn new(
+        items: Seq<Item>,
+        outputs: Seq<Output>,
+        params: Props,
+        conds: Seq<Condition>,
+        files: Seq<File>,
+        absent: Seq<ResName>,
+    ) -> Plan
+        requires { IsPlan items absent }
+        ensures { result ≡ record {
+          items = items;
+          outputs = outputs;
+          params = params;
+          conds = conds;
+          files = files;
+          absent = absent;
+        } }
+    {
+        Plan {
+            items,
+            outputs,
+            params,
+            conds,
+            files,
+            absent,
+        }
+    }
+
+    /// The items, in byte order of their names.
+    pub fn items(&self) -> &[Item]
+        ensures value { result.now ≡ self.now.items }
+        ensures plan { IsPlan self.now.items self.now.absent }
+    {
+        self.items.as_slice()
+    }
+
+    /// The outputs.
+    pub fn outputs(&self) -> &[Output]
+        ensures { result.now ≡ self.now.outputs }
+    {
+        self.outputs.as_slice()
+    }
+
+    /// The bound parameters, the pseudo parameters among them.
+    pub fn params(&self) -> &Props
+        ensures { result.now ≡ self.now.params }
+    {
+        &self.params
+    }
+
+    /// The conditions and their values.
+    pub fn conds(&self) -> &[Condition]
+        ensures { result.now ≡ self.now.conds }
+    {
+        self.conds.as_slice()
+    }
+
+    /// The files.
+    pub fn files(&self) -> &[File]
+        ensures { result.now ≡ self.now.files }
+    {
+        self.files.as_slice()
+    }
+
+    /// The resources whose condition is false.
+    pub fn absent(&self) -> &[ResName]
+        ensures { result.now ≡ self.now.absent }
+    {
+        self.absent.as_slice()
+    }
+}
+
+impl TryCopy for Output {
+    fn copy(&self) -> Result<Output, AllocError> {
+        Ok(Output {
+            name: self.name.copy()?,
+            value: self.value.copy()?,
+        })
+    }
+}
+
+impl TryCopy for Condition {
+    fn copy(&self) -> Result<Condition, AllocError> {
+        Ok(Condition {
+            name: self.name.copy()?,
+            value: self.value,
+        })
+    }
+}
+
+impl TryCopy for File {
+    fn copy(&self) -> Result<File, AllocError> {
+        Ok(File {
+            name: self.name.copy()?,
+            content: self.content.copy()?,
+        })
+    }
+}
+
+impl TryCopy for Plan {
+    fn copy(&self) -> Result<Plan, AllocError> {
+        Ok(Plan {
+            items: self.items.copy()?,
+            outputs: self.outputs.copy()?,
+            params: self.params.copy()?,
+            conds: self.conds.copy()?,
+            files: self.files.copy()?,
+            absent: self.absent.copy()?,
+        })
+    }
+}
