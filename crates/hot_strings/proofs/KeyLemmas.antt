@@ -28,21 +28,32 @@ longest_key [] s = inr (All-nil (λ p. ¬ (Begins p.0 s)))
 longest_key (p ∷ ps) s = go (begins p.0 s) (longest_key ps s)
   where
     own : ((rest : List ℕ) × (s ≡ p.0 ++ rest)) → All (λ q. Begins q.0 s → length q.0 ≤ length p.0) ps → (k : List ℕ) × (v : List ℕ) × IsLongestKey (p ∷ ps) s k v
-    own here below = (p.0, p.1, record {
-      listed = Contains-head ps p;
-      stands = here;
-      longest = All-cons (λ q. Begins q.0 s → length q.0 ≤ length p.0) p ps (λ _. omega arith) below;
-    })
+    own here below = (
+      p.0,
+      p.1,
+      record {
+        listed = Contains-head ps p;
+        stands = here;
+        longest = All-cons (λ q. Begins q.0 s → length q.0 ≤ length p.0) p ps (λ _. omega arith) below;
+      },
+    )
+
     keep : (k v : List ℕ) → IsLongestKey ps s k v → (Begins p.0 s → length p.0 ≤ length k) → (k : List ℕ) × (v : List ℕ) × IsLongestKey (p ∷ ps) s k v
-    keep k v best bound = (k, v, record {
-      listed = Contains-tail ps p (k, v) best.listed;
-      stands = best.stands;
-      longest = All-cons (λ q. Begins q.0 s → length q.0 ≤ length k) p ps bound best.longest;
-    })
+    keep k v best bound = (
+      k,
+      v,
+      record {
+        listed = Contains-tail ps p (k, v) best.listed;
+        stands = best.stands;
+        longest = All-cons (λ q. Begins q.0 s → length q.0 ≤ length k) p ps bound best.longest;
+      },
+    )
+
     against : (k v : List ℕ) → IsLongestKey ps s k v → Begins p.0 s → (length k < length p.0) ⊎ (length p.0 ≤ length k) → (k : List ℕ) × (v : List ℕ) × IsLongestKey (p ∷ ps) s k v
     against k v best here (inl longer) =
         own here (All-weaker (λ q. Begins q.0 s → length q.0 ≤ length k) (λ q. Begins q.0 s → length q.0 ≤ length p.0) (λ q h b. omega (arith, h b)) ps best.longest)
     against k v best here (inr shorter) = keep k v best (λ _. shorter)
+
     go : Begins p.0 s ⊎ ((rest : List ℕ) → s ≢ p.0 ++ rest) → ((k : List ℕ) × (v : List ℕ) × IsLongestKey ps s k v) ⊎ NoKeyBegins ps s
         → ((k : List ℕ) × (v : List ℕ) × IsLongestKey (p ∷ ps) s k v) ⊎ NoKeyBegins (p ∷ ps) s
     go (inl here) (inl (k, v, best)) = inl (against k v best here (cases_lt (length k) (length p.0)))
@@ -90,11 +101,16 @@ best_found params s longest None some below is =
     nonempty : (k : List ℕ) → k ≢ [] → length k ≤ longest → ⊥
     nonempty [] h le = h refl
     nonempty (x ∷ k) h le = omega (arith, is)
-best_found params s longest (Some i) some below best = (best.key, best.value, best.there, record {
-  listed = Contains-get params i (best.key, best.value) best.there;
-  stands = best.stands;
-  longest = rw (← best.length) below;
-})
+best_found params s longest (Some i) some below best = (
+  best.key,
+  best.value,
+  best.there,
+  record {
+    listed = Contains-get params i (best.key, best.value) best.there;
+    stands = best.stands;
+    longest = rw (← best.length) below;
+  },
+)
 
 -- what holds of the items so far and of the next
 pub All-step : {X : Type 0} (P : X → Type 0) (xs : List X) (i : ℕ) (x : X) → i < length xs → x ≡ get_or xs i x → P x → All P (take i xs) → All P (take (i + 1) xs)
@@ -109,7 +125,7 @@ pub best_more : (params : Params) (s : List ℕ) (i longest : ℕ) (p : List ℕ
     → All (λ q. Begins q.0 s → length q.0 ≤ length k) (take (i + 1) params) × IsBest params s (length k) i
 best_more params s i longest p k l e is here longer all = (
   All-step (λ q. Begins q.0 s → length q.0 ≤ length k) params i p l e (λ _. omega (arith, ap length is))
-  (All-weaker (λ q. Begins q.0 s → length q.0 ≤ longest) (λ q. Begins q.0 s → length q.0 ≤ length k) (λ q h b. omega (arith, h b)) (take i params) all),
+      (All-weaker (λ q. Begins q.0 s → length q.0 ≤ longest) (λ q. Begins q.0 s → length q.0 ≤ length k) (λ q h b. omega (arith, h b)) (take i params) all),
   record { key = p.0; value = p.1; there = slice_get_read params (length params) i p refl l e; stands = subst (λ (x : List ℕ). Begins x s) is here; length = ap length is },
 )
 

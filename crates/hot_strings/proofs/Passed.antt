@@ -43,7 +43,7 @@ none_there d s done rest at left leads lacks is more = (done ++ rest ∷ [], lea
 pub too_long_there : (d s : List ℕ) (done ps : List (List ℕ)) (p : List ℕ) → AreSplit d s (done ++ p ∷ ps) → IsTooLong (items (node_last (texts done) (words p))) → IsSplitTooLong d s all
 too_long_there d s done ps p split h =
     let whole : texts ((done ++ p ∷ []) ++ ps) ≢ no_nodes
-        = λ e. node_last-some (texts done) (words p) (none_before (done ++ p ∷ []) ps e (texts-push done p)) in
+    = λ e. node_last-some (texts done) (words p) (none_before (done ++ p ∷ []) ps e (texts-push done p)) in
     let long : IsTooLong (items (texts ((done ++ p ∷ []) ++ ps))) = omega (
       arith,
       length-nodes_text-true (texts ((done ++ p ∷ []) ++ ps)) whole,

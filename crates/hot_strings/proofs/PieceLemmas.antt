@@ -49,6 +49,7 @@ first_there params s texts (cs, (scalar, is)) some = go (longest_key params s)
     one none (c ∷ cs) scalar e =
         let both = both_true (scalar_of c) (scalars cs) scalar in
         (character c, encode_utf8_all cs, e, (both.0, none), (cs, (both.1, refl)))
+
     go : ((k : List ℕ) × (v : List ℕ) × IsLongestKey params s k v) ⊎ NoKeyBegins params s → HasFirst params s
     go (inl (k, v, best)) =
         (key k v, best.stands.0, best.stands.1, best, IsUtf8-behind k s best.stands.0 (cs, (scalar, is)) (All-contains (λ p. IsUtf8 p.0) params (k, v) texts best.listed) best.stands.1)

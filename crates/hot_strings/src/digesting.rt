@@ -13,7 +13,10 @@ use std::alloc::{AllocError, Global};
 pub fn is_digest_name(name: &Text) -> bool
     ensures { IsTrue result ↔ IsDigestName name.now }
 {
-    matches!(name.as_str(), "md5" | "sha1" | "sha224" | "sha256" | "sha384" | "sha512")
+    matches!(
+        name.as_str(),
+        "md5" | "sha1" | "sha224" | "sha256" | "sha384" | "sha512"
+    )
 }
 
 /// The digest of that name of the text's bytes, in lower-case hex.

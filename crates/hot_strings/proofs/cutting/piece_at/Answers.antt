@@ -10,12 +10,14 @@ returns-then-left-eq0 c =
 
 pub loop-piece-preserved : goal.loop-piece-preserved
 loop-piece-preserved c =
-    let walk = c.loop-piece.invariant.1 in
-    (c.in-Some.ensures.utf8, (
-      walk.0 ++ c.in-Some.piece.now ∷ [],
-      omega (arith, walk.1, length-append walk.0 (c.in-Some.piece.now ∷ [])),
-      LeadsTo-step c.args.delimiter.now c.args.text.now walk.0 c.loop-piece.rest.now c.in-Some.piece.now c.in-Some.tail.now walk.2 c.in-Some.ensures.parts,
-    ))
+    let walk = c.loop-piece.invariant.1 in (
+      c.in-Some.ensures.utf8,
+      (
+        walk.0 ++ c.in-Some.piece.now ∷ [],
+        omega (arith, walk.1, length-append walk.0 (c.in-Some.piece.now ∷ [])),
+        LeadsTo-step c.args.delimiter.now c.args.text.now walk.0 c.loop-piece.rest.now c.in-Some.piece.now c.in-Some.tail.now walk.2 c.in-Some.ensures.parts,
+      ),
+    )
 
 pub returns-then-left-eq0-2 : goal.returns-then-left-eq0-2
 returns-then-left-eq0-2 c =

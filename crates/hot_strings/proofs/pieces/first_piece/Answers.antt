@@ -8,8 +8,7 @@ pub returns-in-Some-clause-piece : goal.returns-in-Some-clause-piece
 returns-in-Some-clause-piece c =
     let found = c.in-Some.ensures in
     let below : c.in-Some.i < length c.args.params.now = slice_get_within c.args.params.now c.in-Some.i (found.0, found.1) found.2 in
-    let item = item_there c.args.params.now c.in-Some.i c.index-params-i.result found.0 found.1 below c.index-params-i.is found.2 in
-    (
+    let item = item_there c.args.params.now c.in-Some.i c.index-params-i.result found.0 found.1 below c.index-params-i.is found.2 in (
       key found.0 found.1,
       c.behind.ensures.value ∙ ap (λ k. k ++ c.behind.result.now) (c.as_str-in-Some.ensures ∙ item.0),
       found.3,

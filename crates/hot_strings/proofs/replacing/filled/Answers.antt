@@ -25,12 +25,14 @@ loop-rest-smaller c =
 pub loop-rest-preserved : goal.loop-rest-preserved
 loop-rest-preserved c =
     let walk = c.loop-rest.invariant.1 in
-    let piece = c.first_piece.ensures.piece in
-    (c.first_piece.ensures.utf8, (
-      walk.0 ++ piece.0 ∷ [],
-      rw (replaced-push walk.0 piece.0, ← walk.1, ← piece.3) c.in_ok-push.ensures.ok,
-      LeadsTo-step c.args.params.now c.args.template.now walk.0 c.loop-rest.rest.now piece.0 c.first_piece.result.1.now walk.2 piece.1 piece.2,
-    ))
+    let piece = c.first_piece.ensures.piece in (
+      c.first_piece.ensures.utf8,
+      (
+        walk.0 ++ piece.0 ∷ [],
+        rw (replaced-push walk.0 piece.0, ← walk.1, ← piece.3) c.in_ok-push.ensures.ok,
+        LeadsTo-step c.args.params.now c.args.template.now walk.0 c.loop-rest.rest.now piece.0 c.first_piece.result.1.now walk.2 piece.1 piece.2,
+      ),
+    )
 
 pub returns-clause-ok : goal.returns-clause-ok
 returns-clause-ok c =

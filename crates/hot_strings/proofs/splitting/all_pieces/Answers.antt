@@ -17,12 +17,14 @@ returns-in_err-push-clause-err c =
 
 pub loop-piece-preserved : goal.loop-piece-preserved
 loop-piece-preserved c =
-    let walk = c.loop-piece.invariant.1 in
-    (c.in-Some.ensures.utf8, (
-      walk.0 ++ c.in-Some.piece.now ∷ [],
-      rw (texts-push walk.0 c.in-Some.piece.now, ← walk.1) c.in_ok-push.ensures.ok,
-      LeadsTo-step c.args.delimiter.now c.args.text.now walk.0 c.loop-piece.rest.now c.in-Some.piece.now c.in-Some.tail.now walk.2 c.in-Some.ensures.parts,
-    ))
+    let walk = c.loop-piece.invariant.1 in (
+      c.in-Some.ensures.utf8,
+      (
+        walk.0 ++ c.in-Some.piece.now ∷ [],
+        rw (texts-push walk.0 c.in-Some.piece.now, ← walk.1) c.in_ok-push.ensures.ok,
+        LeadsTo-step c.args.delimiter.now c.args.text.now walk.0 c.loop-piece.rest.now c.in-Some.piece.now c.in-Some.tail.now walk.2 c.in-Some.ensures.parts,
+      ),
+    )
 
 pub returns-in_err-push-2-clause-err : goal.returns-in_err-push-2-clause-err
 returns-in_err-push-2-clause-err c =
