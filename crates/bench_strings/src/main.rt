@@ -101,7 +101,11 @@ fn main(rt: HostRuntime) -> Result<()> {
     let _program = words.next();
     let word = words.next().unwrap_or(String::new(alloc));
     let bytes = words.next().unwrap_or(String::new(alloc));
-    let count = done(alloc, work_of(word.as_str()), bytes.as_str().parse::<usize>().unwrap_or(0))?;
+    let count = done(
+        alloc,
+        work_of(word.as_str()),
+        bytes.as_str().parse::<usize>().unwrap_or(0),
+    )?;
     println!(rt; "{count}")?;
     Ok(())
 }
