@@ -1,0 +1,10 @@
+use Rattle.std.proofs.Common.{◌+◌, ◌-◌, length, arith}
+use Rattle.hot_strings.proofs.KeyLemmas.{AreDistinct-item}
+use Rattle.hot_strings.proofs.keys.are_distinct.Goals as goal
+
+pub returns-then-not-lacks_key : goal.returns-then-not-lacks_key
+returns-then-not-lacks_key c = (
+  λ h. cc,
+  λ distinct. c.if-not-lacks_key.ensures.1
+      (AreDistinct-item c.args.params.now c.loop-i.i (length c.args.params.now - (c.loop-i.i + 1)) c.index-params-i.result (omega arith) c.index-params-i.is (c.loop-i.invariant.0 distinct)),
+)

@@ -1,0 +1,26 @@
+//! The text functions of templates: join, split, replace and digest, each a relation between whole
+//! texts. A result is a value of at most `MAX_SIZE` bytes of compact JSON, and nothing much longer is
+//! ever built. No call changes its arguments.
+#![tactic(auto)]
+
+mod cutting;
+mod digesting;
+mod draft;
+mod fault;
+mod joining;
+mod keys;
+mod listing;
+mod pieces;
+mod replacing;
+mod size;
+mod splitting;
+#[cfg(test)]
+mod tests;
+
+pub use digesting::{digest, is_digest_name};
+pub use fault::StringFault;
+pub use joining::join;
+pub use keys::are_distinct;
+pub use replacing::replace;
+pub use size::MAX_SIZE;
+pub use splitting::split;

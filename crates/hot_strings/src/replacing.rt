@@ -1,0 +1,102 @@
+//! Replacing keys in a template, in one pass.
+ghost use Rattle.std.specs.Prelude.{◌≡◌, IsTrue, IfOk, IfErr, OnOk, MatchBool, All};
+ghost use Rattle.std.specs.Str.{IsUtf8};
+ghost use Rattle.heat_value.specs.Data.{words};
+ghost use Rattle.hot_strings.specs.Only.{HoldsOfOne};
+ghost use Rattle.hot_strings.specs.Places.{IsPart, Lacks};
+ghost use Rattle.hot_strings.specs.Size.{Fits};
+ghost use Rattle.hot_strings.specs.Pieces.{ArePieces, IsReplaced, IsReplaceFault, AreDistinct, HasEmptyKey, HasNoEmptyKey, LacksSomeKey, HasEveryKey, IsOfReplaced};
+
+use crate::StringFault;
+use crate::draft::Draft;
+use crate::pieces::first_piece;
+use heat_value::Text;
+use std::alloc::Global;
+
+/// The template with each key's value in the key's place: at each place the longest key that stands
+/// there counts, and what was put in isn't read again. With `strict` each key has to stand somewhere
+/// in the template. The faults come in this order: F03 for an empty key, F04 for a key that stands
+/// nowhere, F06 for a result that is too long.
+pub fn replace(
+    alloc: Global,
+    template: &Text,
+    params: &[(Text, Text)],
+    strict: bool,
+) -> Result<Text, StringFault>
+    requires { AreDistinct params.now }
+    ensures ok { IfOk result (IsReplaced params.now template.now) }
+    ensures fits { IfOk result (λ t. Fits (words t)) }
+    ensures keys { OnOk result (HasNoEmptyKey params.now) }
+    ensures all { OnOk result (IsTrue strict → HasEveryKey params.now template.now) }
+    ensures err { IfErr result (λ e. IsReplaceFault e params.now template.now strict) }
+
+    // There is exactly one list of pieces.
+    ensures one { HasNoEmptyKey params.now → HoldsOfOne (ArePieces params.now template.now) }
+{
+    if has_empty_key(params) {
+        return Err(StringFault::F03);
+    }
+    if strict_fails(strict, params, template.as_str()) {
+        return Err(StringFault::F04);
+    }
+    filled(alloc, template.as_str(), params)
+}
+
+// Whether some key is empty; if not, each key is known as text.
+fn has_empty_key(params: &[(Text, Text)]) -> bool
+    ensures { MatchBool result (HasEmptyKey params.now)
+        (HasNoEmptyKey params.now × All (λ p. IsUtf8 p.0) params.now) }
+{
+    for param in params {
+        if param.0.as_str().is_empty() {
+            return true;
+        }
+    }
+    false
+}
+
+// Whether some key stands nowhere in the template, where that counts.
+fn strict_fails(strict: bool, params: &[(Text, Text)], template: &str) -> bool
+    ensures { MatchBool result (IsTrue strict × LacksSomeKey params.now template.now)
+        (IsTrue strict → HasEveryKey params.now template.now) }
+{
+    strict && lacks_some_key(params, template)
+}
+
+// Whether some key stands nowhere in the template.
+fn lacks_some_key(params: &[(Text, Text)], template: &str) -> bool
+    ensures { MatchBool result (LacksSomeKey params.now template.now)
+        (HasEveryKey params.now template.now) }
+{
+    for param in params {
+        if !has_part(template, param.0.as_str()) {
+            return true;
+        }
+    }
+    false
+}
+
+// Whether a key stands somewhere in a text.
+fn has_part(text: &str, key: &str) -> bool
+    ensures { MatchBool result (IsPart key.now text.now) (Lacks key.now text.now) }
+{
+    text.contains(key)
+}
+
+// The template with the values put in.
+fn filled(alloc: Global, template: &str, params: &[(Text, Text)]) -> Result<Text, StringFault>
+    requires keys { HasNoEmptyKey params.now }
+    requires texts { All (λ p. IsUtf8 p.0) params.now }
+    ensures ok { IfOk result (IsReplaced params.now template.now) }
+    ensures fits { IfOk result (λ t. Fits (words t)) }
+    ensures err { IfErr result (λ e. IsOfReplaced e params.now template.now) }
+{
+    let mut draft = Draft::new(alloc);
+    let mut rest = template;
+    while !rest.is_empty() {
+        let (put, tail) = first_piece(params, rest);
+        draft.push(put)?;
+        rest = tail;
+    }
+    Ok(draft.finish())
+}
