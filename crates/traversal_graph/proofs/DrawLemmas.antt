@@ -1,12 +1,12 @@
 -- Candidates considered one after another, on the list and on the graph.
-use Rattle.std.proofs.Common.{◌≡◌, ◌⊎◌, ℕ, ◌<◌, ◌^◌, List, [], ◌∷◌, ◌++◌, length, refl, sym, ap, subst, ◌∙◌, inl, inr, append_assoc, arith}
-use Rattle.std.specs.Prelude.{Contains, ◌↔◌}
+use Rattle.std.proofs.Common.{◌≡◌, ℕ, ◌<◌, ◌^◌, List, [], ◌∷◌, ◌++◌, refl, sym, ap, ◌∙◌, inl, inr, append_assoc, arith}
+use Rattle.std.specs.Prelude.{Contains}
 use Rattle.std.proofs.lemmas.List.{append-nil}
 use Rattle.std.proofs.lemmas.List.Elements.{Contains-push, Contains-push_cases, Contains-append_left}
-use Rattle.dep_graph.specs.Paths.{IsPath, HasPath, IsAcyclic, IsCycle}
+use Rattle.dep_graph.specs.Paths.{IsPath, HasPath, IsAcyclic}
 use Rattle.dep_graph.specs.Edges.{Links, HasEdge, IsBare}
 use Rattle.dep_graph.specs.Closings.{Opens, Closes}
-use Rattle.dep_graph.proofs.PathLemmas.{IsPath-weaker, HasPath-leads, Leads-weaker, leads_of, acyclic_from, no_loop, Loops}
+use Rattle.dep_graph.proofs.PathLemmas.{IsPath-weaker, HasPath-leads, Leads-weaker, leads_of, acyclic_from, no_loop}
 use Rattle.traversal_graph.specs.declared.draft.Draft.{Draft}
 use Rattle.traversal_graph.specs.Builds.{Joins, Considers, Keeps}
 use Rattle.traversal_graph.specs.Builds.Keeps.{begins, goes_on}

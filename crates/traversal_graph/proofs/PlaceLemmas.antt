@@ -1,17 +1,9 @@
 -- The place of an item by its name.
-use Rattle.std.proofs.Common.{◌≡◌, ℕ, ◌+◌, ◌<◌, ◌≤◌, Bool, true, false, eqb, List, [], ◌∷◌, length, get_or, take, map, ◌⊎◌, inl, inr, subst, refl, sym, ap, ◌∙◌, arith}
-use Rattle.std.specs.Prelude.{Contains, All}
-use Rattle.std.specs.List.{position_or_len}
+use Rattle.std.proofs.Common.{◌≡◌, ℕ, ◌<◌, ◌≤◌, true, false, List, [], ◌∷◌, length, get_or, refl, sym, arith}
 use Rattle.std.specs.Str.{bytes_eq}
-use Rattle.std.proofs.lemmas.Bool.{cases_lt, false≢true, eq-eqb}
-use Rattle.std.proofs.lemmas.List.{get_or-map, length-map, map_more}
-use Rattle.std.proofs.lemmas.List.Sums.{position_or_len_is, fails_before_first}
+use Rattle.std.proofs.lemmas.List.Sums.{position_or_len_is}
 use Rattle.heat_plan.specs.declared.item.Item.{Item}
-use Rattle.heat_plan.specs.Plans.{names_of}
-use Rattle.traversal_graph.specs.declared.draft.Draft.{Draft}
 use Rattle.traversal_graph.specs.Candidates.{place_of}
-use Rattle.traversal_graph.specs.Drafts.{Draws}
-use Rattle.traversal_graph.proofs.DrawLemmas.{Draws-append}
 
 pub place_is : (items : List Item) (name : List ℕ) (i : ℕ) (d : Item) → i ≤ length items
     → ((k : ℕ) (e : Item) → k < i → bytes_eq name (get_or items k e).name ≡ false)

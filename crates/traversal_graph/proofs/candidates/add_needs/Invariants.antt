@@ -1,4 +1,4 @@
-use Rattle.std.proofs.Common.{take, length}
+use Rattle.std.proofs.Common.{take}
 use Rattle.traversal_graph.specs.Candidates.{each, needs_into}
 use Rattle.traversal_graph.specs.Drafts.{Draws}
 use Rattle.traversal_graph.proofs.candidates.add_needs.Given as goal

@@ -1,7 +1,5 @@
 -- Each turn considers one need, where it is the name of an item.
-use Rattle.std.proofs.Common.{ℕ, length}
 use Rattle.std.proofs.lemmas.Bool.{lt-ltb, le-ltb}
-use Rattle.traversal_graph.specs.Candidates.{place_of}
 use Rattle.traversal_graph.proofs.DrawLemmas.{Draws-none}
 use Rattle.traversal_graph.proofs.EachLemmas.{Draws-more, Draws-if, Draws-unless}
 use Rattle.traversal_graph.proofs.candidates.add_needs_of.Goals as goal

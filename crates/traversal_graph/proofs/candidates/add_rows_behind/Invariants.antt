@@ -1,7 +1,4 @@
-use Rattle.std.proofs.Common.{ℕ, ◌+◌, take, false}
-use Rattle.std.specs.Prelude.{◌==◌}
-use Rattle.std.specs.Option.{option_map_or}
-use Rattle.std.specs.List.{list_any}
+use Rattle.std.proofs.Common.{ℕ, ◌+◌, take}
 use Rattle.std.specs.Str.{bytes_eq}
 use Rattle.traversal_graph.specs.declared.brief.RowBrief.{RowBrief}
 use Rattle.traversal_graph.specs.Candidates.{each, edge_if}

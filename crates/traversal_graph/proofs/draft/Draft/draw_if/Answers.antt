@@ -1,4 +1,4 @@
-use Rattle.traversal_graph.proofs.EachLemmas.{Draws-if, Draws-unless}
+use Rattle.traversal_graph.proofs.EachLemmas.{Draws-unless}
 use Rattle.traversal_graph.proofs.draft.Draft.draw_if.Goals as goal
 
 pub returns-else-passes : goal.returns-else-passes

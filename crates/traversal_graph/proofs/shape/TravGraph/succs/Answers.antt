@@ -1,5 +1,5 @@
 -- Each turn looks at one edge, and takes its other end if it is the node's.
-use Rattle.std.proofs.Common.{◌≡◌, ℕ, ◌<◌, get_or, ap}
+use Rattle.std.proofs.Common.{ℕ, get_or, ap}
 use Rattle.std.proofs.lemmas.List.{take_all}
 use Rattle.traversal_graph.proofs.ListLemmas.{ListsAll-more, ListsAll-skip}
 use Rattle.traversal_graph.proofs.shape.TravGraph.succs.Goals as goal
