@@ -3,7 +3,7 @@ use Rattle.std.proofs.Common.{◌≡◌, ◌≢◌, inl, inr, ℕ, ◌*◌, List
 use Rattle.std.proofs.lemmas.List.{append-nil}
 use Rattle.std.proofs.lemmas.Bool.{cases_eq}
 use Rattle.std.proofs.lemmas.Bool.Decides.{nat_tests}
-use Rattle.gated_record.specs.Records.{Record, recovered, written, at_rest, IsWithOrWithout}
+use Rattle.gated_record.specs.Records.{Record, recovered, written, IsWithOrWithout}
 
 pub length-written : (records : List Record) → length (written records) ≡ 3 * length records
 length-written [] = refl

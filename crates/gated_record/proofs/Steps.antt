@@ -1,5 +1,5 @@
 -- An append, from disk call to disk call: what a crash has left so far, and what it may leave now.
-use Rattle.std.proofs.Common.{◌≡◌, ◌⊎◌, ℕ, ◌+◌, ◌*◌, ◌≤◌, List, [], ◌∷◌, ◌++◌, length, Result, Ok, inl, inr, sym, ◌∙◌, ap, subst, arith, length-append}
+use Rattle.std.proofs.Common.{◌≡◌, ℕ, ◌+◌, ◌*◌, ◌≤◌, List, [], ◌∷◌, ◌++◌, length, Result, inl, sym, ◌∙◌, ap, subst, arith, length-append}
 use Rattle.heat_disk.specs.declared.half.Half.{Half}
 use Rattle.heat_disk.specs.declared.disk.DiskFailed.{DiskFailed}
 use Rattle.heat_disk.specs.Halves.{Pair, part, changed}
@@ -8,7 +8,7 @@ use Rattle.heat_disk.specs.Shown.{Shown, Elapses, SameContent, IsLawful, LeavesO
 use Rattle.heat_disk.specs.Calls.{Writes, Syncs}
 use Rattle.heat_disk.proofs.Moments.{started, goes_on, stays_same}
 use Rattle.heat_disk.proofs.Parts.{part-changed}
-use Rattle.gated_record.specs.Records.{Record, recovered, written, at_rest, IsWithOrWithout}
+use Rattle.gated_record.specs.Records.{Record, recovered, at_rest, IsWithOrWithout}
 use Rattle.gated_record.specs.Rest.{records_of, IsAtRest}
 use Rattle.gated_record.proofs.Blocks.{recovered_closed}
 use Rattle.gated_record.proofs.Crash.{staged, length-at_rest, torn_behind, written_behind, length-staged, torn_gate, written_gate}

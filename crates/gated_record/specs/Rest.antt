@@ -1,7 +1,7 @@
 -- When a log of records is at rest on its disk.
 use Rattle.std.specs.Prelude.{◌≡◌, ℕ, List, length}
 use Rattle.heat_disk.specs.declared.half.Half.{Half}
-use Rattle.heat_disk.specs.Halves.{Pair, part}
+use Rattle.heat_disk.specs.Halves.{part}
 use Rattle.heat_disk.specs.Images.{Only}
 use Rattle.heat_disk.specs.Shown.{Shown}
 use Rattle.gated_record.specs.Records.{Record, recovered, at_rest}

@@ -24,7 +24,8 @@ pub fn start<D: Disk>(disk: &mut D, half: Half) -> Result<(), LogFault>
     requires empty { IsTrue (D.shown disk.old).tells → part half (D.shown disk.old).seen ≡ [] }
     requires durable { IsTrue (D.shown disk.old).tells → IsDurable (D.shown disk.old) }
 
-    ensures rest { IsTrue (D.shown disk.old).tells → OnOk result (IsAtRest half 0 (D.shown disk.new)) }
+    ensures rest { IsTrue (D.shown disk.old).tells →
+        OnOk result (IsAtRest half 0 (D.shown disk.new)) }
     ensures any_moment { IsTrue (D.shown disk.old).tells →
         LeavesOnly (D.shown disk.old) (D.shown disk.new) (λ c. recovered (part half c) ≡ []) }
     ensures tells { (D.shown disk.new).tells ≡ (D.shown disk.old).tells }
@@ -43,7 +44,8 @@ pub fn start<D: Disk>(disk: &mut D, half: Half) -> Result<(), LogFault>
 impl<D: Disk> Log<D> {
     /// Adds a record. At Ok it is acknowledged: each crash from then on leaves a log that has it.
     pub fn append(&mut self, key: u8, value: u8) -> Result<(), LogFault>
-        requires { IsTrue (D.shown self.old.disk).tells → IsAtRest self.old.half self.old.count (D.shown self.old.disk) }
+        requires { IsTrue (D.shown self.old.disk).tells →
+            IsAtRest self.old.half self.old.count (D.shown self.old.disk) }
 
         ensures rest { IsTrue (D.shown self.old.disk).tells →
             OnOk result (IsAtRest self.new.half self.new.count (D.shown self.new.disk)) }
@@ -54,13 +56,15 @@ impl<D: Disk> Log<D> {
         // A crash at any moment of the call leaves the log with the new record or without it.
         ensures any_moment { IsTrue (D.shown self.old.disk).tells →
             LeavesOnly (D.shown self.old.disk) (D.shown self.new.disk)
-            (λ c. IsWithOrWithout (records_of self.old.half (D.shown self.old.disk)) (key, value) (part self.old.half c)) }
+            (λ c. IsWithOrWithout (records_of self.old.half (D.shown self.old.disk)) (key, value)
+            (part self.old.half c)) }
 
         ensures same { (self.new.half ≡ self.old.half)
             × ((D.shown self.new.disk).tells ≡ (D.shown self.old.disk).tells)
             × (D.faults self.old.disk ≤ D.faults self.new.disk) }
         ensures count { OnOk result (self.new.count ≡ self.old.count + 1) }
-        ensures disk { IsErrOf result LogFault.Disk → Rose (D.faults self.old.disk) (D.faults self.new.disk) }
+        ensures disk { IsErrOf result LogFault.Disk →
+            Rose (D.faults self.old.disk) (D.faults self.new.disk) }
         ensures memory { IsErrOf result LogFault.Memory → IsTrue (D.shown self.old.disk).tells →
             SameContent (D.shown self.old.disk) (D.shown self.new.disk) }
         ensures full { IsErrOf result LogFault.Full ↔ (2 ^ 60 ≤ self.old.count) }
@@ -81,7 +85,8 @@ impl<D: Disk> Log<D> {
     /// Adds records, one by one. A crash at any moment leaves the old ones with some of the new behind
     /// them, in order, none skipped and none in part.
     pub fn append_all(&mut self, records: &[(u8, u8)]) -> Result<(), LogFault>
-        requires { IsTrue (D.shown self.old.disk).tells → IsAtRest self.old.half self.old.count (D.shown self.old.disk) }
+        requires { IsTrue (D.shown self.old.disk).tells →
+            IsAtRest self.old.half self.old.count (D.shown self.old.disk) }
 
         ensures rest { IsTrue (D.shown self.old.disk).tells →
             OnOk result (IsAtRest self.new.half self.new.count (D.shown self.new.disk)) }
@@ -90,9 +95,11 @@ impl<D: Disk> Log<D> {
             ≡ records_of self.old.half (D.shown self.old.disk) ++ records.now) }
         ensures any_moment { IsTrue (D.shown self.old.disk).tells →
             LeavesOnly (D.shown self.old.disk) (D.shown self.new.disk)
-            (λ c. IsGrown (records_of self.old.half (D.shown self.old.disk)) records.now (part self.old.half c)) }
+            (λ c. IsGrown (records_of self.old.half (D.shown self.old.disk)) records.now
+            (part self.old.half c)) }
 
-        ensures disk { IsErrOf result LogFault.Disk → Rose (D.faults self.old.disk) (D.faults self.new.disk) }
+        ensures disk { IsErrOf result LogFault.Disk →
+            Rose (D.faults self.old.disk) (D.faults self.new.disk) }
         ensures full { IsErrOf result LogFault.Full → 2 ^ 60 < self.old.count + length records.now }
     {
         for (key, value) in records {

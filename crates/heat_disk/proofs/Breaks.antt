@@ -1,11 +1,11 @@
 -- Each image after a step of a half is an image from before it that went through the step.
-use Rattle.std.proofs.Common.{◌≡◌, ◌⊎◌, ℕ, ◌+◌, ◌-◌, ◌<◌, ◌≤◌, min, max, Bool, true, false, ◌&&◌, cond, nat_lt, nat_le, List, [], ◌∷◌, ◌++◌, length, get_or, take, drop, refl, sym, ◌∙◌, ap, subst, inl, inr, ⊎_elim, arith, length-take, length-drop}
-use Rattle.std.proofs.lemmas.Bool.{cases_lt, or_parts, cond-true, cond-false, and_from, and_left, and_right, lt-ltb, le-ltb, le-leb, lt-leb, not_from_true, not-false}
-use Rattle.std.proofs.lemmas.List.{ext_get_or, get_or-take, get_or-drop, drop_all}
+use Rattle.std.proofs.Common.{◌≡◌, ◌⊎◌, ℕ, ◌+◌, ◌<◌, ◌≤◌, min, max, false, ◌&&◌, cond, nat_lt, nat_le, List, [], length, get_or, take, drop, sym, ◌∙◌, ap, subst, inl, inr, ⊎_elim, arith, length-take}
+use Rattle.std.proofs.lemmas.Bool.{cases_lt, cond-true, cond-false, and_from, and_left, and_right, lt-ltb, le-ltb, le-leb, lt-leb, not_from_true}
+use Rattle.std.proofs.lemmas.List.{ext_get_or, get_or-take, drop_all}
 use Rattle.heat_disk.specs.Images.{overwritten, Torn, Cut}
-use Rattle.heat_disk.specs.History.{wrote, cut_to, synced, Side, resting, moved, after, is_in, is_loose, MayLeave, tabulate, Call, sides, seen_of, LeavesPair}
+use Rattle.heat_disk.specs.History.{wrote, cut_to, Side, resting, after, is_loose, MayLeave, tabulate, Call, sides, seen_of, LeavesPair}
 use Rattle.heat_disk.specs.Halves.{Pair}
-use Rattle.heat_disk.specs.Sound.{length-overwritten, loose_more, tight_from}
+use Rattle.heat_disk.specs.Sound.{length-overwritten, tight_from}
 use Rattle.heat_disk.proofs.Tables.{length-tabulate, get_or-tabulate, is_front, same_rest}
 
 -- inside the range, what was there at the last sync; elsewhere the image

@@ -1,12 +1,12 @@
 -- What a disk that keeps its calls shows after one more.
-use Rattle.std.proofs.Common.{◌≡◌, ◌⊎◌, ℕ, ◌+◌, ◌≤◌, min, List, [], ◌∷◌, length, take, drop, Ok, refl, sym, ◌∙◌, ap, subst, inl, inr, arith}
+use Rattle.std.proofs.Common.{◌≡◌, ◌⊎◌, ℕ, ◌≤◌, List, ◌∷◌, length, Ok, refl, sym, ◌∙◌, ap, subst, inl, inr, arith}
 use Rattle.heat_disk.specs.declared.half.Half.{Half}
 use Rattle.heat_disk.specs.declared.half.Half.TheVariants.{First, Second}
 use Rattle.heat_disk.specs.Halves.{Pair, part}
 use Rattle.heat_disk.specs.Images.{Torn, Cut, Follows, Only}
 use Rattle.heat_disk.specs.Shown.{Room, Shown, Elapses}
 use Rattle.heat_disk.specs.Calls.{ReadsAlike, Writes, Cuts, Syncs}
-use Rattle.heat_disk.specs.History.{Step, wrote, cut_to, synced, Call, Side, resting, MayLeave, side, sides, seen_of, LeavesPair, shown_of}
+use Rattle.heat_disk.specs.History.{wrote, cut_to, synced, Call, MayLeave, side, sides, seen_of, LeavesPair, shown_of}
 use Rattle.heat_disk.specs.Memory.{Kept, counted, done, shown_by}
 use Rattle.heat_disk.specs.Sound.{sound_side}
 use Rattle.heat_disk.proofs.Breaks.{torn_from, cut_from, only_resting}

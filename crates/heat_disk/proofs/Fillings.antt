@@ -1,15 +1,15 @@
 -- The longest image of a half with one byte where anything may stand, step by step.
-use Rattle.std.proofs.Common.{◌≡◌, ◌⊎◌, ℕ, ◌+◌, ◌-◌, ◌<◌, ◌≤◌, min, max, Bool, true, false, not, ◌&&◌, ◌||◌, cond, nat_lt, nat_le, List, [], ◌∷◌, ◌++◌, length, get_or, take, drop, replicate, Option, Some, None, Result, Ok, Err, IfOk, IsSome, refl, sym, ◌∙◌, ap, subst, inl, inr, ⊎_elim, arith, length-take, length-drop}
-use Rattle.std.proofs.lemmas.Bool.{cases_lt, cases_Bool, or_cases, or_parts, or_left, or_right, or_from, cond-true, cond-false, and_from, and_left, and_right, lt-ltb, le-ltb, le-leb, lt-leb, not_from_true}
+use Rattle.std.proofs.Common.{◌≡◌, ◌⊎◌, ℕ, ◌+◌, ◌-◌, ◌<◌, ◌≤◌, max, true, false, not, ◌&&◌, cond, nat_lt, nat_le, List, [], length, get_or, take, replicate, Option, Some, None, Result, Ok, Err, IfOk, IsSome, sym, ◌∙◌, ap, subst, inl, inr, ⊎_elim, arith, length-take}
+use Rattle.std.proofs.lemmas.Bool.{cases_lt, cases_Bool, or_cases, or_left, or_right, cond-true, cond-false, and_from, lt-ltb, le-leb, not_from_true}
 use Rattle.std.proofs.lemmas.List.{ext_get_or, get_or-replicate, length-replicate}
 use Rattle.heat_disk.specs.declared.half.Half.{Half}
 use Rattle.heat_disk.specs.declared.half.Half.TheVariants.{First, Second}
 use Rattle.heat_disk.specs.Halves.{Pair, part}
 use Rattle.heat_disk.specs.Images.{overwritten}
 use Rattle.heat_disk.specs.Memory.{Kept, fresh, shown_by, IsLongest}
-use Rattle.heat_disk.specs.History.{Step, wrote, cut_to, synced, Side, resting, moved, after, is_in, is_loose, MayLeave, tabulate, filled, Call, side, sides, LeavesPair, image_of}
+use Rattle.heat_disk.specs.History.{Step, wrote, cut_to, synced, Side, resting, after, is_in, is_loose, MayLeave, tabulate, filled, Call, side, sides, LeavesPair, image_of}
 use Rattle.heat_disk.specs.Replay.{filled_after}
-use Rattle.heat_disk.specs.Sound.{length-overwritten, overwritten_front, overwritten_range, overwritten_behind, loose_more, tight_from, sound_resting, sound_side, sound_sides}
+use Rattle.heat_disk.specs.Sound.{length-overwritten, overwritten_front, overwritten_range, overwritten_behind, tight_from, sound_side, sound_sides}
 use Rattle.heat_disk.proofs.Tables.{length-tabulate, get_or-tabulate}
 
 pub length-filled : (b : ℕ) (s : Side) → length (filled b s) ≡ s.greatest

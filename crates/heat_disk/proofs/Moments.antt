@@ -1,5 +1,5 @@
 -- How a run of disk calls goes on, for those who build on a disk.
-use Rattle.std.proofs.Common.{◌≡◌, ◌⊎◌, ℕ, ◌≤◌, inl, inr, ⊎_elim, subst, sym, arith}
+use Rattle.std.proofs.Common.{inl, inr, ⊎_elim, arith}
 use Rattle.heat_disk.specs.Halves.{Pair}
 use Rattle.heat_disk.specs.Shown.{Shown, Elapses, SameContent, IsLawful, LeavesOnly}
 

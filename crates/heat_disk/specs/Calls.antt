@@ -1,5 +1,5 @@
 -- What each call of a disk that tells its content makes of what it shows.
-use Rattle.std.specs.Prelude.{◌≡◌, ℕ, ◌≤◌, List, length, take, Result, IfOk, OnOk, OnErr}
+use Rattle.std.specs.Prelude.{◌≡◌, ℕ, List, length, take, Result, IfOk, OnOk, OnErr}
 use Rattle.heat_disk.specs.declared.half.Half.{Half}
 use Rattle.heat_disk.specs.Halves.{Pair, part, changed}
 use Rattle.heat_disk.specs.Images.{overwritten, Fills, Torn, Cut, PartlyWritten, StepsAt, Follows, Only}

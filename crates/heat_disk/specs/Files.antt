@@ -1,5 +1,5 @@
 -- What a disk over two real files shows: nothing of their content.
-use Rattle.std.specs.Prelude.{ℕ, false, [], max}
+use Rattle.std.specs.Prelude.{ℕ, false, []}
 use Rattle.heat_disk.specs.declared.file.FileDisk.{FileDisk}
 use Rattle.heat_disk.specs.declared.file.Opened.{Opened}
 use Rattle.heat_disk.specs.Shown.{Room, Shown}

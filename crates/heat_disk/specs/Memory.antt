@@ -1,10 +1,10 @@
 -- A disk in memory, as data: what it began with, its calls, and which of them fail.
-use Rattle.std.specs.Prelude.{◌≡◌, ℕ, ◌+◌, ◌-◌, ◌≤◌, ◌^◌, min, max, Bool, true, cond, ◌&&◌, ◌==◌, nat_lt, List, [], ◌∷◌, length, Result, is_err}
+use Rattle.std.specs.Prelude.{◌≡◌, ℕ, ◌+◌, ◌-◌, ◌≤◌, ◌^◌, min, max, Bool, cond, ◌&&◌, ◌==◌, nat_lt, List, [], ◌∷◌, length, Result, is_err}
 use Rattle.std.specs.List.{list_any}
 use Rattle.heat_disk.specs.declared.half.Half.{Half}
-use Rattle.heat_disk.specs.Halves.{Pair, part, changed}
+use Rattle.heat_disk.specs.Halves.{Pair, changed}
 use Rattle.heat_disk.specs.Shown.{Room, Shown}
-use Rattle.heat_disk.specs.History.{Step, wrote, cut_to, synced, Call, sides, shown_of}
+use Rattle.heat_disk.specs.History.{Step, wrote, cut_to, synced, Call, shown_of}
 
 -- one half: what it began with, what it holds, and its room
 pub record Held : Type 0 where

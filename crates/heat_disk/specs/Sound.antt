@@ -1,14 +1,13 @@
 -- What a half reads as is one of the images that a crash may leave.
-use Rattle.std.specs.Prelude.{◌≡◌, ◌⊎◌, ℕ, zero, suc, ◌+◌, ◌-◌, ◌<◌, ◌≤◌, min, max, Bool, true, false, not, ◌&&◌, ◌||◌, cond, nat_lt, nat_le, List, [], ◌∷◌, ◌++◌, length, take, drop, get_or, refl}
-use Rattle.std.proofs.Common.{sym, ◌∙◌, ap, subst, inl, inr, ⊎_elim, arith, length-append, length-take, length-drop}
-use Rattle.std.proofs.lemmas.Bool.Decides.{nat_tests}
+use Rattle.std.specs.Prelude.{◌≡◌, ◌⊎◌, ℕ, ◌+◌, ◌-◌, ◌<◌, ◌≤◌, max, false, ◌&&◌, nat_lt, nat_le, List, [], ◌∷◌, ◌++◌, length, take, drop, get_or, refl}
+use Rattle.std.proofs.Common.{sym, ◌∙◌, ap, inl, inr, ⊎_elim, arith, length-append, length-take, length-drop}
 use Rattle.std.proofs.lemmas.Bool.{cases_lt, or_parts, or_from, and_cases, and_left, and_right, leb-false, ltb-false, lt-leb, le-ltb, cond_both}
 use Rattle.std.proofs.lemmas.List.{get_or_append_left, get_or-append_right, get_or-take, get_or-drop, get_or_past}
 use Rattle.heat_disk.specs.declared.half.Half.{Half}
 use Rattle.heat_disk.specs.declared.half.Half.TheVariants.{First, Second}
 use Rattle.heat_disk.specs.Halves.{Pair}
 use Rattle.heat_disk.specs.Images.{overwritten}
-use Rattle.heat_disk.specs.History.{Step, wrote, cut_to, synced, Call, Side, resting, moved, after, is_in, is_loose, MayLeave, is_same, side, sides, seen_of, LeavesPair, LeftSince, shown_of}
+use Rattle.heat_disk.specs.History.{Step, wrote, cut_to, synced, Call, Side, resting, moved, after, is_loose, MayLeave, is_same, side, sides, seen_of, LeavesPair, LeftSince, shown_of}
 use Rattle.heat_disk.specs.Shown.{IsLawful, Room}
 
 pub length-overwritten : (at : ℕ) (bytes old : List ℕ) → length (overwritten at bytes old) ≡ max (length old) (length (take at old) + length bytes)

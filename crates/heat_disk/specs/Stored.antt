@@ -1,5 +1,5 @@
 -- How the fields of a disk in memory give it as data.
-use Rattle.std.specs.Prelude.{◌≡◌, ℕ, ◌+◌, ◌≤◌}
+use Rattle.std.specs.Prelude.{◌≡◌, ◌+◌, ◌≤◌}
 use Rattle.heat_disk.specs.declared.half.Half.TheVariants.{First, Second}
 use Rattle.heat_disk.specs.declared.memory.MemDisk.TheInside.{Inside}
 use Rattle.heat_disk.specs.History.{side}

@@ -9,7 +9,8 @@ pub(crate) fn overwrite(file: &mut Vec<u8>, at: usize, bytes: &[u8]) -> Result<(
     ensures ok { OnOk result (file.new.items ≡ overwritten at bytes.now file.old.items) }
     ensures err { OnErr result (file.new.items ≡ file.old.items) }
     ensures capacity { vec_capacity file.old ≤ vec_capacity file.new }
-    ensures succeeds { at + length bytes.now ≤ vec_capacity file.old → at ≤ vec_len file.old → IsOk result }
+    ensures succeeds { at + length bytes.now ≤ vec_capacity file.old →
+        at ≤ vec_len file.old → IsOk result }
 {
     let len = file.len();
     let from = if at < len { at } else { len };

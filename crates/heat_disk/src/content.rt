@@ -34,7 +34,8 @@ impl Model for Content {
 
 impl Content {
     pub(crate) fn new(alloc: Global, bytes: &[u8]) -> Result<Content, AllocError>
-        ensures { IfOk result (λ half. half ≡ record { start = bytes.now; held = bytes.now; room = no_room }) }
+        ensures { IfOk result (λ half. half
+            ≡ record { start = bytes.now; held = bytes.now; room = no_room }) }
     {
         Ok(Content {
             start: Vec::from_slice(alloc, bytes)?,

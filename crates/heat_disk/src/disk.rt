@@ -22,7 +22,8 @@ pub trait Disk {
 
     /// How many bytes the half has.
     fn len(&mut self, half: Half) -> Result<u64, DiskFailed>
-        ensures content { IsTrue (shown self.old).tells → Measures half result (shown self.old) (shown self.new) }
+        ensures content { IsTrue (shown self.old).tells →
+            Measures half result (shown self.old) (shown self.new) }
         ensures tells { (shown self.new).tells ≡ (shown self.old).tells }
         ensures room { Spends half 0 0 (shown self.old) (shown self.new) }
         ensures cause { HasCause (faults self.old) (faults self.new) result };
@@ -39,7 +40,8 @@ pub trait Disk {
     /// Writes over what is there, and past the end. Until a sync, a crash may leave any bytes in the
     /// range, also where the write failed.
     fn write_at(&mut self, half: Half, at: u64, bytes: &[u8]) -> Result<(), DiskFailed>
-        requires at { IsTrue (shown self.old).tells → at ≤ length (part half (shown self.old).seen) }
+        requires at { IsTrue (shown self.old).tells →
+            at ≤ length (part half (shown self.old).seen) }
         requires room { HasRoom (part half (shown self.old).room) at (length bytes.now) }
         ensures content { IsTrue (shown self.old).tells →
             Writes half at bytes.now result (shown self.old) (shown self.new) }
@@ -50,9 +52,11 @@ pub trait Disk {
     /// Cuts the half to a length. Until a sync, a crash may leave more of what stood there, also where
     /// the cut failed.
     fn cut(&mut self, half: Half, len: u64) -> Result<(), DiskFailed>
-        requires len { IsTrue (shown self.old).tells → len ≤ length (part half (shown self.old).seen) }
+        requires len { IsTrue (shown self.old).tells →
+            len ≤ length (part half (shown self.old).seen) }
         requires room { HasRoom (part half (shown self.old).room) 0 0 }
-        ensures content { IsTrue (shown self.old).tells → Cuts half len result (shown self.old) (shown self.new) }
+        ensures content { IsTrue (shown self.old).tells →
+            Cuts half len result (shown self.old) (shown self.new) }
         ensures tells { (shown self.new).tells ≡ (shown self.old).tells }
         ensures room { Spends half 1 0 (shown self.old) (shown self.new) }
         ensures cause { HasCause (faults self.old) (faults self.new) result };
@@ -60,7 +64,8 @@ pub trait Disk {
     /// After it, a crash leaves of this half what a read gives.
     fn sync(&mut self, half: Half) -> Result<(), DiskFailed>
         requires room { HasRoom (part half (shown self.old).room) 0 0 }
-        ensures content { IsTrue (shown self.old).tells → Syncs half result (shown self.old) (shown self.new) }
+        ensures content { IsTrue (shown self.old).tells →
+            Syncs half result (shown self.old) (shown self.new) }
         ensures tells { (shown self.new).tells ≡ (shown self.old).tells }
         ensures room { Spends half 1 0 (shown self.old) (shown self.new) }
         ensures cause { HasCause (faults self.old) (faults self.new) result };
@@ -69,11 +74,13 @@ pub trait Disk {
     /// in all, none past that end.
     fn room(&mut self, half: Half, end: u64, bytes: u64, calls: u64) -> Result<(), AllocError>
         ensures made { OnOk result (IsAtLeast end bytes calls (part half (shown self.new).room)) }
-        ensures kept { IsLeft 0 0 (part half (shown self.old).room) (part half (shown self.new).room) }
+        ensures kept { IsLeft 0 0 (part half (shown self.old).room)
+            (part half (shown self.new).room) }
         ensures other { beside half (shown self.new).room ≡ beside half (shown self.old).room }
         ensures memory { OnErr result ((shown self.new).room ≡ (shown self.old).room) }
 
-        ensures content { IsTrue (shown self.old).tells → SameContent (shown self.old) (shown self.new) }
+        ensures content { IsTrue (shown self.old).tells →
+            SameContent (shown self.old) (shown self.new) }
         ensures tells { (shown self.new).tells ≡ (shown self.old).tells }
         ensures faults { faults self.new ≡ faults self.old };
 

@@ -57,20 +57,20 @@ fn spend(passes: &mut u64, faults: &mut u64) -> Result<(), DiskFailed>
 }
 
 impl<D: Disk> Disk for Fuse<D> {
-    ghost shown = { λ f. D.Disk.shown f.disk };
+    ghost shown = { λ f. D.shown f.disk };
 
-    ghost faults = { λ f. D.Disk.faults f.disk + f.faults };
+    ghost faults = { λ f. D.faults f.disk + f.faults };
 
     ghost lawful = { λ f. D.Disk.lawful f.disk };
 
     fn len(&mut self, half: Half) -> Result<u64, DiskFailed>
         ensures burns { Burns self.old self.new result }
-        ensures content { IsTrue (D.Disk.shown self.old.disk).tells →
-            Measures half result (D.Disk.shown self.old.disk) (D.Disk.shown self.new.disk) }
-        ensures tells { (D.Disk.shown self.new.disk).tells ≡ (D.Disk.shown self.old.disk).tells }
-        ensures room { Spends half 0 0 (D.Disk.shown self.old.disk) (D.Disk.shown self.new.disk) }
-        ensures cause { HasCause (D.Disk.faults self.old.disk + self.old.faults)
-            (D.Disk.faults self.new.disk + self.new.faults) result }
+        ensures content { IsTrue (D.shown self.old.disk).tells →
+            Measures half result (D.shown self.old.disk) (D.shown self.new.disk) }
+        ensures tells { (D.shown self.new.disk).tells ≡ (D.shown self.old.disk).tells }
+        ensures room { Spends half 0 0 (D.shown self.old.disk) (D.shown self.new.disk) }
+        ensures cause { HasCause (D.faults self.old.disk + self.old.faults)
+            (D.faults self.new.disk + self.new.faults) result }
     {
         spend(&mut self.passes, &mut self.faults)?;
         self.disk.len(half)
@@ -79,58 +79,59 @@ impl<D: Disk> Disk for Fuse<D> {
     fn read_at(&mut self, half: Half, at: u64, buf: &mut [u8]) -> Result<usize, DiskFailed>
         ensures burns { Burns self.old self.new result }
         ensures count { IfOk result (λ n. n ≤ length buf.old) }
-        ensures content { IsTrue (D.Disk.shown self.old.disk).tells →
-            Reads half at buf.old buf.new result (D.Disk.shown self.old.disk) (D.Disk.shown self.new.disk) }
-        ensures tells { (D.Disk.shown self.new.disk).tells ≡ (D.Disk.shown self.old.disk).tells }
-        ensures room { Spends half 0 0 (D.Disk.shown self.old.disk) (D.Disk.shown self.new.disk) }
-        ensures cause { HasCause (D.Disk.faults self.old.disk + self.old.faults)
-            (D.Disk.faults self.new.disk + self.new.faults) result }
+        ensures content { IsTrue (D.shown self.old.disk).tells →
+            Reads half at buf.old buf.new result (D.shown self.old.disk) (D.shown self.new.disk) }
+        ensures tells { (D.shown self.new.disk).tells ≡ (D.shown self.old.disk).tells }
+        ensures room { Spends half 0 0 (D.shown self.old.disk) (D.shown self.new.disk) }
+        ensures cause { HasCause (D.faults self.old.disk + self.old.faults)
+            (D.faults self.new.disk + self.new.faults) result }
     {
         spend(&mut self.passes, &mut self.faults)?;
         self.disk.read_at(half, at, buf)
     }
 
     fn write_at(&mut self, half: Half, at: u64, bytes: &[u8]) -> Result<(), DiskFailed>
-        requires at { IsTrue (D.Disk.shown self.old.disk).tells →
-            at ≤ length (part half (D.Disk.shown self.old.disk).seen) }
-        requires room { HasRoom (part half (D.Disk.shown self.old.disk).room) at (length bytes.now) }
+        requires at { IsTrue (D.shown self.old.disk).tells →
+            at ≤ length (part half (D.shown self.old.disk).seen) }
+        requires room { HasRoom (part half (D.shown self.old.disk).room) at (length bytes.now) }
         ensures burns { Burns self.old self.new result }
-        ensures content { IsTrue (D.Disk.shown self.old.disk).tells →
-            Writes half at bytes.now result (D.Disk.shown self.old.disk) (D.Disk.shown self.new.disk) }
-        ensures tells { (D.Disk.shown self.new.disk).tells ≡ (D.Disk.shown self.old.disk).tells }
-        ensures room { Spends half 1 (length bytes.now) (D.Disk.shown self.old.disk) (D.Disk.shown self.new.disk) }
-        ensures cause { HasCause (D.Disk.faults self.old.disk + self.old.faults)
-            (D.Disk.faults self.new.disk + self.new.faults) result }
+        ensures content { IsTrue (D.shown self.old.disk).tells →
+            Writes half at bytes.now result (D.shown self.old.disk) (D.shown self.new.disk) }
+        ensures tells { (D.shown self.new.disk).tells ≡ (D.shown self.old.disk).tells }
+        ensures room { Spends half 1 (length bytes.now)
+            (D.shown self.old.disk) (D.shown self.new.disk) }
+        ensures cause { HasCause (D.faults self.old.disk + self.old.faults)
+            (D.faults self.new.disk + self.new.faults) result }
     {
         spend(&mut self.passes, &mut self.faults)?;
         self.disk.write_at(half, at, bytes)
     }
 
     fn cut(&mut self, half: Half, len: u64) -> Result<(), DiskFailed>
-        requires len { IsTrue (D.Disk.shown self.old.disk).tells →
-            len ≤ length (part half (D.Disk.shown self.old.disk).seen) }
-        requires room { HasRoom (part half (D.Disk.shown self.old.disk).room) 0 0 }
+        requires len { IsTrue (D.shown self.old.disk).tells →
+            len ≤ length (part half (D.shown self.old.disk).seen) }
+        requires room { HasRoom (part half (D.shown self.old.disk).room) 0 0 }
         ensures burns { Burns self.old self.new result }
-        ensures content { IsTrue (D.Disk.shown self.old.disk).tells →
-            Cuts half len result (D.Disk.shown self.old.disk) (D.Disk.shown self.new.disk) }
-        ensures tells { (D.Disk.shown self.new.disk).tells ≡ (D.Disk.shown self.old.disk).tells }
-        ensures room { Spends half 1 0 (D.Disk.shown self.old.disk) (D.Disk.shown self.new.disk) }
-        ensures cause { HasCause (D.Disk.faults self.old.disk + self.old.faults)
-            (D.Disk.faults self.new.disk + self.new.faults) result }
+        ensures content { IsTrue (D.shown self.old.disk).tells →
+            Cuts half len result (D.shown self.old.disk) (D.shown self.new.disk) }
+        ensures tells { (D.shown self.new.disk).tells ≡ (D.shown self.old.disk).tells }
+        ensures room { Spends half 1 0 (D.shown self.old.disk) (D.shown self.new.disk) }
+        ensures cause { HasCause (D.faults self.old.disk + self.old.faults)
+            (D.faults self.new.disk + self.new.faults) result }
     {
         spend(&mut self.passes, &mut self.faults)?;
         self.disk.cut(half, len)
     }
 
     fn sync(&mut self, half: Half) -> Result<(), DiskFailed>
-        requires room { HasRoom (part half (D.Disk.shown self.old.disk).room) 0 0 }
+        requires room { HasRoom (part half (D.shown self.old.disk).room) 0 0 }
         ensures burns { Burns self.old self.new result }
-        ensures content { IsTrue (D.Disk.shown self.old.disk).tells →
-            Syncs half result (D.Disk.shown self.old.disk) (D.Disk.shown self.new.disk) }
-        ensures tells { (D.Disk.shown self.new.disk).tells ≡ (D.Disk.shown self.old.disk).tells }
-        ensures room { Spends half 1 0 (D.Disk.shown self.old.disk) (D.Disk.shown self.new.disk) }
-        ensures cause { HasCause (D.Disk.faults self.old.disk + self.old.faults)
-            (D.Disk.faults self.new.disk + self.new.faults) result }
+        ensures content { IsTrue (D.shown self.old.disk).tells →
+            Syncs half result (D.shown self.old.disk) (D.shown self.new.disk) }
+        ensures tells { (D.shown self.new.disk).tells ≡ (D.shown self.old.disk).tells }
+        ensures room { Spends half 1 0 (D.shown self.old.disk) (D.shown self.new.disk) }
+        ensures cause { HasCause (D.faults self.old.disk + self.old.faults)
+            (D.faults self.new.disk + self.new.faults) result }
     {
         spend(&mut self.passes, &mut self.faults)?;
         self.disk.sync(half)
@@ -140,16 +141,20 @@ impl<D: Disk> Disk for Fuse<D> {
     fn room(&mut self, half: Half, end: u64, bytes: u64, calls: u64) -> Result<(), AllocError>
         ensures passes { self.new.passes ≡ self.old.passes }
         ensures own { self.new.faults ≡ self.old.faults }
-        ensures made { OnOk result (IsAtLeast end bytes calls (part half (D.Disk.shown self.new.disk).room)) }
-        ensures kept { IsLeft 0 0 (part half (D.Disk.shown self.old.disk).room)
-            (part half (D.Disk.shown self.new.disk).room) }
-        ensures other { beside half (D.Disk.shown self.new.disk).room ≡ beside half (D.Disk.shown self.old.disk).room }
-        ensures memory { OnErr result ((D.Disk.shown self.new.disk).room ≡ (D.Disk.shown self.old.disk).room) }
+        ensures made { OnOk result
+            (IsAtLeast end bytes calls (part half (D.shown self.new.disk).room)) }
+        ensures kept { IsLeft 0 0 (part half (D.shown self.old.disk).room)
+            (part half (D.shown self.new.disk).room) }
+        ensures other { beside half (D.shown self.new.disk).room
+            ≡ beside half (D.shown self.old.disk).room }
+        ensures memory { OnErr result ((D.shown self.new.disk).room
+            ≡ (D.shown self.old.disk).room) }
 
-        ensures content { IsTrue (D.Disk.shown self.old.disk).tells →
-            SameContent (D.Disk.shown self.old.disk) (D.Disk.shown self.new.disk) }
-        ensures tells { (D.Disk.shown self.new.disk).tells ≡ (D.Disk.shown self.old.disk).tells }
-        ensures faults { D.Disk.faults self.new.disk + self.new.faults ≡ D.Disk.faults self.old.disk + self.old.faults }
+        ensures content { IsTrue (D.shown self.old.disk).tells →
+            SameContent (D.shown self.old.disk) (D.shown self.new.disk) }
+        ensures tells { (D.shown self.new.disk).tells ≡ (D.shown self.old.disk).tells }
+        ensures faults { D.faults self.new.disk + self.new.faults
+            ≡ D.faults self.old.disk + self.old.faults }
     {
         self.disk.room(half, end, bytes, calls)
     }

@@ -36,9 +36,11 @@ impl Act {
         longest: &mut Vec<u8>,
     ) -> Result<(), AllocError>
         requires { size_of self ≡ length bytes.now }
-        ensures seen { OnOk result (seen.new.items ≡ seen_after (step_of self bytes.now) seen.old.items) }
+        ensures seen { OnOk result (seen.new.items
+            ≡ seen_after (step_of self bytes.now) seen.old.items) }
         ensures longest { OnOk result
-            (longest.new.items ≡ filled_after fill (step_of self bytes.now) seen.old.items longest.old.items) }
+            (longest.new.items
+            ≡ filled_after fill (step_of self bytes.now) seen.old.items longest.old.items) }
     {
         match self {
             Act::Write { at, len: _ } => {
@@ -150,7 +152,8 @@ impl History {
     /// The longest image of a half that a crash may leave, with `fill` where anything may stand. The
     /// half began with the bytes `start`.
     pub(crate) fn longest(&self, half: Half, start: &[u8], fill: u8) -> Result<Vec<u8>, AllocError>
-        ensures { IfOk result (λ image. image.items ≡ filled fill (side half start.now self.now.calls)) }
+        ensures { IfOk result (λ image. image.items
+            ≡ filled fill (side half start.now self.now.calls)) }
     {
         let alloc = *self.store.allocator();
         let mut seen = Vec::from_slice(alloc, start)?;

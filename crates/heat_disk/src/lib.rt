@@ -1,4 +1,6 @@
-//! Disks
+//! The disk as the layers above see it: two halves that are read, written, cut and synced, with what a
+//! crash at any moment may leave of both. Beside the trait stand a disk in memory that can crash, a
+//! fuse that stops at some call, and the adapter over real files. No call but `room` takes memory.
 #![tactic(auto)]
 
 mod bytes;

@@ -163,7 +163,8 @@ impl MemDisk {
 
     /// The bytes of one image that a crash may leave of the half.
     fn image(&self, half: Half, fill: Option<u8>) -> Result<Vec<u8>, AllocError>
-        ensures { IfOk result (λ image. image.items ≡ part half (image_of fill (sides self.now.start self.now.calls))) }
+        ensures { IfOk result (λ image. image.items
+            ≡ part half (image_of fill (sides self.now.start self.now.calls))) }
     {
         let content = match half {
             Half::First => &self.first,
@@ -179,9 +180,11 @@ impl MemDisk {
     /// as. `Some(b)` is, of each half, the longest that a crash may leave, with b at every place where
     /// any byte may stand, and all others as they are.
     pub fn crash(&self, fill: Option<u8>) -> Result<MemDisk, AllocError>
-        ensures image { IfOk result (λ disk. disk ≡ fresh (image_of fill (sides self.now.start self.now.calls)) []) }
+        ensures image { IfOk result (λ disk. disk
+            ≡ fresh (image_of fill (sides self.now.start self.now.calls)) []) }
         ensures durable { IfOk result (λ disk. IsDurable (shown_by disk)) }
-        ensures may_be_left { IfOk result (λ disk. (shown_by self.now).may_leave (shown_by disk).seen) }
+        ensures may_be_left { IfOk result
+            (λ disk. (shown_by self.now).may_leave (shown_by disk).seen) }
         ensures longest { IsSome fill → IfOk result (IsLongest (shown_by self.now)) }
     {
         let first = self.image(Half::First, fill)?;

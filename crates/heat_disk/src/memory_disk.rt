@@ -23,7 +23,8 @@ impl Disk for MemDisk {
 
     fn len(&mut self, half: Half) -> Result<u64, DiskFailed>
         ensures numbered { IsNumbered (λ disk. disk) result self.old self.new }
-        ensures content { IsTrue (shown_by self.old).tells → Measures half result (shown_by self.old) (shown_by self.new) }
+        ensures content { IsTrue (shown_by self.old).tells →
+            Measures half result (shown_by self.old) (shown_by self.new) }
         ensures tells { (shown_by self.new).tells ≡ (shown_by self.old).tells }
         ensures room { Spends half 0 0 (shown_by self.old) (shown_by self.new) }
         ensures cause { HasCause self.old.faults self.new.faults result }
@@ -46,7 +47,8 @@ impl Disk for MemDisk {
     }
 
     fn write_at(&mut self, half: Half, at: u64, bytes: &[u8]) -> Result<(), DiskFailed>
-        requires at { IsTrue (shown_by self.old).tells → at ≤ length (part half (shown_by self.old).seen) }
+        requires at { IsTrue (shown_by self.old).tells →
+            at ≤ length (part half (shown_by self.old).seen) }
         requires room { HasRoom (part half (shown_by self.old).room) at (length bytes.now) }
         ensures numbered { IsNumbered (done half (wrote at bytes.now)) result self.old self.new }
         ensures content { IsTrue (shown_by self.old).tells →
@@ -61,10 +63,12 @@ impl Disk for MemDisk {
     }
 
     fn cut(&mut self, half: Half, len: u64) -> Result<(), DiskFailed>
-        requires len { IsTrue (shown_by self.old).tells → len ≤ length (part half (shown_by self.old).seen) }
+        requires len { IsTrue (shown_by self.old).tells →
+            len ≤ length (part half (shown_by self.old).seen) }
         requires room { HasRoom (part half (shown_by self.old).room) 0 0 }
         ensures numbered { IsNumbered (done half (cut_to len)) result self.old self.new }
-        ensures content { IsTrue (shown_by self.old).tells → Cuts half len result (shown_by self.old) (shown_by self.new) }
+        ensures content { IsTrue (shown_by self.old).tells →
+            Cuts half len result (shown_by self.old) (shown_by self.new) }
         ensures tells { (shown_by self.new).tells ≡ (shown_by self.old).tells }
         ensures room { Spends half 1 0 (shown_by self.old) (shown_by self.new) }
         ensures cause { HasCause self.old.faults self.new.faults result }
@@ -77,7 +81,8 @@ impl Disk for MemDisk {
     fn sync(&mut self, half: Half) -> Result<(), DiskFailed>
         requires room { HasRoom (part half (shown_by self.old).room) 0 0 }
         ensures numbered { IsNumbered (done half synced) result self.old self.new }
-        ensures content { IsTrue (shown_by self.old).tells → Syncs half result (shown_by self.old) (shown_by self.new) }
+        ensures content { IsTrue (shown_by self.old).tells →
+            Syncs half result (shown_by self.old) (shown_by self.new) }
         ensures tells { (shown_by self.new).tells ≡ (shown_by self.old).tells }
         ensures room { Spends half 1 0 (shown_by self.old) (shown_by self.new) }
         ensures cause { HasCause self.old.faults self.new.faults result }
@@ -90,11 +95,15 @@ impl Disk for MemDisk {
     fn room(&mut self, half: Half, end: u64, bytes: u64, calls: u64) -> Result<(), AllocError>
         ensures exact { OnOk result (self.new ≡ wider half end bytes calls self.old) }
         ensures same { OnErr result (self.new ≡ self.old) }
-        ensures made { OnOk result (IsAtLeast end bytes calls (part half (shown_by self.new).room)) }
-        ensures kept { IsLeft 0 0 (part half (shown_by self.old).room) (part half (shown_by self.new).room) }
-        ensures other { beside half (shown_by self.new).room ≡ beside half (shown_by self.old).room }
+        ensures made { OnOk result
+            (IsAtLeast end bytes calls (part half (shown_by self.new).room)) }
+        ensures kept { IsLeft 0 0 (part half (shown_by self.old).room)
+            (part half (shown_by self.new).room) }
+        ensures other { beside half (shown_by self.new).room
+            ≡ beside half (shown_by self.old).room }
         ensures memory { OnErr result ((shown_by self.new).room ≡ (shown_by self.old).room) }
-        ensures content { IsTrue (shown_by self.old).tells → SameContent (shown_by self.old) (shown_by self.new) }
+        ensures content { IsTrue (shown_by self.old).tells →
+            SameContent (shown_by self.old) (shown_by self.new) }
         ensures tells { (shown_by self.new).tells ≡ (shown_by self.old).tells }
         ensures faults { self.new.faults ≡ self.old.faults }
     {

@@ -1,6 +1,6 @@
-use Rattle.std.proofs.Common.{◌≡◌, ◌+◌, ◌++◌, [], ◌∷◌, sym, ◌∙◌, ap, subst, arith, get_or}
+use Rattle.std.proofs.Common.{◌≡◌, ◌++◌, [], ◌∷◌, ◌∙◌, subst, arith, get_or}
 use Rattle.heat_disk.specs.declared.half.Half.{Half}
-use Rattle.heat_disk.specs.Halves.{Pair, part}
+use Rattle.heat_disk.specs.Halves.{part}
 use Rattle.heat_disk.specs.Shown.{LeavesOnly}
 use Rattle.gated_record.specs.Records.{IsWithOrWithout}
 use Rattle.gated_record.specs.Rest.{records_of, IsAtRest}

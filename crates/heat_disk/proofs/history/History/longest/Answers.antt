@@ -1,12 +1,10 @@
-use Rattle.std.proofs.Common.{◌≡◌, ◌+◌, ◌≤◌, [], ◌∷◌, length, get_or, take, drop, List, ℕ, sym, ◌∙◌, ap, subst, arith, length-drop, refl}
+use Rattle.std.proofs.Common.{◌≡◌, ◌+◌, length, take, drop, sym, ◌∙◌, ap, arith, length-drop, refl}
 use Rattle.heat_disk.specs.declared.half.Half.TheVariants.{First}
 use Rattle.heat_disk.specs.declared.history.Act.TheVariants.{Write}
 use Rattle.heat_disk.specs.declared.history.Event.{Event}
-use Rattle.heat_disk.specs.History.{Call, filled}
-use Rattle.heat_disk.specs.Replay.{seen_after, filled_after}
-use Rattle.heat_disk.specs.Events.{size_of, step_of, log_of, total}
+use Rattle.heat_disk.specs.Events.{total}
 use Rattle.heat_disk.proofs.Fillings.{filled-resting}
-use Rattle.heat_disk.proofs.Replays.{IsAt, fits_next, rest_at, next_on, next_off}
+use Rattle.heat_disk.proofs.Replays.{fits_next, rest_at, next_on, next_off}
 use Rattle.heat_disk.proofs.history.History.longest.Goals as goal
 use Rattle.heat_disk.proofs.history.History.longest.Goals.{then-is+in_ok-replay, else-is}
 

@@ -1,7 +1,6 @@
-use Rattle.std.proofs.Common.{◌≡◌, [], ◌∷◌, ◌++◌, arith, length-append}
+use Rattle.std.proofs.Common.{[], arith}
 use Rattle.heat_disk.specs.declared.history.Act.TheVariants.{Sync}
 use Rattle.heat_disk.specs.declared.history.Event.{Event}
-use Rattle.heat_disk.specs.Events.{log_of, total}
 use Rattle.heat_disk.proofs.Logs.{log_of-push, total-push}
 use Rattle.heat_disk.proofs.history.History.synced.Goals as goal
 

@@ -1,9 +1,9 @@
-use Rattle.std.proofs.Common.{◌≡◌, [], ◌∷◌, ◌++◌, length, refl, ◌∙◌, ap, arith, length-append}
+use Rattle.std.proofs.Common.{[], ◌∷◌, length, refl, ◌∙◌, ap, arith, length-append}
 use Rattle.std.proofs.lemmas.List.{take_all}
 use Rattle.heat_disk.specs.declared.history.Act.TheVariants.{Write}
 use Rattle.heat_disk.specs.declared.history.Event.{Event}
 use Rattle.heat_disk.specs.History.{wrote}
-use Rattle.heat_disk.specs.Events.{log_of, total}
+use Rattle.heat_disk.specs.Events.{log_of}
 use Rattle.heat_disk.proofs.Logs.{log_of-written, total-push}
 use Rattle.heat_disk.proofs.history.History.wrote.Goals as goal
 
