@@ -89,5 +89,7 @@ fn entry_size(entry: &Entry) -> usize
         (length (quoted entry.now.key) + 1 + length (compact (data_of entry.now.value)))
         (2 ^ 64 - 1) }
 {
-    words_size(entry.key.as_str()).saturating_add(1).saturating_add(value_size(&entry.value))
+    words_size(entry.key.as_str())
+        .saturating_add(1)
+        .saturating_add(value_size(&entry.value))
 }
