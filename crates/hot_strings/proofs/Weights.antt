@@ -1,10 +1,9 @@
 -- What a part of a value weighs and takes.
-use Rattle.std.proofs.Common.{◌≡◌, ◌≢◌, ◌+◌, ◌*◌, ◌/◌, ◌%◌, ◌^◌, ◌-◌, ◌<◌, ◌≤◌, ℕ, zero, suc, List, [], ◌∷◌, ◌++◌, length, get_or, drop, true, refl, ap, sym, ◌∙◌, subst, arith, length-append, min, add-one, drop-cons}
+use Rattle.std.proofs.Common.{◌≡◌, ◌+◌, ◌*◌, ◌/◌, ◌%◌, ◌^◌, ◌-◌, ◌<◌, ◌≤◌, ℕ, zero, suc, List, [], ◌∷◌, ◌++◌, length, get_or, drop, true, ap, ◌∙◌, arith, length-append, min, add-one, drop-cons}
 use Rattle.std.specs.Fmt.{decimal}
 use Rattle.std.proofs.lemmas.Fmt.{decimal_digit, decimal_step, length-decimal-le}
 use Rattle.json.specs.Print.{quoted, escape, escape_byte}
 use Rattle.heat_value.specs.Compact.{compact, nodes_text, fields_text}
-use Rattle.heat_value.specs.Data.{Data, items, fields, Nodes, no_nodes, node, Members, no_members, member}
 use Rattle.heat_value.specs.Meaning.{data_of, nodes_of, members_of, weight, nodes_weight, members_weight}
 use Rattle.heat_value.specs.declared.value.Value.{Value}
 use Rattle.heat_value.specs.declared.value.Entry.{Entry}
@@ -33,10 +32,6 @@ length-fields_text-drop es i x l e =
       length-append (escape x.key ++ 34 ∷ []) (58 ∷ (compact (data_of x.value) ++ fields_text true (members_of (drop (suc i) es)))),
       length-append (compact (data_of x.value)) (fields_text true (members_of (drop (suc i) es))),
     ))
-
-pub length-fields_text-true : (ms : Members) → ms ≢ no_members → length (fields_text true ms) ≡ length (compact (fields ms))
-length-fields_text-true no_members h = absurd (h refl)
-length-fields_text-true (member k d ms) h = omega arith
 
 -- the bytes from a place on, with the byte there
 pub length-escape-drop : (s : List ℕ) (i : ℕ) → i < length s → length (escape (drop i s)) ≡ length (escape_byte (get_or s i 0)) + length (escape (drop (i + 1) s))

@@ -1,4 +1,4 @@
-use Rattle.std.proofs.Common.{◌≡◌, ◌+◌, ◌<◌, length, arith}
+use Rattle.std.proofs.Common.{◌+◌, ◌<◌, length, arith}
 use Rattle.heat_value.specs.Compact.{compact}
 use Rattle.heat_value.specs.Meaning.{data_of}
 use Rattle.hot_strings.proofs.Weights.{min-saturating, length-nodes_text-drop, length-fields_text-drop}

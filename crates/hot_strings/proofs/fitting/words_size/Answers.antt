@@ -1,5 +1,4 @@
-use Rattle.std.proofs.Common.{◌≡◌, ◌+◌, ◌<◌, length, drop, refl, arith, ap, add-one, drop-cons, length-append, get_or}
-use Rattle.json.specs.Print.{escape_byte, escape}
+use Rattle.std.proofs.Common.{◌+◌, ◌<◌, length, refl, arith}
 use Rattle.hot_strings.proofs.Weights.{length-escape-drop}
 use Rattle.hot_strings.proofs.fitting.words_size.Goals as goal
 

@@ -1,5 +1,4 @@
-use Rattle.std.proofs.Common.{◌≡◌, ◌+◌, ◌*◌, ◌/◌, ◌<◌, ◌≤◌, ◌^◌, length, arith}
-use Rattle.std.specs.Fmt.{decimal}
+use Rattle.std.proofs.Common.{arith}
 use Rattle.hot_strings.proofs.Weights.{length-decimal-twenty, length-decimal-tenth, length-decimal-one}
 use Rattle.hot_strings.proofs.whole.digit_count.Goals as goal
 
