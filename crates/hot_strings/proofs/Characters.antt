@@ -1,9 +1,8 @@
 -- Texts behind a text or a character.
-use Rattle.std.proofs.Common.{◌≡◌, ◌≢◌, ◌+◌, ◌<◌, ◌≤◌, ℕ, List, [], ◌∷◌, ◌++◌, length, ◌⊎◌, inl, inr, ◌==◌, Bool, true, refl, ap, sym, ◌∙◌, subst, arith, append_assoc, length-append, take, drop}
-use Rattle.std.proofs.Math.Seq.{take-append_seam, drop-append_seam}
+use Rattle.std.proofs.Common.{◌≡◌, ◌≢◌, ℕ, List, [], ◌∷◌, ◌++◌, length, refl, ap, sym, ◌∙◌, subst, arith, append_assoc}
 use Rattle.std.specs.Char.{encode_utf8}
 use Rattle.std.specs.Str.{IsUtf8, IsCharBoundary, encode_utf8_all}
-use Rattle.std.proofs.lemmas.Str.{IsUtf8-past_char, IsUtf8-encode, IsCharBoundary-at_seam, length-encode, len_utf8_bounds}
+use Rattle.std.proofs.lemmas.Str.{IsUtf8-past_char, IsCharBoundary-at_seam, length-encode, len_utf8_bounds}
 
 -- what stands behind a text in a text is a text
 pub IsUtf8-behind : (k s rest : List ℕ) → IsUtf8 s → IsUtf8 k → s ≡ k ++ rest → IsUtf8 rest
@@ -25,8 +24,3 @@ encode_some c e = absurd (omega (arith, length-encode c, len_utf8_bounds c, ap l
 -- a text may be cut behind its first character
 pub IsCharBoundary-first : (s rest : List ℕ) (c n : ℕ) → IsUtf8 s → s ≡ encode_utf8 c ++ rest → n ≡ length (encode_utf8 c) → IsCharBoundary s n
 IsCharBoundary-first s rest c n text e l = rw l (IsCharBoundary-at_seam s (encode_utf8 c) rest e (IsUtf8-past_char s rest c text e))
-
--- what stands behind the first character, by the two cuts
-pub first_cut : (s rest front tail : List ℕ) (c n : ℕ) → s ≡ encode_utf8 c ++ rest → n ≡ length (encode_utf8 c) → front ≡ take n s → tail ≡ drop n s → (front ≡ encode_utf8 c) × (tail ≡ rest)
-first_cut s rest front tail c n e l f t =
-    (rw (f, l, e) (take-append_seam (encode_utf8 c) rest), rw (t, l, e) (drop-append_seam (encode_utf8 c) rest))

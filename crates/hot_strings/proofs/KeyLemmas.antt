@@ -1,14 +1,14 @@
 -- Which key stands at the front of a text.
-use Rattle.std.proofs.Common.{◌≡◌, ◌≢◌, ◌+◌, ◌<◌, ◌≤◌, ℕ, zero, suc, List, [], ◌∷◌, ◌++◌, length, ◌⊎◌, inl, inr, Bool, true, false, ◌==◌, Option, Some, None, refl, ap, sym, ◌∙◌, subst, arith, get_or, take, drop, add-one, drop-cons}
+use Rattle.std.proofs.Common.{◌≡◌, ◌≢◌, ◌+◌, ◌<◌, ◌≤◌, ℕ, zero, suc, List, [], ◌∷◌, ◌++◌, length, ◌⊎◌, inl, inr, true, false, ◌==◌, Option, Some, None, refl, ap, sym, ◌∙◌, subst, arith, get_or, take, drop, add-one, drop-cons}
 use Rattle.std.specs.Option.{MatchOption}
-use Rattle.std.specs.List.{All, Any, Contains, slice_get, slice_index_or}
+use Rattle.std.specs.List.{All, Contains, slice_get, slice_index_or}
 use Rattle.std.proofs.lemmas.Bool.{cases_lt}
 use Rattle.std.proofs.lemmas.Bool.Decides.{Decides-eqb}
 use Rattle.std.proofs.lemmas.List.{take_all, nil_from_length}
 use Rattle.std.proofs.lemmas.Option.{slice_get_read}
-use Rattle.std.proofs.lemmas.List.Elements.{All-nil, All-cons, All-head, All-tail, All-weaker, All-contains, All-more, All-take}
+use Rattle.std.proofs.lemmas.List.Elements.{All-nil, All-cons, All-weaker, All-contains, All-more, All-take}
 use Rattle.hot_strings.specs.Places.{Begins}
-use Rattle.hot_strings.specs.Pieces.{Params, IsLongestKey, NoKeyBegins, AreDistinct, HasNoEmptyKey, HasEmptyKey}
+use Rattle.hot_strings.specs.Pieces.{Params, IsLongestKey, NoKeyBegins, AreDistinct, HasNoEmptyKey}
 use Rattle.hot_strings.proofs.PlaceLemmas.{append_same, begins}
 
 Contains-head : (ps : Params) (p : List ℕ × List ℕ) → Contains (p ∷ ps) p

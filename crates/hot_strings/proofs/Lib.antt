@@ -6,3 +6,4 @@ pub mod Passed
 pub mod Characters
 pub mod KeyLemmas
 pub mod PieceLemmas
+pub mod Weights

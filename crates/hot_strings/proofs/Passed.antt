@@ -5,7 +5,7 @@ use Rattle.heat_value.specs.Compact.{nodes_text}
 use Rattle.heat_value.specs.Data.{words, items, Nodes, no_nodes, node_last}
 use Rattle.hot_strings.specs.Places.{Lacks, StandsFirst}
 use Rattle.hot_strings.specs.Size.{IsTooLong}
-use Rattle.hot_strings.specs.Split.{AreSplit, texts, all, unfit, IsSplitTooLong, IsSplitFault}
+use Rattle.hot_strings.specs.Split.{AreSplit, texts, all, IsSplitTooLong, IsSplitFault}
 use Rattle.hot_strings.specs.Faults.{IsOfResult}
 use Rattle.hot_strings.specs.declared.fault.StringFault.{StringFault}
 use Rattle.hot_strings.specs.declared.fault.StringFault.TheVariants.{F02, F03, F04, F06, Memory}

@@ -1,7 +1,6 @@
 -- The pieces of a template: there is exactly one list of them.
-use Rattle.std.proofs.Common.{◌≡◌, ◌≢◌, ◌+◌, ◌<◌, ◌≤◌, ℕ, zero, suc, List, [], ◌∷◌, ◌++◌, length, ◌⊎◌, inl, inr, Result, Ok, Err, Bool, true, false, ◌&&◌, refl, ap, sym, ◌∙◌, subst, arith, append_assoc, length-append}
+use Rattle.std.proofs.Common.{◌≡◌, ◌≢◌, ◌<◌, ◌≤◌, ℕ, zero, suc, List, [], ◌∷◌, ◌++◌, length, ◌⊎◌, inl, inr, Result, Ok, Err, Bool, true, false, ◌&&◌, refl, ap, sym, ◌∙◌, subst, arith, append_assoc, length-append}
 use lib.Utf8.{scalar as scalar_of, scalars}
-use Rattle.std.specs.Char.{encode_utf8}
 use Rattle.std.proofs.lemmas.Grind.{flat_map-append}
 use Rattle.heat_value.specs.Data.{words}
 use Rattle.hot_strings.specs.Faults.{IsOfResult}

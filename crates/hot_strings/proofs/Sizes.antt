@@ -1,5 +1,5 @@
 -- How long a text is as JSON.
-use Rattle.std.proofs.Common.{◌≡◌, ◌≢◌, ◌+◌, true, ◌<◌, ◌≤◌, ℕ, List, [], ◌∷◌, ◌++◌, length, ap, sym, refl, ◌∙◌, arith, length-append}
+use Rattle.std.proofs.Common.{◌≡◌, ◌≢◌, ◌+◌, true, ◌<◌, ℕ, List, [], ◌∷◌, ◌++◌, length, ap, refl, ◌∙◌, arith, length-append}
 use Rattle.std.proofs.lemmas.Grind.{flat_map-append}
 use Rattle.json.specs.Print.{escape_byte, escape, quoted}
 use Rattle.heat_value.specs.Compact.{compact, nodes_text}

@@ -1,13 +1,11 @@
 -- The pieces of a text: that there is one list of them, and that it joins to the text.
-use Rattle.std.proofs.Common.{◌≡◌, ◌≢◌, ◌+◌, ◌<◌, ◌≤◌, ℕ, zero, suc, List, [], ◌∷◌, ◌++◌, length, ◌⊎◌, inl, inr, Some, refl, ap, sym, ◌∙◌, subst, arith, true, append_assoc, length-append}
+use Rattle.std.proofs.Common.{◌≡◌, ◌≢◌, ◌<◌, ◌≤◌, ℕ, zero, suc, List, [], ◌∷◌, ◌++◌, length, ◌⊎◌, inl, inr, refl, ap, sym, ◌∙◌, subst, arith, true, length-append}
 use Rattle.std.proofs.lemmas.List.{append_cancel_left}
-use Rattle.std.specs.List.{slice_get}
-use Rattle.heat_value.specs.Data.{words, items, no_nodes, node, node_last}
+use Rattle.heat_value.specs.Data.{words, node, node_last}
 use Rattle.heat_value.specs.Compact.{compact, nodes_text}
 use Rattle.hot_strings.specs.Joined.{joined}
 use Rattle.hot_strings.specs.Only.{HoldsOfOne}
 use Rattle.hot_strings.specs.Places.{Lacks, StandsFirst}
-use Rattle.hot_strings.specs.Size.{IsTooLong}
 use Rattle.hot_strings.specs.Split.{AreSplit, texts}
 use Rattle.hot_strings.proofs.PlaceLemmas.{append_same, first_place}
 

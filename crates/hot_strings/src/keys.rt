@@ -1,5 +1,5 @@
 //! Keys that differ, as `replace` wants them.
-ghost use Rattle.std.specs.Prelude.{◌≡◌, ◌≢◌, ◌↔◌, IsTrue, All};
+ghost use Rattle.std.specs.Prelude.{◌≢◌, ◌↔◌, IsTrue, All};
 ghost use Rattle.hot_strings.specs.Pieces.{AreDistinct};
 
 use heat_value::Text;

@@ -7,6 +7,7 @@ mod cutting;
 mod digesting;
 mod draft;
 mod fault;
+mod fitting;
 mod joining;
 mod keys;
 mod listing;
@@ -16,9 +17,11 @@ mod size;
 mod splitting;
 #[cfg(test)]
 mod tests;
+mod whole;
 
 pub use digesting::{digest, is_digest_name};
 pub use fault::StringFault;
+pub use fitting::{fits, map_fits};
 pub use joining::join;
 pub use keys::are_distinct;
 pub use replacing::replace;

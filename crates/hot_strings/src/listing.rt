@@ -47,8 +47,8 @@ impl Listing {
         }
     }
 
-    #[tactic(auto, using(crate::proofs::Sizes::for_lists))]
     /// Puts a text behind the last, where the list may then be a result.
+    #[tactic(auto, using(crate::proofs::Sizes::for_lists))]
     pub fn push(&mut self, alloc: Global, text: &str) -> Result<(), StringFault>
         ensures ok { OnOk result (self.new ≡ node_last self.old (words text.now)) }
         ensures err { IfErr result (λ e. IsOfResult e (items (node_last self.old (words text.now)))) }
@@ -66,8 +66,8 @@ impl Listing {
         }
     }
 
-    #[tactic(auto, using(crate::proofs::Sizes::for_lists))]
     /// The list, as a result.
+    #[tactic(auto, using(crate::proofs::Sizes::for_lists))]
     pub fn finish(self) -> Items
         requires { self ≢ no_nodes }
         ensures list { result ≡ self }

@@ -1,5 +1,5 @@
 //! The pieces of a template, one after another.
-ghost use Rattle.std.specs.Prelude.{◌≡◌, ◌≢◌, ◌<◌, ◌++◌, [], List, ℕ, MatchBool, MatchOption, Some, All, length, slice_get, encode_utf8};
+ghost use Rattle.std.specs.Prelude.{◌≡◌, ◌≢◌, ◌<◌, ◌++◌, [], List, ℕ, MatchBool, MatchOption, Some, All, slice_get, encode_utf8};
 ghost use Rattle.std.specs.Char.{IsScalar};
 ghost use Rattle.std.specs.Str.{IsUtf8};
 ghost use Rattle.hot_strings.specs.Places.{Begins};

@@ -1,5 +1,5 @@
 //! Replacing keys in a template, in one pass.
-ghost use Rattle.std.specs.Prelude.{◌≡◌, IsTrue, IfOk, IfErr, OnOk, MatchBool, All};
+ghost use Rattle.std.specs.Prelude.{IsTrue, IfOk, IfErr, OnOk, MatchBool, All};
 ghost use Rattle.std.specs.Str.{IsUtf8};
 ghost use Rattle.heat_value.specs.Data.{words};
 ghost use Rattle.hot_strings.specs.Only.{HoldsOfOne};

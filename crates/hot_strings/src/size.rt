@@ -21,9 +21,9 @@ pub fn room_after(room: usize, text: &str) -> Option<usize>
     Some(left)
 }
 
-// How many bytes stand for a byte in a JSON string.
+/// How many bytes stand for a byte in a JSON string.
 #[tactic(auto, unfolding(json::specs::Print::escape_byte))]
-fn escaped_len(byte: u8) -> usize
+pub fn escaped_len(byte: u8) -> usize
     ensures { result ≡ length (escape_byte byte) }
 {
     match byte {

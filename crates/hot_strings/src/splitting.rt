@@ -1,12 +1,10 @@
 //! Cutting a text at a delimiter.
-ghost use Rattle.std.specs.Prelude.{◌≡◌, ◌≢◌, ◌≤◌, [], List, ℕ, Some, IfOk, IfErr, OnOk, MatchOption, option_map, length, slice_get};
-ghost use Rattle.heat_value.specs.Data.{words, items};
+ghost use Rattle.std.specs.Prelude.{◌≡◌, ◌≢◌, [], List, ℕ, IfOk, IfErr, OnOk, MatchOption};
 ghost use Rattle.heat_value.specs.Meaning.{data_of};
 ghost use Rattle.hot_strings.specs.Joined.{joined};
 ghost use Rattle.hot_strings.specs.Only.{HoldsOfOne};
 ghost use Rattle.hot_strings.specs.Size.{Fits};
-ghost use Rattle.hot_strings.specs.Split.{AreSplit, IsSplitValue, IsSplitFault, IsSplitTooLong, Asked, all, one, unfit, asked_of, asked_by};
-ghost use Rattle.hot_strings.specs.Faults.{IsOfResult};
+ghost use Rattle.hot_strings.specs.Split.{AreSplit, IsSplitValue, IsSplitFault, all, one, unfit, asked_of, asked_by};
 
 use crate::StringFault;
 use crate::cutting::{cut, piece_at};
@@ -15,10 +13,10 @@ use crate::size::{MAX_SIZE, room_after};
 use heat_value::{Text, Value};
 use std::alloc::Global;
 
-#[tactic(auto, using(crate::proofs::Splits::for_split))]
 /// The pieces of a text, or the piece at an index. The faults come in this order: F02 for an index
 /// that is no whole number of 0 or more, F03 for an empty delimiter, F02 for an index out of range,
 /// F06 for a value that is too long.
+#[tactic(auto, using(crate::proofs::Splits::for_split))]
 pub fn split(
     alloc: Global,
     delimiter: &Text,

@@ -1,7 +1,7 @@
 //! Values from outside, one table for each function: worked examples, published digests, and both
 //! sides of the limit. A line has what goes in and what comes out, a text or a fault's code.
 use super::*;
-use heat_value::{Text, Value};
+use heat_value::{Items, Props, Text, Value};
 use std::alloc::{AllocError, Global};
 use std::process::Abort;
 use std::test::Fail;
@@ -193,13 +193,17 @@ fn digests(rt: HostRuntime) -> Result<(), Fail> {
     Ok(())
 }
 
-// So many letters, and a quote, which takes two bytes in JSON, and then the answer's code.
+// A quote, which takes two bytes in JSON, and so many letters.
 fn long(alloc: Global, letters: usize) -> Result<Text, AllocError> {
     let mut text = String::from_str(alloc, "\"")?;
     for _ in 0..letters {
         text.push_str("a")?;
     }
-    let items = [Text::from_string(text)];
+    Ok(Text::from_string(text))
+}
+
+fn joins_long(alloc: Global, letters: usize) -> Result<Text, AllocError> {
+    let items = [long(alloc, letters)?];
     match join(alloc, &Text::from_str(alloc, "")?, &items) {
         Ok(_) => Text::from_str(alloc, "fits"),
         Err(fault) => told(alloc, Err(fault)),
@@ -208,7 +212,25 @@ fn long(alloc: Global, letters: usize) -> Result<Text, AllocError> {
 
 #[test]
 fn stops_at_the_limit(rt: HostRuntime) -> Result<(), Fail> {
-    assert_eq!(rt; long(rt.alloc(), 1_048_572)?.as_str(), "fits");
-    assert_eq!(rt; long(rt.alloc(), 1_048_573)?.as_str(), "F06");
+    assert_eq!(rt; joins_long(rt.alloc(), 1_048_572)?.as_str(), "fits");
+    assert_eq!(rt; joins_long(rt.alloc(), 1_048_573)?.as_str(), "F06");
+    Ok(())
+}
+
+// Whether an empty list beside a long text fits: 17 bytes and the letters.
+fn map_with(alloc: Global, letters: usize) -> Result<bool, AllocError> {
+    let mut map = Props::new(alloc);
+    map.put(Text::from_str(alloc, "a")?, Value::Items(Items::new(alloc)))?;
+    map.put(
+        Text::from_str(alloc, "b")?,
+        Value::Words(long(alloc, letters)?),
+    )?;
+    Ok(map_fits(&map) && fits(&Value::Fields(map)))
+}
+
+#[test]
+fn fits_up_to_the_limit(rt: HostRuntime) -> Result<(), Fail> {
+    assert!(rt; map_with(rt.alloc(), 1_048_559)?);
+    assert!(rt; !map_with(rt.alloc(), 1_048_560)?);
     Ok(())
 }

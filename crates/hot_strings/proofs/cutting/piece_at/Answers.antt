@@ -1,4 +1,4 @@
-use Rattle.std.proofs.Common.{◌≡◌, ◌∷◌, [], ◌++◌, length, length-append, arith}
+use Rattle.std.proofs.Common.{◌∷◌, [], ◌++◌, length-append, arith}
 use Rattle.hot_strings.proofs.Passed.{LeadsTo-step, piece_there, last_there, none_there}
 use Rattle.hot_strings.proofs.cutting.piece_at.Goals as goal
 

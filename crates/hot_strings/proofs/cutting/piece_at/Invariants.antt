@@ -1,6 +1,5 @@
-use Rattle.std.proofs.Common.{◌≡◌, ◌+◌, ◌++◌, List, ℕ, length}
+use Rattle.std.proofs.Common.{◌≡◌, ◌+◌, List, ℕ, length}
 use Rattle.std.specs.Str.{IsUtf8}
-use Rattle.hot_strings.specs.Split.{AreSplit}
 use Rattle.hot_strings.proofs.Passed.{LeadsTo}
 use Rattle.hot_strings.proofs.cutting.piece_at.Given as goal
 

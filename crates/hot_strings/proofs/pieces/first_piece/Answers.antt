@@ -1,4 +1,4 @@
-use Rattle.std.proofs.Common.{◌≡◌, ◌<◌, ◌++◌, ◌∙◌, ap, length, arith}
+use Rattle.std.proofs.Common.{◌<◌, ◌++◌, ◌∙◌, ap, length}
 use Rattle.std.proofs.lemmas.Option.{slice_get_within}
 use Rattle.hot_strings.specs.Pieces.{key, character}
 use Rattle.hot_strings.proofs.KeyLemmas.{item_there}

@@ -1,7 +1,6 @@
-use Rattle.std.proofs.Common.{◌≡◌, ◌∷◌, [], ◌++◌, refl, sym, ◌∙◌, append-nil}
+use Rattle.std.proofs.Common.{◌∷◌, [], ◌++◌, refl}
 use Rattle.std.proofs.lemmas.Result.{err_from_is_err_and}
-use Rattle.heat_value.specs.Data.{words, items, node_last}
-use Rattle.hot_strings.specs.Split.{texts}
+use Rattle.heat_value.specs.Data.{words}
 use Rattle.hot_strings.proofs.Sizes.{node_last-some}
 use Rattle.hot_strings.proofs.Splits.{AreSplit-cons, split_exists, texts-push}
 use Rattle.hot_strings.proofs.Passed.{LeadsTo-step, push_refused}
