@@ -6,6 +6,7 @@ set -eu
 cd "$(dirname "$0")/../crates/bench_disk"
 appends="${1:-500}"
 rt run -- 1 >/dev/null 2>&1
+rm -f bench_disk.file bench_disk.file.2
 program="$PWD/out/bench_disk"
 folder="$(mktemp -d)"
 trap 'rm -rf "$folder"' EXIT
