@@ -1,0 +1,199 @@
+-- What the trait asks of each step, over the lists before and after it.
+use Rattle.std.proofs.Common.{◌≡◌, ◌≢◌, ◌<◌, ◌-◌, ℕ, Bool, true, false, List, [], ◌∷◌, ◌++◌, length, zero, suc, Option, Some, None, ◌∙◌, refl, sym, ap, arith, inl, inr}
+use Rattle.std.specs.Prelude.{Result, Ok, Err, OnOk, position, find, remove, slice_set, slice_get, IsSome}
+use Rattle.std.specs.List.{position_or_len}
+use Rattle.std.proofs.lemmas.List.Folds.{find_at}
+use Rattle.heat_value.specs.Data.{Members}
+use Rattle.heat_plan.specs.declared.token.Token.{Token}
+use Rattle.heat_plan.specs.declared.facts.Facts.{Facts}
+use Rattle.heat_plan.specs.declared.kind.Kind.{Kind}
+use Rattle.heat_plan.specs.declared.calls.Request.TheVariants as ask
+use Rattle.heat_plan.specs.declared.calls.Answered.TheVariants as answer
+use Rattle.provider.specs.declared.alive.Alive.{Alive}
+use Rattle.provider.specs.declared.traced.Traced.{Traced}
+use Rattle.provider.specs.declared.traced.Traced.TheVariants.{Called, Listed}
+use Rattle.provider.specs.declared.traced.Listing.TheVariants as listing
+use Rattle.provider.specs.Cloud.{IsAlive, entry_of}
+use Rattle.provider.specs.Calls.{MayGo, HasBegun, Waits, IsReady, IsGone, Lingers, Lists}
+use Rattle.sim_cloud.specs.declared.held.Held.{Held}
+use Rattle.sim_cloud.specs.Holding.{is_of, held_of, place_of, whats, IsHolding}
+use Rattle.sim_cloud.specs.Rule.{fresh, facts_again}
+use Rattle.sim_cloud.specs.Shown.{shown, leaving_of, IsMade, IsMadeAnew, IsSentAtOnce}
+use Rattle.sim_cloud.proofs.Places.{position-first, find-position, find-position_None}
+use Rattle.sim_cloud.proofs.Effects.{Becomes, becomes-set, becomes-push, shows, others-becomes, noted, stays, adds, sets, sends, removes, lowers}
+
+some_within : {X : Type 0} (xs : List X) (i : ℕ) → i < length xs → IsSome (slice_get xs i)
+some_within [] i lt = absurd (omega (arith, lt))
+some_within (x ∷ xs) zero lt = refl
+some_within (x ∷ xs) (suc i) lt = some_within xs i (omega (arith, lt))
+
+some_what : (o : Option Held) → IsSome o → IsSome (Rattle.std.specs.Prelude.option_map (λ (h : Held). h.what) o)
+some_what None e = cc
+some_what (Some h) e = refl
+
+-- what has a place is alive, and what has none isn't
+pub placed : (xs : List Held) (u : List Traced) (token : Token) (i : ℕ) → place_of xs token ≡ Some i → IsAlive (shown xs u) token
+placed xs u token i at =
+    let f = position-first (is_of token) xs i at in
+    let held : IsSome (held_of xs token) = rw (find_at (is_of token) xs, ← f.0) (some_within xs i f.1) in
+    rw (shows xs u token (held_of xs token) refl) (some_what (held_of xs token) held)
+
+pub unplaced : (xs : List Held) (u : List Traced) (token : Token) → place_of xs token ≡ None → entry_of (shown xs u) token ≡ None
+unplaced xs u token none = shows xs u token None (find-position_None (is_of token) xs none)
+
+pub not_placed : (xs : List Held) (u : List Traced) (token : Token) → place_of xs token ≡ None → IsAlive (shown xs u) token → ⊥
+not_placed xs u token none there = let e = unplaced xs u token none in cc
+
+pub found : (xs : List Held) (token : Token) (i : ℕ) (h : Held) → place_of xs token ≡ Some i → slice_get xs i ≡ Some h → held_of xs token ≡ Some h
+found xs token i h at here = find-position (is_of token) xs i h at here
+
+pub leaving_at : (xs : List Held) (u : List Traced) (token : Token) (i : ℕ) (h : Held) → place_of xs token ≡ Some i → slice_get xs i ≡ Some h → MayGo (shown xs u) token → h.leaving ≡ true
+leaving_at xs u token i h at here may = let e = may (placed xs u token i at) in let f = found xs token i h at here in sym (ap leaving_of f) ∙ e
+
+-- ---- create
+
+pub create_there : (xs : List Held) (u : List Traced) (token : Token) (kind : List ℕ) (props : Members) (i : ℕ) → place_of xs token ≡ Some i
+    → HasBegun token (ask.Create kind props) (shown xs u) (shown xs (u ++ Called token (ask.Create kind props) answer.Begun ∷ []))
+create_there xs u token kind props i at = record { noted = noted xs xs u _; effect = inr (placed xs u token i at, stays xs u _) }
+
+abbrev made : Token → Kind → Members → Held
+made token kind props = record { what = fresh token kind props; leaving = false; left = 0 }
+
+pub create_new : (xs : List Held) (u : List Traced) (token : Token) (kind : Kind) (props : Members) → place_of xs token ≡ None
+    → HasBegun token (ask.Create kind.name props) (shown xs u) (shown (xs ++ made token kind props ∷ []) (u ++ Called token (ask.Create kind.name props) answer.Begun ∷ []))
+create_new xs u token kind props none =
+    record { noted = noted xs (xs ++ made token kind props ∷ []) u _; effect = inl (adds xs (made token kind props) u _ none refl refl) }
+
+pub made_there : (xs ys : List Held) (u v : List Traced) (token : Token) (kind : Kind) (props : Members) (i : ℕ) → place_of xs token ≡ Some i → IsMade token kind props (shown xs u) (shown ys v)
+made_there xs ys u v token kind props i at =
+    let there = placed xs u token i at in
+    record { entry = λ none. cc; left = λ none. cc }
+
+pub made_new : (xs : List Held) (u v : List Traced) (token : Token) (kind : Kind) (props : Members) → place_of xs token ≡ None
+    → IsMade token kind props (shown xs u) (shown (xs ++ made token kind props ∷ []) v)
+made_new xs u v token kind props none =
+    let b = becomes-push xs (made token kind props) none in
+    record { entry = λ _. shows (xs ++ made token kind props ∷ []) v token (Some (made token kind props)) b.is; left = λ _. rw b.is refl }
+
+-- ---- update
+
+pub update_same : (xs : List Held) (u : List Traced) (token : Token) (props : Members) (i : ℕ) (h : Held) → place_of xs token ≡ Some i → slice_get xs i ≡ Some h → h.what.props ≡ props
+    → HasBegun token (ask.Update props) (shown xs u) (shown xs (u ++ Called token (ask.Update props) answer.Begun ∷ []))
+update_same xs u token props i h at here same =
+    record { noted = noted xs xs u _; effect = inr (record { it = h.what; entry = shows xs u token (Some h) (found xs token i h at here); same = same }, stays xs u _) }
+
+abbrev set : Held → Members → Facts → Held
+set h props facts = record h { what = record h.what { props = props; facts = facts; ready = false }; left = 0 }
+
+pub update_set : (xs : List Held) (u : List Traced) (token : Token) (props : Members) (facts : Facts) (i : ℕ) (h : Held) → place_of xs token ≡ Some i → slice_get xs i ≡ Some h → h.what.props ≢ props
+    → HasBegun token (ask.Update props) (shown xs u) (shown (slice_set xs i (set h props facts)) (u ++ Called token (ask.Update props) answer.Begun ∷ []))
+update_set xs u token props facts i h at here differs =
+    record { noted = noted xs (slice_set xs i (set h props facts)) u _; effect = inl (sets token xs i h u _ props facts 0 at here differs) }
+
+pub same_some : {X : Type 0} (a b : X) → Some a ≡ Some b → a ≡ b
+same_some a b e = cc
+
+pub anew_same : (xs ys : List Held) (u v : List Traced) (token : Token) (props : Members) (i : ℕ) (h : Held) → place_of xs token ≡ Some i → slice_get xs i ≡ Some h → h.what.props ≡ props
+    → IsMadeAnew token props (shown xs u) (shown ys v)
+anew_same xs ys u v token props i h at here same =
+    let entry = shows xs u token (Some h) (found xs token i h at here) in
+    record {
+      entry = λ it e differs. absurd (differs (let is = same_some h.what it (sym entry ∙ e) in rw (← is) same));
+      left = λ it e differs. absurd (differs (let is = same_some h.what it (sym entry ∙ e) in rw (← is) same));
+    }
+
+pub anew_set : (xs : List Held) (u v : List Traced) (token : Token) (props : Members) (i : ℕ) (h : Held) → place_of xs token ≡ Some i → slice_get xs i ≡ Some h
+    → IsMadeAnew token props (shown xs u) (shown (slice_set xs i (set h props (facts_again h.what.facts props token.row))) v)
+anew_set xs u v token props i h at here =
+    let after = set h props (facts_again h.what.facts props token.row) in
+    let b = becomes-set token xs i h after at here refl in
+    let entry = shows xs u token (Some h) (found xs token i h at here) in
+    record {
+      entry = λ it e differs. let is = same_some h.what it (sym entry ∙ e) in rw (← is) (shows (slice_set xs i after) v token (Some after) b.is);
+      left = λ it e differs. rw b.is refl;
+    }
+
+-- ---- delete
+
+pub delete_absent : (xs : List Held) (u : List Traced) (token : Token) → place_of xs token ≡ None
+    → HasBegun token ask.Delete (shown xs u) (shown xs (u ++ Called token ask.Delete answer.Begun ∷ []))
+delete_absent xs u token none =
+    record { noted = noted xs xs u _; effect = inr ((λ there. absurd (not_placed xs u token none there)), stays xs u _) }
+
+pub delete_again : (xs : List Held) (u : List Traced) (token : Token) (i : ℕ) (h : Held) → place_of xs token ≡ Some i → slice_get xs i ≡ Some h → h.leaving ≡ true
+    → HasBegun token ask.Delete (shown xs u) (shown xs (u ++ Called token ask.Delete answer.Begun ∷ []))
+delete_again xs u token i h at here leaving =
+    record { noted = noted xs xs u _; effect = inr ((λ there. rw (found xs token i h at here) leaving), stays xs u _) }
+
+pub delete_first : (xs : List Held) (u : List Traced) (token : Token) (i : ℕ) (h : Held) → place_of xs token ≡ Some i → slice_get xs i ≡ Some h → h.leaving ≡ false
+    → HasBegun token ask.Delete (shown xs u) (shown (slice_set xs i (record h { leaving = true; left = 0 })) (u ++ Called token ask.Delete answer.Begun ∷ []))
+delete_first xs u token i h at here stays_on =
+    record { noted = noted xs (slice_set xs i (record h { leaving = true; left = 0 })) u _; effect = inl (sends token xs i h u _ 0 at here stays_on) }
+
+pub sent_absent : (xs ys : List Held) (u v : List Traced) (token : Token) → ys ≡ xs → place_of xs token ≡ None → IsSentAtOnce token (shown xs u) (shown ys v)
+sent_absent xs ys u v token same none = λ _. rw (same, find-position_None (is_of token) xs none) refl
+
+pub sent_again : (xs ys : List Held) (u v : List Traced) (token : Token) (i : ℕ) (h : Held) → place_of xs token ≡ Some i → slice_get xs i ≡ Some h → h.leaving ≡ true → IsSentAtOnce token (shown xs u) (shown ys v)
+sent_again xs ys u v token i h at here leaving = λ e. let f = ap leaving_of (found xs token i h at here) in cc
+
+pub sent_first : (xs : List Held) (u v : List Traced) (token : Token) (i : ℕ) (h : Held) → place_of xs token ≡ Some i → slice_get xs i ≡ Some h
+    → IsSentAtOnce token (shown xs u) (shown (slice_set xs i (record h { leaving = true; left = 0 })) v)
+sent_first xs u v token i h at here = let b = becomes-set token xs i h (record h { leaving = true; left = 0 }) at here refl in λ _. rw b.is refl
+
+-- ---- poll
+
+pub poll_waits : (xs : List Held) (u : List Traced) (token : Token) (i : ℕ) (h : Held) → place_of xs token ≡ Some i → slice_get xs i ≡ Some h → 0 < h.left
+    → Waits token (shown xs u) (shown (slice_set xs i (record h { left = h.left - 1 })) (u ++ Called token ask.Poll answer.NotYet ∷ []))
+poll_waits xs u token i h at here some =
+    record { noted = noted xs (slice_set xs i (record h { left = h.left - 1 })) u _; lowers = lowers token xs i h u _ at here some }
+
+pub poll_ready : (xs : List Held) (u : List Traced) (token : Token) (i : ℕ) (h : Held) → place_of xs token ≡ Some i → slice_get xs i ≡ Some h → h.left ≡ 0
+    → IsReady token h.what.facts (shown xs u) (shown (slice_set xs i (record h { what = record h.what { ready = true } })) (u ++ Called token ask.Poll (answer.Ready h.what.facts) ∷ []))
+poll_ready xs u token i h at here due =
+    let after : Held = record h { what = record h.what { ready = true } } in
+    let ys = slice_set xs i after in
+    let v = u ++ Called token ask.Poll (answer.Ready h.what.facts) ∷ [] in
+    let b = becomes-set token xs i h after at here refl in
+    record {
+      noted = noted xs ys u _;
+      due = rw b.was due;
+      before = h.what;
+      told = refl;
+      turns = record { was = shows xs u token (Some h) b.was; is = shows ys v token (Some after) b.is };
+      leaving = rw (b.was, b.is) refl;
+      left = rw b.is due;
+      others = others-becomes token xs ys u v (Some h) (Some after) b;
+    }
+
+-- ---- gone
+
+pub gone_absent : (xs : List Held) (u : List Traced) (token : Token) → place_of xs token ≡ None
+    → IsGone token (shown xs u) (shown xs (u ++ Called token ask.Gone answer.Gone ∷ []))
+gone_absent xs u token none = record { noted = noted xs xs u _; effect = inr (unplaced xs u token none, stays xs u _) }
+
+pub gone_removed : (xs : List Held) (u : List Traced) (token : Token) (i : ℕ) (h : Held) → IsHolding xs → place_of xs token ≡ Some i → slice_get xs i ≡ Some h → h.left ≡ 0 → h.leaving ≡ true
+    → IsGone token (shown xs u) (shown (remove xs i) (u ++ Called token ask.Gone answer.Gone ∷ []))
+gone_removed xs u token i h fit at here due leaving =
+    record { noted = noted xs (remove xs i) u _; effect = inl (removes token xs i h u _ fit at here leaving due) }
+
+pub gone_lingers : (xs : List Held) (u : List Traced) (token : Token) (i : ℕ) (h : Held) → place_of xs token ≡ Some i → slice_get xs i ≡ Some h → 0 < h.left → h.leaving ≡ true
+    → Lingers token (shown xs u) (shown (slice_set xs i (record h { left = h.left - 1 })) (u ++ Called token ask.Gone answer.NotYet ∷ []))
+gone_lingers xs u token i h at here some leaving = record {
+  noted = noted xs (slice_set xs i (record h { left = h.left - 1 })) u _;
+  there = placed xs u token i at;
+  leaving = rw (found xs token i h at here) leaving;
+  lowers = lowers token xs i h u _ at here some;
+}
+
+pub lists_all : (xs : List Held) (u : List Traced) → Lists (whats xs) (shown xs u) (shown xs (u ++ Listed listing.Got ∷ []))
+lists_all xs u = record { noted = noted xs xs u _; all_of_them = refl; stays = stays xs u _ }
+
+-- ---- results
+
+pub on_ok : {T E A B : Type 0} (r : Result T E) → OnOk r A → (A → B) → OnOk r B
+on_ok (Ok v) a f = f a
+on_ok (Err e) a f = tt
+
+pub on_ok_both : {T E A B C : Type 0} (r : Result T E) → OnOk r A → OnOk r B → (A → B → C) → OnOk r C
+on_ok_both (Ok v) a b f = f a b
+on_ok_both (Err e) a b f = tt

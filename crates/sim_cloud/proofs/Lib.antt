@@ -1,0 +1,5 @@
+pub mod Places
+pub mod Kept
+pub mod Attributes
+pub mod Effects
+pub mod Clauses

@@ -1,0 +1,113 @@
+//! The simulated cloud as a provider. Its own clauses say the ids and the attributes that it gives, that
+//! no polls are left after a request, and that it never refuses and never fails.
+ghost use Rattle.std.specs.Prelude.{◌≡◌, ◌≢◌, ℕ, List};
+ghost use Rattle.heat_plan.specs.declared.facts.Facts.{Facts as facts_type};
+ghost use Rattle.heat_plan.specs.declared.calls.Request.TheVariants as ask;
+ghost use Rattle.provider.specs.declared.alive.Alive.{Alive};
+ghost use Rattle.provider.specs.Cloud.{IsAlive};
+ghost use Rattle.provider.specs.Changes.{IsAsBefore};
+ghost use Rattle.provider.specs.Calls.{MayGo, HasBegun, Waits, IsReady, IsGone, Lingers, Lists};
+ghost use Rattle.sim_cloud.specs.Shown.{IsMade, IsMadeAnew, IsSentAtOnce};
+ghost use Rattle.sim_cloud.specs.Sound.{lawful_shown};
+ghost use Rattle.sim_cloud.specs.Simulated.{cloud_of};
+
+use crate::SimCloud;
+use heat_plan::{Kind, Properties, Token};
+use provider::{Answer, Gone, Listed, Poll, Provider};
+
+impl Provider for SimCloud {
+    ghost cloud = { cloud_of };
+
+    ghost lawful = { λ c. lawful_shown c.held.all c.trace c.held.fit };
+
+    fn create(&mut self, token: &Token, kind: &Kind, props: &Properties) -> Answer
+        ensures made { result ≡ Answer.Begun →
+            IsMade token.now kind.now props.now (cloud_of self.old) (cloud_of self.new) }
+        ensures never { result ≢ Answer.Failed }
+        ensures begun { result ≡ Answer.Begun →
+            HasBegun token.now (ask.Create kind.now.name props.now)
+                (cloud_of self.old) (cloud_of self.new) }
+        ensures quota { result ≢ Answer.Quota }
+        ensures memory { result ≡ Answer.Memory → IsAsBefore (cloud_of self.old) (cloud_of self.new) }
+    {
+        match self.begin_create(token, kind, props) {
+            Ok(()) => Answer::Begun,
+            Err(_) => Answer::Memory,
+        }
+    }
+
+    fn update(&mut self, token: &Token, props: &Properties) -> Answer
+        requires { IsAlive (cloud_of self.old) token.now }
+        ensures made { result ≡ Answer.Begun →
+            IsMadeAnew token.now props.now (cloud_of self.old) (cloud_of self.new) }
+        ensures never { result ≢ Answer.Failed }
+        ensures begun { result ≡ Answer.Begun →
+            HasBegun token.now (ask.Update props.now) (cloud_of self.old) (cloud_of self.new) }
+        ensures quota { result ≢ Answer.Quota }
+        ensures memory { result ≡ Answer.Memory → IsAsBefore (cloud_of self.old) (cloud_of self.new) }
+    {
+        match self.begin_update(token, props) {
+            Ok(()) => Answer::Begun,
+            Err(_) => Answer::Memory,
+        }
+    }
+
+    fn delete(&mut self, token: &Token) -> Answer
+        ensures never { result ≢ Answer.Failed }
+        ensures left { result ≡ Answer.Begun →
+            IsSentAtOnce token.now (cloud_of self.old) (cloud_of self.new) }
+        ensures begun { result ≡ Answer.Begun →
+            HasBegun token.now ask.Delete (cloud_of self.old) (cloud_of self.new) }
+        ensures quota { result ≢ Answer.Quota }
+        ensures memory { result ≡ Answer.Memory → IsAsBefore (cloud_of self.old) (cloud_of self.new) }
+    {
+        match self.begin_delete(token) {
+            Ok(()) => Answer::Begun,
+            Err(_) => Answer::Memory,
+        }
+    }
+
+    fn poll(&mut self, token: &Token) -> Poll
+        requires { IsAlive (cloud_of self.old) token.now }
+        ensures never { result ≢ Poll.Failed }
+        ensures broken { (code : List ℕ) → result ≢ Poll.Broken code }
+        ensures not_yet { result ≡ Poll.NotYet →
+            Waits token.now (cloud_of self.old) (cloud_of self.new) }
+        ensures ready { (facts : facts_type) → result ≡ Poll.Ready facts →
+            IsReady token.now facts (cloud_of self.old) (cloud_of self.new) }
+        ensures memory { result ≡ Poll.Memory → IsAsBefore (cloud_of self.old) (cloud_of self.new) }
+    {
+        match self.ask_ready(token) {
+            Ok(Some(facts)) => Poll::Ready(facts),
+            Ok(None) => Poll::NotYet,
+            Err(_) => Poll::Memory,
+        }
+    }
+
+    fn gone(&mut self, token: &Token) -> Gone
+        requires { MayGo (cloud_of self.old) token.now }
+        ensures never { result ≢ Gone.Failed }
+        ensures gone { result ≡ Gone.Gone → IsGone token.now (cloud_of self.old) (cloud_of self.new) }
+        ensures not_yet { result ≡ Gone.NotYet →
+            Lingers token.now (cloud_of self.old) (cloud_of self.new) }
+        ensures memory { result ≡ Gone.Memory → IsAsBefore (cloud_of self.old) (cloud_of self.new) }
+    {
+        match self.ask_gone(token) {
+            Ok(true) => Gone::Gone,
+            Ok(false) => Gone::NotYet,
+            Err(_) => Gone::Memory,
+        }
+    }
+
+    fn list(&mut self) -> Listed
+        ensures never { result ≢ Listed.Failed }
+        ensures got { (all : List Alive) → result ≡ Listed.Got all →
+            Lists all (cloud_of self.old) (cloud_of self.new) }
+        ensures memory { result ≡ Listed.Memory → IsAsBefore (cloud_of self.old) (cloud_of self.new) }
+    {
+        match self.all_alive() {
+            Ok(all) => Listed::Got(all),
+            Err(_) => Listed::Memory,
+        }
+    }
+}

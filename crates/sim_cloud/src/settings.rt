@@ -1,0 +1,44 @@
+//! What a simulated cloud is made with.
+use heat_value::{Seq, Text};
+use provider::Alive;
+
+/// A resource that is there from the start; polls left are at most 64.
+#[derive(Debug, Drop)]
+pub struct CloudAlive {
+    pub what: Alive,
+    pub leaving: bool,
+    pub left: u8,
+}
+
+/// How many resources of a kind may be alive, at most 1,000,000.
+#[derive(Debug, Drop)]
+pub struct KindQuota {
+    pub kind: Text,
+    pub most: u32,
+}
+
+/// How many polls are left after each accepted request for a kind, at most 64.
+#[derive(Debug, Drop)]
+pub struct KindDelay {
+    pub kind: Text,
+    pub polls: u8,
+}
+
+/// The code with which polls of a resource's name are Broken.
+#[derive(Debug, Drop)]
+pub struct NameCode {
+    pub name: Text,
+    pub code: Text,
+}
+
+/// The resources from the start, the quotas and delays of kinds, the broken names, and the numbers of
+/// the calls that fail with nothing done and with their effect done. All are empty for now.
+#[derive(Debug, Drop)]
+pub struct Settings {
+    pub alive: Seq<CloudAlive>,
+    pub quotas: Seq<KindQuota>,
+    pub delays: Seq<KindDelay>,
+    pub broken: Seq<NameCode>,
+    pub faults: Seq<u64>,
+    pub late: Seq<u64>,
+}
