@@ -10,17 +10,16 @@ use Rattle.heat_plan.specs.declared.kind.Kind.{Kind}
 use Rattle.heat_plan.specs.declared.calls.Request.TheVariants as ask
 use Rattle.heat_plan.specs.declared.calls.Answered.TheVariants as answer
 use Rattle.provider.specs.declared.alive.Alive.{Alive}
-use Rattle.provider.specs.declared.traced.Traced.{Traced}
-use Rattle.provider.specs.declared.traced.Traced.TheVariants.{Called, Listed}
-use Rattle.provider.specs.declared.traced.Listing.TheVariants as listing
-use Rattle.provider.specs.Cloud.{IsAlive, entry_of}
-use Rattle.provider.specs.Calls.{MayGo, HasBegun, Waits, IsReady, IsGone, Lingers, Lists}
+use Rattle.provider.specs.declared.traced.Traced.TheVariants.{Called}
+use Rattle.provider.specs.Cloud.{IsAlive, IsFull, entry_of}
+use Rattle.provider.specs.Changes.{Notes, Takes}
+use Rattle.provider.specs.Calls.{MayGo, Waits, IsReady, IsGone, Lingers}
 use Rattle.sim_cloud.specs.declared.held.Held.{Held}
 use Rattle.sim_cloud.specs.Holding.{is_of, held_of, place_of, whats, IsHolding}
 use Rattle.sim_cloud.specs.Rule.{fresh, facts_again}
-use Rattle.sim_cloud.specs.Shown.{shown, leaving_of, IsMade, IsMadeAnew, IsSentAtOnce}
+use Rattle.sim_cloud.specs.Shown.{Beside, shown, leaving_of, left_of, IsMade, IsMadeAnew, IsSentAway}
 use Rattle.sim_cloud.proofs.Places.{position-first, find-position, find-position_None}
-use Rattle.sim_cloud.proofs.Effects.{Becomes, becomes-set, becomes-push, shows, others-becomes, noted, stays, adds, sets, sends, removes, lowers}
+use Rattle.sim_cloud.proofs.Effects.{Becomes, becomes-set, becomes-push, shows, others-becomes, stays, adds, sets, sends, removes, lowers}
 
 some_within : {X : Type 0} (xs : List X) (i : ℕ) → i < length xs → IsSome (slice_get xs i)
 some_within [] i lt = absurd (omega (arith, lt))
@@ -32,80 +31,81 @@ some_what None e = cc
 some_what (Some h) e = refl
 
 -- what has a place is alive, and what has none isn't
-pub placed : (xs : List Held) (u : List Traced) (token : Token) (i : ℕ) → place_of xs token ≡ Some i → IsAlive (shown xs u) token
+pub placed : (xs : List Held) (u : Beside) (token : Token) (i : ℕ) → place_of xs token ≡ Some i → IsAlive (shown xs u) token
 placed xs u token i at =
     let f = position-first (is_of token) xs i at in
     let held : IsSome (held_of xs token) = rw (find_at (is_of token) xs, ← f.0) (some_within xs i f.1) in
     rw (shows xs u token (held_of xs token) refl) (some_what (held_of xs token) held)
 
-pub unplaced : (xs : List Held) (u : List Traced) (token : Token) → place_of xs token ≡ None → entry_of (shown xs u) token ≡ None
+pub unplaced : (xs : List Held) (u : Beside) (token : Token) → place_of xs token ≡ None → entry_of (shown xs u) token ≡ None
 unplaced xs u token none = shows xs u token None (find-position_None (is_of token) xs none)
 
-pub not_placed : (xs : List Held) (u : List Traced) (token : Token) → place_of xs token ≡ None → IsAlive (shown xs u) token → ⊥
+pub not_placed : (xs : List Held) (u : Beside) (token : Token) → place_of xs token ≡ None → IsAlive (shown xs u) token → ⊥
 not_placed xs u token none there = let e = unplaced xs u token none in cc
+
+pub placed_not_absent : (xs : List Held) (u : Beside) (token : Token) (i : ℕ) → place_of xs token ≡ Some i → entry_of (shown xs u) token ≡ None → ⊥
+placed_not_absent xs u token i at none = let there = placed xs u token i at in cc
 
 pub found : (xs : List Held) (token : Token) (i : ℕ) (h : Held) → place_of xs token ≡ Some i → slice_get xs i ≡ Some h → held_of xs token ≡ Some h
 found xs token i h at here = find-position (is_of token) xs i h at here
 
-pub leaving_at : (xs : List Held) (u : List Traced) (token : Token) (i : ℕ) (h : Held) → place_of xs token ≡ Some i → slice_get xs i ≡ Some h → MayGo (shown xs u) token → h.leaving ≡ true
+pub leaving_at : (xs : List Held) (u : Beside) (token : Token) (i : ℕ) (h : Held) → place_of xs token ≡ Some i → slice_get xs i ≡ Some h → MayGo (shown xs u) token → h.leaving ≡ true
 leaving_at xs u token i h at here may = let e = may (placed xs u token i at) in let f = found xs token i h at here in sym (ap leaving_of f) ∙ e
 
 -- ---- create
 
-pub create_there : (xs : List Held) (u : List Traced) (token : Token) (kind : List ℕ) (props : Members) (i : ℕ) → place_of xs token ≡ Some i
-    → HasBegun token (ask.Create kind props) (shown xs u) (shown xs (u ++ Called token (ask.Create kind props) answer.Begun ∷ []))
-create_there xs u token kind props i at = record { noted = noted xs xs u _; effect = inr (placed xs u token i at, stays xs u _) }
+pub create_there : (xs : List Held) (u v : Beside) (token : Token) (kind : List ℕ) (props : Members) (i : ℕ) → place_of xs token ≡ Some i → Takes token (ask.Create kind props) (shown xs u) (shown xs v)
+create_there xs u v token kind props i at = inr (placed xs u token i at, stays xs u v)
 
-abbrev made : Token → Kind → Members → Held
-made token kind props = record { what = fresh token kind props; leaving = false; left = 0 }
+abbrev made : Token → Kind → Members → ℕ → Held
+made token kind props left = record { what = fresh token kind props; leaving = false; left = left }
 
-pub create_new : (xs : List Held) (u : List Traced) (token : Token) (kind : Kind) (props : Members) → place_of xs token ≡ None
-    → HasBegun token (ask.Create kind.name props) (shown xs u) (shown (xs ++ made token kind props ∷ []) (u ++ Called token (ask.Create kind.name props) answer.Begun ∷ []))
-create_new xs u token kind props none =
-    record { noted = noted xs (xs ++ made token kind props ∷ []) u _; effect = inl (adds xs (made token kind props) u _ none refl refl) }
+pub create_new : (xs : List Held) (u v : Beside) (token : Token) (kind : Kind) (props : Members) (left : ℕ) → place_of xs token ≡ None → (entry_of (shown xs u) token ≡ None → ¬ IsFull (shown xs u) kind.name)
+    → Takes token (ask.Create kind.name props) (shown xs u) (shown (xs ++ made token kind props left ∷ []) v)
+create_new xs u v token kind props left none room = inl (adds xs (made token kind props left) u v none (room (unplaced xs u token none)) refl refl)
 
-pub made_there : (xs ys : List Held) (u v : List Traced) (token : Token) (kind : Kind) (props : Members) (i : ℕ) → place_of xs token ≡ Some i → IsMade token kind props (shown xs u) (shown ys v)
-made_there xs ys u v token kind props i at =
+pub made_there : (xs ys : List Held) (u v : Beside) (token : Token) (kind : Kind) (props : Members) (left i : ℕ) → place_of xs token ≡ Some i → IsMade token kind props left (shown xs u) (shown ys v)
+made_there xs ys u v token kind props left i at =
     let there = placed xs u token i at in
     record { entry = λ none. cc; left = λ none. cc }
 
-pub made_new : (xs : List Held) (u v : List Traced) (token : Token) (kind : Kind) (props : Members) → place_of xs token ≡ None
-    → IsMade token kind props (shown xs u) (shown (xs ++ made token kind props ∷ []) v)
-made_new xs u v token kind props none =
-    let b = becomes-push xs (made token kind props) none in
-    record { entry = λ _. shows (xs ++ made token kind props ∷ []) v token (Some (made token kind props)) b.is; left = λ _. rw b.is refl }
+pub made_new : (xs : List Held) (u v : Beside) (token : Token) (kind : Kind) (props : Members) (left : ℕ) → place_of xs token ≡ None
+    → IsMade token kind props left (shown xs u) (shown (xs ++ made token kind props left ∷ []) v)
+made_new xs u v token kind props left none =
+    let one = made token kind props left in
+    let b = becomes-push xs one none in
+    record { entry = λ _. shows (xs ++ one ∷ []) v token (Some one) b.is; left = λ _. rw b.is refl }
 
 -- ---- update
 
-pub update_same : (xs : List Held) (u : List Traced) (token : Token) (props : Members) (i : ℕ) (h : Held) → place_of xs token ≡ Some i → slice_get xs i ≡ Some h → h.what.props ≡ props
-    → HasBegun token (ask.Update props) (shown xs u) (shown xs (u ++ Called token (ask.Update props) answer.Begun ∷ []))
-update_same xs u token props i h at here same =
-    record { noted = noted xs xs u _; effect = inr (record { it = h.what; entry = shows xs u token (Some h) (found xs token i h at here); same = same }, stays xs u _) }
+pub update_same : (xs : List Held) (u v : Beside) (token : Token) (props : Members) (i : ℕ) (h : Held) → place_of xs token ≡ Some i → slice_get xs i ≡ Some h → h.what.props ≡ props
+    → Takes token (ask.Update props) (shown xs u) (shown xs v)
+update_same xs u v token props i h at here same =
+    inr (record { it = h.what; entry = shows xs u token (Some h) (found xs token i h at here); same = same }, stays xs u v)
 
-abbrev set : Held → Members → Facts → Held
-set h props facts = record h { what = record h.what { props = props; facts = facts; ready = false }; left = 0 }
+abbrev set : Held → Members → Facts → ℕ → Held
+set h props facts left = record h { what = record h.what { props = props; facts = facts; ready = false }; left = left }
 
-pub update_set : (xs : List Held) (u : List Traced) (token : Token) (props : Members) (facts : Facts) (i : ℕ) (h : Held) → place_of xs token ≡ Some i → slice_get xs i ≡ Some h → h.what.props ≢ props
-    → HasBegun token (ask.Update props) (shown xs u) (shown (slice_set xs i (set h props facts)) (u ++ Called token (ask.Update props) answer.Begun ∷ []))
-update_set xs u token props facts i h at here differs =
-    record { noted = noted xs (slice_set xs i (set h props facts)) u _; effect = inl (sets token xs i h u _ props facts 0 at here differs) }
+pub update_set : (xs : List Held) (u v : Beside) (token : Token) (props : Members) (facts : Facts) (left i : ℕ) (h : Held) → place_of xs token ≡ Some i → slice_get xs i ≡ Some h → h.what.props ≢ props
+    → Takes token (ask.Update props) (shown xs u) (shown (slice_set xs i (set h props facts left)) v)
+update_set xs u v token props facts left i h at here differs = inl (sets token xs i h u v props facts left at here differs)
 
 pub same_some : {X : Type 0} (a b : X) → Some a ≡ Some b → a ≡ b
 same_some a b e = cc
 
-pub anew_same : (xs ys : List Held) (u v : List Traced) (token : Token) (props : Members) (i : ℕ) (h : Held) → place_of xs token ≡ Some i → slice_get xs i ≡ Some h → h.what.props ≡ props
-    → IsMadeAnew token props (shown xs u) (shown ys v)
-anew_same xs ys u v token props i h at here same =
+pub anew_same : (xs ys : List Held) (u v : Beside) (token : Token) (props : Members) (left i : ℕ) (h : Held) → place_of xs token ≡ Some i → slice_get xs i ≡ Some h → h.what.props ≡ props
+    → IsMadeAnew token props left (shown xs u) (shown ys v)
+anew_same xs ys u v token props left i h at here same =
     let entry = shows xs u token (Some h) (found xs token i h at here) in
     record {
       entry = λ it e differs. absurd (differs (let is = same_some h.what it (sym entry ∙ e) in rw (← is) same));
       left = λ it e differs. absurd (differs (let is = same_some h.what it (sym entry ∙ e) in rw (← is) same));
     }
 
-pub anew_set : (xs : List Held) (u v : List Traced) (token : Token) (props : Members) (i : ℕ) (h : Held) → place_of xs token ≡ Some i → slice_get xs i ≡ Some h
-    → IsMadeAnew token props (shown xs u) (shown (slice_set xs i (set h props (facts_again h.what.facts props token.row))) v)
-anew_set xs u v token props i h at here =
-    let after = set h props (facts_again h.what.facts props token.row) in
+pub anew_set : (xs : List Held) (u v : Beside) (token : Token) (props : Members) (left i : ℕ) (h : Held) → place_of xs token ≡ Some i → slice_get xs i ≡ Some h
+    → IsMadeAnew token props left (shown xs u) (shown (slice_set xs i (set h props (facts_again h.what.facts props token.row) left)) v)
+anew_set xs u v token props left i h at here =
+    let after = set h props (facts_again h.what.facts props token.row) left in
     let b = becomes-set token xs i h after at here refl in
     let entry = shows xs u token (Some h) (found xs token i h at here) in
     record {
@@ -115,47 +115,48 @@ anew_set xs u v token props i h at here =
 
 -- ---- delete
 
-pub delete_absent : (xs : List Held) (u : List Traced) (token : Token) → place_of xs token ≡ None
-    → HasBegun token ask.Delete (shown xs u) (shown xs (u ++ Called token ask.Delete answer.Begun ∷ []))
-delete_absent xs u token none =
-    record { noted = noted xs xs u _; effect = inr ((λ there. absurd (not_placed xs u token none there)), stays xs u _) }
+pub delete_absent : (xs : List Held) (u v : Beside) (token : Token) → place_of xs token ≡ None → Takes token ask.Delete (shown xs u) (shown xs v)
+delete_absent xs u v token none = inr ((λ there. absurd (not_placed xs u token none there)), stays xs u v)
 
-pub delete_again : (xs : List Held) (u : List Traced) (token : Token) (i : ℕ) (h : Held) → place_of xs token ≡ Some i → slice_get xs i ≡ Some h → h.leaving ≡ true
-    → HasBegun token ask.Delete (shown xs u) (shown xs (u ++ Called token ask.Delete answer.Begun ∷ []))
-delete_again xs u token i h at here leaving =
-    record { noted = noted xs xs u _; effect = inr ((λ there. rw (found xs token i h at here) leaving), stays xs u _) }
+pub delete_again : (xs : List Held) (u v : Beside) (token : Token) (i : ℕ) (h : Held) → place_of xs token ≡ Some i → slice_get xs i ≡ Some h → h.leaving ≡ true → Takes token ask.Delete (shown xs u) (shown xs v)
+delete_again xs u v token i h at here leaving = inr ((λ there. rw (found xs token i h at here) leaving), stays xs u v)
 
-pub delete_first : (xs : List Held) (u : List Traced) (token : Token) (i : ℕ) (h : Held) → place_of xs token ≡ Some i → slice_get xs i ≡ Some h → h.leaving ≡ false
-    → HasBegun token ask.Delete (shown xs u) (shown (slice_set xs i (record h { leaving = true; left = 0 })) (u ++ Called token ask.Delete answer.Begun ∷ []))
-delete_first xs u token i h at here stays_on =
-    record { noted = noted xs (slice_set xs i (record h { leaving = true; left = 0 })) u _; effect = inl (sends token xs i h u _ 0 at here stays_on) }
+abbrev sent : Held → ℕ → Held
+sent h left = record h { leaving = true; left = left }
 
-pub sent_absent : (xs ys : List Held) (u v : List Traced) (token : Token) → ys ≡ xs → place_of xs token ≡ None → IsSentAtOnce token (shown xs u) (shown ys v)
-sent_absent xs ys u v token same none = λ _. rw (same, find-position_None (is_of token) xs none) refl
+pub delete_first : (xs : List Held) (u v : Beside) (token : Token) (left i : ℕ) (h : Held) → place_of xs token ≡ Some i → slice_get xs i ≡ Some h → h.leaving ≡ false
+    → Takes token ask.Delete (shown xs u) (shown (slice_set xs i (sent h left)) v)
+delete_first xs u v token left i h at here stays_on = inl (sends token xs i h u v left at here stays_on)
 
-pub sent_again : (xs ys : List Held) (u v : List Traced) (token : Token) (i : ℕ) (h : Held) → place_of xs token ≡ Some i → slice_get xs i ≡ Some h → h.leaving ≡ true → IsSentAtOnce token (shown xs u) (shown ys v)
-sent_again xs ys u v token i h at here leaving = λ e. let f = ap leaving_of (found xs token i h at here) in cc
+pub sent_absent : (xs ys : List Held) (u v : Beside) (token : Token) (left : ℕ) → place_of xs token ≡ None → IsSentAway token left (shown xs u) (shown ys v)
+sent_absent xs ys u v token left none = λ it e. let f = unplaced xs u token none in cc
 
-pub sent_first : (xs : List Held) (u v : List Traced) (token : Token) (i : ℕ) (h : Held) → place_of xs token ≡ Some i → slice_get xs i ≡ Some h
-    → IsSentAtOnce token (shown xs u) (shown (slice_set xs i (record h { leaving = true; left = 0 })) v)
-sent_first xs u v token i h at here = let b = becomes-set token xs i h (record h { leaving = true; left = 0 }) at here refl in λ _. rw b.is refl
+pub sent_again : (xs ys : List Held) (u v : Beside) (token : Token) (left i : ℕ) (h : Held) → place_of xs token ≡ Some i → slice_get xs i ≡ Some h → h.leaving ≡ true → IsSentAway token left (shown xs u) (shown ys v)
+sent_again xs ys u v token left i h at here leaving = λ it e before. let f = ap leaving_of (found xs token i h at here) in cc
+
+pub sent_first : (xs : List Held) (u v : Beside) (token : Token) (left i : ℕ) (h : Held) → place_of xs token ≡ Some i → slice_get xs i ≡ Some h
+    → IsSentAway token left (shown xs u) (shown (slice_set xs i (sent h left)) v)
+sent_first xs u v token left i h at here = let b = becomes-set token xs i h (sent h left) at here refl in λ it e before. rw b.is refl
 
 -- ---- poll
 
-pub poll_waits : (xs : List Held) (u : List Traced) (token : Token) (i : ℕ) (h : Held) → place_of xs token ≡ Some i → slice_get xs i ≡ Some h → 0 < h.left
-    → Waits token (shown xs u) (shown (slice_set xs i (record h { left = h.left - 1 })) (u ++ Called token ask.Poll answer.NotYet ∷ []))
-poll_waits xs u token i h at here some =
-    record { noted = noted xs (slice_set xs i (record h { left = h.left - 1 })) u _; lowers = lowers token xs i h u _ at here some }
+pub left_at : (xs : List Held) (u : Beside) (token : Token) (i : ℕ) (h : Held) → place_of xs token ≡ Some i → slice_get xs i ≡ Some h → left_of (held_of xs token) ≡ h.left
+left_at xs u token i h at here = ap left_of (found xs token i h at here)
 
-pub poll_ready : (xs : List Held) (u : List Traced) (token : Token) (i : ℕ) (h : Held) → place_of xs token ≡ Some i → slice_get xs i ≡ Some h → h.left ≡ 0
-    → IsReady token h.what.facts (shown xs u) (shown (slice_set xs i (record h { what = record h.what { ready = true } })) (u ++ Called token ask.Poll (answer.Ready h.what.facts) ∷ []))
-poll_ready xs u token i h at here due =
+pub poll_waits : (xs : List Held) (u v : Beside) (token : Token) (i : ℕ) (h : Held) → place_of xs token ≡ Some i → slice_get xs i ≡ Some h → 0 < h.left
+    → Notes (Called token ask.Poll answer.NotYet) (shown xs u) (shown (slice_set xs i (record h { left = h.left - 1 })) v)
+    → Waits token (shown xs u) (shown (slice_set xs i (record h { left = h.left - 1 })) v)
+poll_waits xs u v token i h at here some notes = record { noted = notes; lowers = lowers token xs i h u v at here some }
+
+pub poll_ready : (xs : List Held) (u v : Beside) (token : Token) (i : ℕ) (h : Held) → place_of xs token ≡ Some i → slice_get xs i ≡ Some h → h.left ≡ 0
+    → Notes (Called token ask.Poll (answer.Ready h.what.facts)) (shown xs u) (shown (slice_set xs i (record h { what = record h.what { ready = true } })) v)
+    → IsReady token h.what.facts (shown xs u) (shown (slice_set xs i (record h { what = record h.what { ready = true } })) v)
+poll_ready xs u v token i h at here due notes =
     let after : Held = record h { what = record h.what { ready = true } } in
     let ys = slice_set xs i after in
-    let v = u ++ Called token ask.Poll (answer.Ready h.what.facts) ∷ [] in
     let b = becomes-set token xs i h after at here refl in
     record {
-      noted = noted xs ys u _;
+      noted = notes;
       due = rw b.was due;
       before = h.what;
       told = refl;
@@ -167,26 +168,23 @@ poll_ready xs u token i h at here due =
 
 -- ---- gone
 
-pub gone_absent : (xs : List Held) (u : List Traced) (token : Token) → place_of xs token ≡ None
-    → IsGone token (shown xs u) (shown xs (u ++ Called token ask.Gone answer.Gone ∷ []))
-gone_absent xs u token none = record { noted = noted xs xs u _; effect = inr (unplaced xs u token none, stays xs u _) }
+pub gone_absent : (xs : List Held) (u v : Beside) (token : Token) → place_of xs token ≡ None
+    → Notes (Called token ask.Gone answer.Gone) (shown xs u) (shown xs v) → IsGone token (shown xs u) (shown xs v)
+gone_absent xs u v token none notes = record { noted = notes; effect = inr (unplaced xs u token none, stays xs u v) }
 
-pub gone_removed : (xs : List Held) (u : List Traced) (token : Token) (i : ℕ) (h : Held) → IsHolding xs → place_of xs token ≡ Some i → slice_get xs i ≡ Some h → h.left ≡ 0 → h.leaving ≡ true
-    → IsGone token (shown xs u) (shown (remove xs i) (u ++ Called token ask.Gone answer.Gone ∷ []))
-gone_removed xs u token i h fit at here due leaving =
-    record { noted = noted xs (remove xs i) u _; effect = inl (removes token xs i h u _ fit at here leaving due) }
+pub gone_removed : (xs : List Held) (u v : Beside) (token : Token) (i : ℕ) (h : Held) → IsHolding xs → place_of xs token ≡ Some i → slice_get xs i ≡ Some h → h.left ≡ 0 → h.leaving ≡ true
+    → Notes (Called token ask.Gone answer.Gone) (shown xs u) (shown (remove xs i) v) → IsGone token (shown xs u) (shown (remove xs i) v)
+gone_removed xs u v token i h fit at here due leaving notes = record { noted = notes; effect = inl (removes token xs i h u v fit at here leaving due) }
 
-pub gone_lingers : (xs : List Held) (u : List Traced) (token : Token) (i : ℕ) (h : Held) → place_of xs token ≡ Some i → slice_get xs i ≡ Some h → 0 < h.left → h.leaving ≡ true
-    → Lingers token (shown xs u) (shown (slice_set xs i (record h { left = h.left - 1 })) (u ++ Called token ask.Gone answer.NotYet ∷ []))
-gone_lingers xs u token i h at here some leaving = record {
-  noted = noted xs (slice_set xs i (record h { left = h.left - 1 })) u _;
+pub gone_lingers : (xs : List Held) (u v : Beside) (token : Token) (i : ℕ) (h : Held) → place_of xs token ≡ Some i → slice_get xs i ≡ Some h → 0 < h.left → h.leaving ≡ true
+    → Notes (Called token ask.Gone answer.NotYet) (shown xs u) (shown (slice_set xs i (record h { left = h.left - 1 })) v)
+    → Lingers token (shown xs u) (shown (slice_set xs i (record h { left = h.left - 1 })) v)
+gone_lingers xs u v token i h at here some leaving notes = record {
+  noted = notes;
   there = placed xs u token i at;
   leaving = rw (found xs token i h at here) leaving;
-  lowers = lowers token xs i h u _ at here some;
+  lowers = lowers token xs i h u v at here some;
 }
-
-pub lists_all : (xs : List Held) (u : List Traced) → Lists (whats xs) (shown xs u) (shown xs (u ++ Listed listing.Got ∷ []))
-lists_all xs u = record { noted = noted xs xs u _; all_of_them = refl; stays = stays xs u _ }
 
 -- ---- results
 

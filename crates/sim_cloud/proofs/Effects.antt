@@ -18,7 +18,7 @@ use Rattle.provider.specs.Cloud.{Cloud, IsAlive, IsFull, entry_of}
 use Rattle.provider.specs.Changes.{Notes, Stays, IsKept, KeepsOthers, Turns, Adds, Sets, SendsAway, Removes, HasProps, Takes, Lowers}
 use Rattle.sim_cloud.specs.declared.held.Held.{Held}
 use Rattle.sim_cloud.specs.Holding.{is_of, held_of, place_of, whats, IsHolding}
-use Rattle.sim_cloud.specs.Shown.{shown, leaving_of, left_of}
+use Rattle.sim_cloud.specs.Shown.{Beside, shown, leaving_of, left_of}
 use Rattle.sim_cloud.specs.Sound.{find_whats}
 use Rattle.sim_cloud.proofs.Places.{position-first, find-position, find-position_None, find-position_set, passes, find-push, find-push_other, find-remove, find-remove_other}
 
@@ -72,40 +72,37 @@ becomes-remove token xs i a h at here =
 
 -- ---- what the cloud shows
 
-pub shows : (held : List Held) (trace : List Traced) (t : Token) (o : Option Held) → held_of held t ≡ o → entry_of (shown held trace) t ≡ option_map (λ (h : Held). h.what) o
-shows held trace t o e = find_whats t held ∙ ap (option_map (λ (h : Held). h.what)) e
+pub shows : (held : List Held) (u : Beside) (t : Token) (o : Option Held) → held_of held t ≡ o → entry_of (shown held u) t ≡ option_map (λ (h : Held). h.what) o
+shows held u t o e = find_whats t held ∙ ap (option_map (λ (h : Held). h.what)) e
 
-pub others-becomes : (token : Token) (xs ys : List Held) (u v : List Traced) (before after : Option Held) → Becomes token xs ys before after → KeepsOthers token (shown xs u) (shown ys v)
+pub others-becomes : (token : Token) (xs ys : List Held) (u v : Beside) (before after : Option Held) → Becomes token xs ys before after → KeepsOthers token (shown xs u) (shown ys v)
 others-becomes token xs ys u v before after b t ne =
     let same = b.others t ne in
     record { entry = rw (find_whats t ys, find_whats t xs, same) refl; leaving = rw same refl; left = rw same refl }
 
-pub alive-becomes : (token : Token) (xs ys : List Held) (u : List Traced) (a : Held) (after : Option Held) → Becomes token xs ys (Some a) after → IsAlive (shown xs u) token
+pub alive-becomes : (token : Token) (xs ys : List Held) (u : Beside) (a : Held) (after : Option Held) → Becomes token xs ys (Some a) after → IsAlive (shown xs u) token
 alive-becomes token xs ys u a after b = rw (shows xs u token (Some a) b.was) refl
 
-pub noted : (held more : List Held) (trace : List Traced) (call : Traced) → Notes call (shown held trace) (shown more (trace ++ call ∷ []))
-noted held more trace call = record { trace = refl; faults = omega arith; quota = λ kind. refl }
+pub noted : (held more : List Held) (u v : Beside) (call : Traced) → v.trace ≡ u.trace ++ call ∷ [] → u.faults ≤ v.faults → v.quota ≡ u.quota → Notes call (shown held u) (shown more v)
+noted held more u v call trace faults quota = record { trace = trace; faults = faults; quota = λ kind. rw quota refl }
 
-pub stays : (held : List Held) (u v : List Traced) → Stays (shown held u) (shown held v)
+pub stays : (held : List Held) (u v : Beside) → Stays (shown held u) (shown held v)
 stays held u v = record { alive = refl; leaving = λ t. refl; left = λ t. refl }
 
-not_full : (held : List Held) (u : List Traced) (kind : List ℕ) → ¬ IsFull (shown held u) kind
-not_full held u kind full = let e = full.set in cc
-
-pub adds : (xs : List Held) (one : Held) (u v : List Traced) → place_of xs one.what.token ≡ None → one.leaving ≡ false → one.what.ready ≡ false
+pub adds : (xs : List Held) (one : Held) (u v : Beside) → place_of xs one.what.token ≡ None → ¬ IsFull (shown xs u) one.what.kind → one.leaving ≡ false → one.what.ready ≡ false
     → Adds one.what.token one.what.kind one.what.props (shown xs u) (shown (xs ++ one ∷ []) v)
-adds xs one u v none young unready =
+adds xs one u v none room young unready =
     let b = becomes-push xs one none in
     record {
       absent = shows xs u one.what.token None b.was;
-      room = not_full xs u one.what.kind;
+      room = room;
       facts = one.what.facts;
       entry = shows (xs ++ one ∷ []) v one.what.token (Some one) b.is ∙ ap Some (rw (← unready) refl);
       young = rw b.is young;
       others = others-becomes one.what.token xs (xs ++ one ∷ []) u v None (Some one) b;
     }
 
-pub sets : (token : Token) (xs : List Held) (i : ℕ) (a : Held) (u v : List Traced) (props : Members) (facts : Facts) (left : ℕ) → place_of xs token ≡ Some i → slice_get xs i ≡ Some a → a.what.props ≢ props
+pub sets : (token : Token) (xs : List Held) (i : ℕ) (a : Held) (u v : Beside) (props : Members) (facts : Facts) (left : ℕ) → place_of xs token ≡ Some i → slice_get xs i ≡ Some a → a.what.props ≢ props
     → Sets token props (shown xs u) (shown (slice_set xs i (record a { what = record a.what { props = props; facts = facts; ready = false }; left = left })) v)
 sets token xs i a u v props facts left at here differs =
     let after : Held = record a { what = record a.what { props = props; facts = facts; ready = false }; left = left } in
@@ -123,7 +120,7 @@ sets token xs i a u v props facts left at here differs =
 whats-set : (xs : List Held) (i : ℕ) (a b : Held) → slice_get xs i ≡ Some a → b.what ≡ a.what → whats (slice_set xs i b) ≡ whats xs
 whats-set xs i a b here same = map-set_same (λ (h : Held). h.what) xs i b a (rw (get_or_from_slice_get xs i a a here) same)
 
-pub sends : (token : Token) (xs : List Held) (i : ℕ) (a : Held) (u v : List Traced) (left : ℕ) → place_of xs token ≡ Some i → slice_get xs i ≡ Some a → a.leaving ≡ false
+pub sends : (token : Token) (xs : List Held) (i : ℕ) (a : Held) (u v : Beside) (left : ℕ) → place_of xs token ≡ Some i → slice_get xs i ≡ Some a → a.leaving ≡ false
     → SendsAway token (shown xs u) (shown (slice_set xs i (record a { leaving = true; left = left })) v)
 sends token xs i a u v left at here before =
     let after : Held = record a { leaving = true; left = left } in
@@ -137,7 +134,7 @@ sends token xs i a u v left at here before =
       others = others-becomes token xs ys u v (Some a) (Some after) b;
     }
 
-pub removes : (token : Token) (xs : List Held) (i : ℕ) (a : Held) (u v : List Traced) → IsHolding xs → place_of xs token ≡ Some i → slice_get xs i ≡ Some a → a.leaving ≡ true → a.left ≡ 0
+pub removes : (token : Token) (xs : List Held) (i : ℕ) (a : Held) (u v : Beside) → IsHolding xs → place_of xs token ≡ Some i → slice_get xs i ≡ Some a → a.leaving ≡ true → a.left ≡ 0
     → Removes token (shown xs u) (shown (remove xs i) v)
 removes token xs i a u v h at here leaving due =
     let b = becomes-remove token xs i a h at here in
@@ -154,7 +151,7 @@ same_leaving : (token : Token) (xs ys : List Held) (a b : Held) → Becomes toke
 same_leaving token xs ys a b c same t true e = let is : t ≡ token = same_token-true t token e in rw (is, c.was, c.is) same
 same_leaving token xs ys a b c same t false e = rw (c.others t (λ q. true≢false (sym (rw q (same_token-same token)) ∙ e))) refl
 
-pub lowers : (token : Token) (xs : List Held) (i : ℕ) (a : Held) (u v : List Traced) → place_of xs token ≡ Some i → slice_get xs i ≡ Some a → 0 < a.left
+pub lowers : (token : Token) (xs : List Held) (i : ℕ) (a : Held) (u v : Beside) → place_of xs token ≡ Some i → slice_get xs i ≡ Some a → 0 < a.left
     → Lowers token (shown xs u) (shown (slice_set xs i (record a { left = a.left - 1 })) v)
 lowers token xs i a u v at here some =
     let after : Held = record a { left = a.left - 1 } in

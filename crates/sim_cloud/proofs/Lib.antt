@@ -3,3 +3,4 @@ pub mod Kept
 pub mod Attributes
 pub mod Effects
 pub mod Clauses
+pub mod Inventories

@@ -4,12 +4,11 @@ use Rattle.std.proofs.Common.{refl, ap, sym, arith, get_or}
 use Rattle.std.proofs.lemmas.Grind.{common_steps}
 use Rattle.heat_plan.specs.declared.token.Token.{Token}
 use Rattle.provider.specs.declared.alive.Alive.{Alive}
-use Rattle.provider.specs.declared.traced.Traced.{Traced}
 use Rattle.provider.specs.Same.{same_token}
 use Rattle.provider.specs.Cloud.{IsLawful, IsAlive, entry_of}
 use Rattle.sim_cloud.specs.declared.held.Held.{Held}
 use Rattle.sim_cloud.specs.Holding.{is_of, held_of, whats, IsHolding}
-use Rattle.sim_cloud.specs.Shown.{shown, leaving_of, left_of}
+use Rattle.sim_cloud.specs.Shown.{Beside, shown, leaving_of, left_of}
 
 -- the alive list finds what the holdings find
 pub find_whats : (t : Token) (held : List Held) → find (λ (a : Alive). same_token a.token t) (whats held) ≡ option_map (λ (h : Held). h.what) (held_of held t)
@@ -46,8 +45,8 @@ distinct_whats held h i j d lt within =
     let inside : j < length held = omega (arith, within, length_whats held) in
     rw (what_at held i d e (omega (arith, lt, inside)), what_at held j d e inside) (h i j e lt inside)
 
-pub lawful_shown : (held : List Held) (trace : List Traced) → IsHolding held → IsLawful (shown held trace)
-lawful_shown held trace h = record {
+pub lawful_shown : (held : List Held) (beside : Beside) → IsHolding held → IsLawful (shown held beside)
+lawful_shown held beside h = record {
   distinct = distinct_whats held h.0;
   few = λ t. few_found t held h.1;
   leaving = λ t e. rw (find_whats t held) (alive_found (held_of held t) e);

@@ -1,70 +1,66 @@
 //! The simulated cloud as a provider. Its own clauses say the ids and the attributes that it gives, that
-//! no polls are left after a request, and that it never refuses and never fails.
+//! no polls are left after a request, and that it never fails and breaks nothing.
 ghost use Rattle.std.specs.Prelude.{◌≡◌, ◌≢◌, ℕ, List};
 ghost use Rattle.heat_plan.specs.declared.facts.Facts.{Facts as facts_type};
 ghost use Rattle.heat_plan.specs.declared.calls.Request.TheVariants as ask;
 ghost use Rattle.provider.specs.declared.alive.Alive.{Alive};
 ghost use Rattle.provider.specs.Cloud.{IsAlive};
 ghost use Rattle.provider.specs.Changes.{IsAsBefore};
-ghost use Rattle.provider.specs.Calls.{MayGo, HasBegun, Waits, IsReady, IsGone, Lingers, Lists};
-ghost use Rattle.sim_cloud.specs.Shown.{IsMade, IsMadeAnew, IsSentAtOnce};
+ghost use Rattle.provider.specs.Calls.{MayGo, HasBegun, IsRefused, Waits, IsReady, IsGone, Lingers, Lists};
+ghost use Rattle.sim_cloud.specs.Shown.{IsMade, IsMadeAnew, IsSentAway};
 ghost use Rattle.sim_cloud.specs.Sound.{lawful_shown};
-ghost use Rattle.sim_cloud.specs.Simulated.{cloud_of};
+ghost use Rattle.sim_cloud.specs.Simulated.{beside_of, cloud_of};
 
 use crate::SimCloud;
+use crate::course::Course;
 use heat_plan::{Kind, Properties, Token};
 use provider::{Answer, Gone, Listed, Poll, Provider};
+
+// How many polls are left after a request.
+const NO_DELAY: u8 = 0;
 
 impl Provider for SimCloud {
     ghost cloud = { cloud_of };
 
-    ghost lawful = { λ c. lawful_shown c.held.all c.trace c.held.fit };
+    ghost lawful = { λ c. lawful_shown c.all.held.all (beside_of c.all) c.all.held.fit };
 
     fn create(&mut self, token: &Token, kind: &Kind, props: &Properties) -> Answer
         ensures made { result ≡ Answer.Begun →
-            IsMade token.now kind.now props.now (cloud_of self.old) (cloud_of self.new) }
+            IsMade token.now kind.now props.now 0 (cloud_of self.old) (cloud_of self.new) }
         ensures never { result ≢ Answer.Failed }
-        ensures begun { result ≡ Answer.Begun →
-            HasBegun token.now (ask.Create kind.now.name props.now)
-                (cloud_of self.old) (cloud_of self.new) }
-        ensures quota { result ≢ Answer.Quota }
+        ensures begun { result ≡ Answer.Begun → HasBegun token.now
+            (ask.Create kind.now.name props.now) (cloud_of self.old) (cloud_of self.new) }
+        ensures quota { result ≡ Answer.Quota → IsRefused token.now kind.now.name props.now
+            (cloud_of self.old) (cloud_of self.new) }
         ensures memory { result ≡ Answer.Memory → IsAsBefore (cloud_of self.old) (cloud_of self.new) }
     {
-        match self.begin_create(token, kind, props) {
-            Ok(()) => Answer::Begun,
-            Err(_) => Answer::Memory,
-        }
+        self.all
+            .create(Course::Works, token, kind, props, NO_DELAY)
     }
 
     fn update(&mut self, token: &Token, props: &Properties) -> Answer
         requires { IsAlive (cloud_of self.old) token.now }
         ensures made { result ≡ Answer.Begun →
-            IsMadeAnew token.now props.now (cloud_of self.old) (cloud_of self.new) }
+            IsMadeAnew token.now props.now 0 (cloud_of self.old) (cloud_of self.new) }
         ensures never { result ≢ Answer.Failed }
         ensures begun { result ≡ Answer.Begun →
             HasBegun token.now (ask.Update props.now) (cloud_of self.old) (cloud_of self.new) }
         ensures quota { result ≢ Answer.Quota }
         ensures memory { result ≡ Answer.Memory → IsAsBefore (cloud_of self.old) (cloud_of self.new) }
     {
-        match self.begin_update(token, props) {
-            Ok(()) => Answer::Begun,
-            Err(_) => Answer::Memory,
-        }
+        self.all.update(Course::Works, token, props, NO_DELAY)
     }
 
     fn delete(&mut self, token: &Token) -> Answer
+        ensures made { result ≡ Answer.Begun →
+            IsSentAway token.now 0 (cloud_of self.old) (cloud_of self.new) }
         ensures never { result ≢ Answer.Failed }
-        ensures left { result ≡ Answer.Begun →
-            IsSentAtOnce token.now (cloud_of self.old) (cloud_of self.new) }
         ensures begun { result ≡ Answer.Begun →
             HasBegun token.now ask.Delete (cloud_of self.old) (cloud_of self.new) }
         ensures quota { result ≢ Answer.Quota }
         ensures memory { result ≡ Answer.Memory → IsAsBefore (cloud_of self.old) (cloud_of self.new) }
     {
-        match self.begin_delete(token) {
-            Ok(()) => Answer::Begun,
-            Err(_) => Answer::Memory,
-        }
+        self.all.delete(Course::Works, token, NO_DELAY)
     }
 
     fn poll(&mut self, token: &Token) -> Poll
@@ -77,11 +73,7 @@ impl Provider for SimCloud {
             IsReady token.now facts (cloud_of self.old) (cloud_of self.new) }
         ensures memory { result ≡ Poll.Memory → IsAsBefore (cloud_of self.old) (cloud_of self.new) }
     {
-        match self.ask_ready(token) {
-            Ok(Some(facts)) => Poll::Ready(facts),
-            Ok(None) => Poll::NotYet,
-            Err(_) => Poll::Memory,
-        }
+        self.all.poll(Course::Works, token, None)
     }
 
     fn gone(&mut self, token: &Token) -> Gone
@@ -92,11 +84,7 @@ impl Provider for SimCloud {
             Lingers token.now (cloud_of self.old) (cloud_of self.new) }
         ensures memory { result ≡ Gone.Memory → IsAsBefore (cloud_of self.old) (cloud_of self.new) }
     {
-        match self.ask_gone(token) {
-            Ok(true) => Gone::Gone,
-            Ok(false) => Gone::NotYet,
-            Err(_) => Gone::Memory,
-        }
+        self.all.gone(Course::Works, token)
     }
 
     fn list(&mut self) -> Listed
@@ -105,9 +93,6 @@ impl Provider for SimCloud {
             Lists all (cloud_of self.old) (cloud_of self.new) }
         ensures memory { result ≡ Listed.Memory → IsAsBefore (cloud_of self.old) (cloud_of self.new) }
     {
-        match self.all_alive() {
-            Ok(all) => Listed::Got(all),
-            Err(_) => Listed::Memory,
-        }
+        self.all.list(Course::Works)
     }
 }

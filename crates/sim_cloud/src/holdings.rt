@@ -1,10 +1,11 @@
 //! The resources that the cloud holds, each token at most once. None of these calls answers for the cloud.
 ghost use Rattle.std.specs.Prelude.{◌≡◌, ◌<◌, ◌≤◌, ◌-◌, [], ◌∷◌, ◌++◌, Some, None, true, false, OnOk, OnErr, length, slice_get, slice_set, remove};
-ghost use Rattle.sim_cloud.specs.Holding.{IsHolding, place_of};
+ghost use Rattle.sim_cloud.specs.Holding.{IsHolding, place_of, whats};
+ghost use Rattle.provider.specs.Cloud.{count_of};
 
 use crate::held::Held;
 use heat_plan::{Facts, Properties, Token};
-use heat_value::Seq;
+use heat_value::{Seq, Text};
 use std::alloc::{AllocError, Global};
 
 /// A list of resources with distinct tokens and at most 64 polls left.
@@ -42,6 +43,19 @@ impl Holdings {
         ensures { slice_get self.now.all at ≡ Some result.now }
     {
         &self.all.as_slice()[at]
+    }
+
+    /// How many resources of this kind are held.
+    pub fn count_of(&self, kind: &Text) -> usize
+        ensures { result ≡ count_of kind.now (whats self.now.all) }
+    {
+        let mut count = 0;
+        for one in self.all.as_slice() {
+            if one.what.kind == *kind {
+                count += 1;
+            }
+        }
+        count
     }
 
     /// Adds a resource whose token isn't held.

@@ -3,14 +3,19 @@
 #![tactic(auto)]
 
 mod cloud;
+mod course;
 mod held;
 mod holdings;
+mod inventory;
+mod questions;
 mod requests;
 mod rule;
 mod settings;
 mod sim_cloud;
-mod questions;
 
+pub use course::Course;
 pub use held::Held;
+pub use holdings::Holdings;
+pub use inventory::Inventory;
 pub use settings::{CloudAlive, KindDelay, KindQuota, NameCode, Settings};
 pub use sim_cloud::SimCloud;

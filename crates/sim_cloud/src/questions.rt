@@ -1,39 +1,106 @@
-//! Polls, questions whether a resource is gone, and listings. Each is noted in the trace, and changes
-//! nothing where there is no memory.
-ghost use Rattle.std.specs.Prelude.{◌≡◌, ◌<◌, true, false, None, Some, Ok, IfOk, OnOk, OnErr, slice_get};
+//! Polls, questions whether a resource is gone, and listings of an inventory. They have no effect that
+//! could be late: each course but Works fails with nothing done.
+ghost use Rattle.std.specs.Prelude.{◌≡◌, ◌≢◌, ◌⊎◌, ◌<◌, ℕ, List, option_map, true, None, Some, IfOk, OnOk, OnErr, IsTrue, IsFalse, slice_get};
 ghost use Rattle.heat_plan.specs.declared.facts.Facts.{Facts as facts_type};
+ghost use Rattle.heat_plan.specs.declared.calls.Request.TheVariants as ask;
+ghost use Rattle.provider.specs.declared.alive.Alive.{Alive as alive_type};
 ghost use Rattle.provider.specs.Cloud.{IsAlive};
-ghost use Rattle.provider.specs.Calls.{MayGo, Waits, IsReady, IsGone, Lingers, Lists};
+ghost use Rattle.provider.specs.Changes.{IsAsBefore};
+ghost use Rattle.provider.specs.Calls.{MayGo, HasFailed, Waits, IsReady, IsBroken, IsGone, Lingers, Lists, ListsNone};
 ghost use Rattle.sim_cloud.specs.Holding.{place_of, whats};
-ghost use Rattle.sim_cloud.specs.Simulated.{cloud_of};
+ghost use Rattle.sim_cloud.specs.Simulated.{shown_by};
 ghost use Rattle.sim_cloud.specs.declared.held.Held.{Held as held_type};
 
-use crate::SimCloud;
+use crate::course::Course;
 use crate::held::Held;
+use crate::inventory::{Inventory, note};
 use heat_plan::{Answered, Facts, Request, Token};
-use heat_value::{Seq, TryCopy};
-use provider::{Alive, Listing, Traced};
+use heat_value::{Seq, Text, TryCopy};
+use provider::{Alive, Gone, Listed, Listing, Poll, Traced};
 use std::alloc::{AllocError, Global};
 
-impl SimCloud {
-    /// The facts of an alive resource, or none where polls are left.
-    pub(crate) fn ask_ready(&mut self, token: &Token) -> Result<Option<Facts>, AllocError>
-        requires { IsAlive (cloud_of self.old) token.now }
-        ensures ready { (f : facts_type) → result ≡ Ok (Some f) → IsReady token.now f (cloud_of self.old) (cloud_of self.new) }
-        ensures not_yet { result ≡ Ok None → Waits token.now (cloud_of self.old) (cloud_of self.new) }
-        ensures held { OnErr result (self.new.held.all ≡ self.old.held.all) }
-        ensures trace { OnErr result (self.new.trace ≡ self.old.trace) }
+impl Inventory {
+    /// Whether an alive resource is ready. Where no polls are left it is Broken if a code is given.
+    pub fn poll(&mut self, course: Course, token: &Token, code: Option<&Text>) -> Poll
+        requires { IsAlive (shown_by self.old) token.now }
+        ensures not_yet { result ≡ Poll.NotYet →
+            Waits token.now (shown_by self.old) (shown_by self.new) }
+        ensures ready { (facts : facts_type) → result ≡ Poll.Ready facts →
+            IsReady token.now facts (shown_by self.old) (shown_by self.new) }
+        ensures broken { (code : List ℕ) → result ≡ Poll.Broken code →
+            IsBroken token.now code (shown_by self.old) (shown_by self.new) }
+        ensures code { (text : List ℕ) → result ≡ Poll.Broken text →
+            option_map (λ c. c.now) code.entry ≡ Some text }
+        ensures whole { (facts : facts_type) → result ≡ Poll.Ready facts → code.entry ≡ None }
+        ensures failed { result ≡ Poll.Failed →
+            HasFailed token.now ask.Poll (shown_by self.old) (shown_by self.new) }
+        ensures works { course ≡ Course.Works → result ≢ Poll.Failed }
+        ensures fails { course ≢ Course.Works → (result ≡ Poll.Failed) ⊎ (result ≡ Poll.Memory) }
+        ensures memory { result ≡ Poll.Memory → IsAsBefore (shown_by self.old) (shown_by self.new) }
+    {
+        match course {
+            Course::Works => self.poll_now(token, code),
+            Course::Fails | Course::FailsLate => match self.fail(token, Request::Poll) {
+                Ok(()) => Poll::Failed,
+                Err(_) => Poll::Memory,
+            },
+        }
+    }
+
+    // A poll that works.
+    fn poll_now(&mut self, token: &Token, code: Option<&Text>) -> Poll
+        requires { IsAlive (shown_by self.old) token.now }
+        ensures not_yet { result ≡ Poll.NotYet →
+            Waits token.now (shown_by self.old) (shown_by self.new) }
+        ensures ready { (facts : facts_type) → result ≡ Poll.Ready facts →
+            IsReady token.now facts (shown_by self.old) (shown_by self.new) }
+        ensures broken { (code : List ℕ) → result ≡ Poll.Broken code →
+            IsBroken token.now code (shown_by self.old) (shown_by self.new) }
+        ensures code { (text : List ℕ) → result ≡ Poll.Broken text →
+            option_map (λ c. c.now) code.entry ≡ Some text }
+        ensures whole { (facts : facts_type) → result ≡ Poll.Ready facts → code.entry ≡ None }
+        ensures works { result ≢ Poll.Failed }
+        ensures memory { result ≡ Poll.Memory → IsAsBefore (shown_by self.old) (shown_by self.new) }
     {
         match self.held.place_of(token) {
             None => unreachable!(),
             Some(at) => {
                 if self.held.get(at).left > 0 {
-                    self.wait_at(at, token)?;
-                    Ok(None)
+                    match self.wait_at(at, token) {
+                        Ok(()) => Poll::NotYet,
+                        Err(_) => Poll::Memory,
+                    }
                 } else {
-                    Ok(Some(self.ready_at(at, token)?))
+                    self.poll_due(at, token, code)
                 }
             }
+        }
+    }
+
+    // A poll of the resource at this place, which has no polls left.
+    fn poll_due(&mut self, at: usize, token: &Token, code: Option<&Text>) -> Poll
+        requires at { place_of self.old.held.all token.now ≡ Some at }
+        requires due { (shown_by self.old).left token.now ≡ 0 }
+        ensures not_yet { result ≢ Poll.NotYet }
+        ensures ready { (facts : facts_type) → result ≡ Poll.Ready facts →
+            IsReady token.now facts (shown_by self.old) (shown_by self.new) }
+        ensures broken { (code : List ℕ) → result ≡ Poll.Broken code →
+            IsBroken token.now code (shown_by self.old) (shown_by self.new) }
+        ensures code { (text : List ℕ) → result ≡ Poll.Broken text →
+            option_map (λ c. c.now) code.entry ≡ Some text }
+        ensures whole { (facts : facts_type) → result ≡ Poll.Ready facts → code.entry ≡ None }
+        ensures works { result ≢ Poll.Failed }
+        ensures memory { result ≡ Poll.Memory → IsAsBefore (shown_by self.old) (shown_by self.new) }
+    {
+        match code {
+            None => match self.ready_at(at, token) {
+                Ok(facts) => Poll::Ready(facts),
+                Err(_) => Poll::Memory,
+            },
+            Some(code) => match self.break_with(token, code) {
+                Ok(code) => Poll::Broken(code),
+                Err(_) => Poll::Memory,
+            },
         }
     }
 
@@ -41,40 +108,87 @@ impl SimCloud {
     fn wait_at(&mut self, at: usize, token: &Token) -> Result<(), AllocError>
         requires { place_of self.old.held.all token.now ≡ Some at }
         ensures ok { (h : held_type) → slice_get self.old.held.all at ≡ Some h → 0 < h.left →
-            OnOk result (Waits token.now (cloud_of self.old) (cloud_of self.new)) }
-        ensures held { OnErr result (self.new.held.all ≡ self.old.held.all) }
-        ensures trace { OnErr result (self.new.trace ≡ self.old.trace) }
+            OnOk result (Waits token.now (shown_by self.old) (shown_by self.new)) }
+        ensures memory { OnErr result (IsAsBefore (shown_by self.old) (shown_by self.new)) }
     {
-        self.note(token, Request::Poll, Answered::NotYet)?;
+        note(&mut self.trace, token, Request::Poll, Answered::NotYet)?;
         self.held.lower(at);
         Ok(())
     }
 
     // Answers Ready.
     fn ready_at(&mut self, at: usize, token: &Token) -> Result<Facts, AllocError>
-        requires { place_of self.old.held.all token.now ≡ Some at }
-        ensures ok { (h : held_type) → slice_get self.old.held.all at ≡ Some h → h.left ≡ 0 →
-            IfOk result (λ f. IsReady token.now f (cloud_of self.old) (cloud_of self.new)) }
-        ensures held { OnErr result (self.new.held.all ≡ self.old.held.all) }
-        ensures trace { OnErr result (self.new.trace ≡ self.old.trace) }
+        requires at { place_of self.old.held.all token.now ≡ Some at }
+        requires due { (shown_by self.old).left token.now ≡ 0 }
+        ensures ok { IfOk result (λ f.
+            IsReady token.now f (shown_by self.old) (shown_by self.new)) }
+        ensures memory { OnErr result (IsAsBefore (shown_by self.old) (shown_by self.new)) }
     {
         let facts = self.held.get(at).what.facts.copy()?;
-        self.note(token, Request::Poll, Answered::Ready(facts.copy()?))?;
+        note(
+            &mut self.trace,
+            token,
+            Request::Poll,
+            Answered::Ready(facts.copy()?),
+        )?;
         self.held.mark_ready(at);
         Ok(facts)
     }
 
+    // Answers Broken.
+    fn break_with(&mut self, token: &Token, code: &Text) -> Result<Text, AllocError>
+        requires { (shown_by self.old).left token.now ≡ 0 }
+        ensures code { IfOk result (λ c. c ≡ code.now) }
+        ensures ok { OnOk result (IsBroken token.now code.now (shown_by self.old) (shown_by self.new)) }
+        ensures memory { OnErr result (IsAsBefore (shown_by self.old) (shown_by self.new)) }
+    {
+        let told = code.copy()?;
+        note(
+            &mut self.trace,
+            token,
+            Request::Poll,
+            Answered::Broken(code.copy()?),
+        )?;
+        Ok(told)
+    }
+
     /// Whether a resource that was sent away is gone.
-    pub(crate) fn ask_gone(&mut self, token: &Token) -> Result<bool, AllocError>
-        requires { MayGo (cloud_of self.old) token.now }
-        ensures gone { result ≡ Ok true → IsGone token.now (cloud_of self.old) (cloud_of self.new) }
-        ensures not_yet { result ≡ Ok false → Lingers token.now (cloud_of self.old) (cloud_of self.new) }
-        ensures held { OnErr result (self.new.held.all ≡ self.old.held.all) }
-        ensures trace { OnErr result (self.new.trace ≡ self.old.trace) }
+    pub fn gone(&mut self, course: Course, token: &Token) -> Gone
+        requires { MayGo (shown_by self.old) token.now }
+        ensures gone { result ≡ Gone.Gone → IsGone token.now (shown_by self.old) (shown_by self.new) }
+        ensures not_yet { result ≡ Gone.NotYet →
+            Lingers token.now (shown_by self.old) (shown_by self.new) }
+        ensures failed { result ≡ Gone.Failed →
+            HasFailed token.now ask.Gone (shown_by self.old) (shown_by self.new) }
+        ensures works { course ≡ Course.Works → result ≢ Gone.Failed }
+        ensures fails { course ≢ Course.Works → (result ≡ Gone.Failed) ⊎ (result ≡ Gone.Memory) }
+        ensures memory { result ≡ Gone.Memory → IsAsBefore (shown_by self.old) (shown_by self.new) }
+    {
+        match course {
+            Course::Works => match self.gone_now(token) {
+                Ok(true) => Gone::Gone,
+                Ok(false) => Gone::NotYet,
+                Err(_) => Gone::Memory,
+            },
+            Course::Fails | Course::FailsLate => match self.fail(token, Request::Gone) {
+                Ok(()) => Gone::Failed,
+                Err(_) => Gone::Memory,
+            },
+        }
+    }
+
+    // Whether it is gone.
+    fn gone_now(&mut self, token: &Token) -> Result<bool, AllocError>
+        requires { MayGo (shown_by self.old) token.now }
+        ensures gone { IfOk result (λ b. IsTrue b →
+            IsGone token.now (shown_by self.old) (shown_by self.new)) }
+        ensures not_yet { IfOk result (λ b. IsFalse b →
+            Lingers token.now (shown_by self.old) (shown_by self.new)) }
+        ensures memory { OnErr result (IsAsBefore (shown_by self.old) (shown_by self.new)) }
     {
         match self.held.place_of(token) {
             None => {
-                self.note(token, Request::Gone, Answered::Gone)?;
+                note(&mut self.trace, token, Request::Gone, Answered::Gone)?;
                 Ok(true)
             }
             Some(at) => {
@@ -93,11 +207,11 @@ impl SimCloud {
     fn linger_at(&mut self, at: usize, token: &Token) -> Result<(), AllocError>
         requires { place_of self.old.held.all token.now ≡ Some at }
         ensures ok { (h : held_type) → slice_get self.old.held.all at ≡ Some h → 0 < h.left →
-            h.leaving ≡ true → OnOk result (Lingers token.now (cloud_of self.old) (cloud_of self.new)) }
-        ensures held { OnErr result (self.new.held.all ≡ self.old.held.all) }
-        ensures trace { OnErr result (self.new.trace ≡ self.old.trace) }
+            h.leaving ≡ true →
+            OnOk result (Lingers token.now (shown_by self.old) (shown_by self.new)) }
+        ensures memory { OnErr result (IsAsBefore (shown_by self.old) (shown_by self.new)) }
     {
-        self.note(token, Request::Gone, Answered::NotYet)?;
+        note(&mut self.trace, token, Request::Gone, Answered::NotYet)?;
         self.held.lower(at);
         Ok(())
     }
@@ -106,24 +220,53 @@ impl SimCloud {
     fn let_go_at(&mut self, at: usize, token: &Token) -> Result<(), AllocError>
         requires { place_of self.old.held.all token.now ≡ Some at }
         ensures ok { (h : held_type) → slice_get self.old.held.all at ≡ Some h → h.left ≡ 0 →
-            h.leaving ≡ true → OnOk result (IsGone token.now (cloud_of self.old) (cloud_of self.new)) }
-        ensures held { OnErr result (self.new.held.all ≡ self.old.held.all) }
-        ensures trace { OnErr result (self.new.trace ≡ self.old.trace) }
+            h.leaving ≡ true →
+            OnOk result (IsGone token.now (shown_by self.old) (shown_by self.new)) }
+        ensures memory { OnErr result (IsAsBefore (shown_by self.old) (shown_by self.new)) }
     {
-        self.note(token, Request::Gone, Answered::Gone)?;
+        note(&mut self.trace, token, Request::Gone, Answered::Gone)?;
         self.held.let_go(at);
         Ok(())
     }
 
     /// The alive list.
-    pub(crate) fn all_alive(&mut self) -> Result<Seq<Alive>, AllocError>
-        ensures ok { IfOk result (λ all. Lists all (cloud_of self.old) (cloud_of self.new)) }
-        ensures held { OnErr result (self.new.held.all ≡ self.old.held.all) }
-        ensures trace { OnErr result (self.new.trace ≡ self.old.trace) }
+    pub fn list(&mut self, course: Course) -> Listed
+        ensures got { (all : List alive_type) → result ≡ Listed.Got all →
+            Lists all (shown_by self.old) (shown_by self.new) }
+        ensures failed { result ≡ Listed.Failed → ListsNone (shown_by self.old) (shown_by self.new) }
+        ensures works { course ≡ Course.Works → result ≢ Listed.Failed }
+        ensures fails { course ≢ Course.Works →
+            (result ≡ Listed.Failed) ⊎ (result ≡ Listed.Memory) }
+        ensures memory { result ≡ Listed.Memory → IsAsBefore (shown_by self.old) (shown_by self.new) }
+    {
+        match course {
+            Course::Works => match self.list_now() {
+                Ok(all) => Listed::Got(all),
+                Err(_) => Listed::Memory,
+            },
+            Course::Fails | Course::FailsLate => match self.fail_list() {
+                Ok(()) => Listed::Failed,
+                Err(_) => Listed::Memory,
+            },
+        }
+    }
+
+    fn list_now(&mut self) -> Result<Seq<Alive>, AllocError>
+        ensures ok { IfOk result (λ all. Lists all (shown_by self.old) (shown_by self.new)) }
+        ensures memory { OnErr result (IsAsBefore (shown_by self.old) (shown_by self.new)) }
     {
         let all = copies(self.trace.allocator(), self.held.all.as_slice())?;
         self.trace.push(Traced::Listed(Listing::Got))?;
         Ok(all)
+    }
+
+    fn fail_list(&mut self) -> Result<(), AllocError>
+        ensures ok { OnOk result (ListsNone (shown_by self.old) (shown_by self.new)) }
+        ensures memory { OnErr result (IsAsBefore (shown_by self.old) (shown_by self.new)) }
+    {
+        self.trace.push(Traced::Listed(Listing::Failed))?;
+        self.count_fault();
+        Ok(())
     }
 }
 

@@ -1,63 +1,163 @@
-//! Creates, updates and deletes. Each is noted in the trace, and changes nothing where there is no memory.
-ghost use Rattle.std.specs.Prelude.{◌≡◌, ◌-◌, ◌++◌, ◌∷◌, [], ◌<◌, ◌≢◌, false, None, Some, OnOk, OnErr, length, take, slice_get, IfOk};
+//! Creates, updates and deletes of an inventory.
+ghost use Rattle.std.specs.Prelude.{◌≡◌, ◌-◌, ◌++◌, ◌∷◌, [], ◌<◌, ◌≤◌, ◌≢◌, false, None, Some, IfOk, OnOk, OnErr, length, take, slice_get};
 ghost use Rattle.heat_plan.specs.declared.calls.Request.TheVariants as ask;
 ghost use Rattle.heat_plan.specs.declared.calls.Answered.TheVariants as answer;
 ghost use Rattle.provider.specs.declared.traced.Traced.TheVariants.{Called};
-ghost use Rattle.provider.specs.Cloud.{IsAlive};
-ghost use Rattle.provider.specs.Calls.{HasBegun};
+ghost use Rattle.provider.specs.Cloud.{IsAlive, IsFull, entry_of};
+ghost use Rattle.provider.specs.Changes.{Notes, Takes, IsAsBefore};
+ghost use Rattle.provider.specs.Calls.{HasBegun, HasFailed, IsRefused};
 ghost use Rattle.sim_cloud.specs.Holding.{place_of};
 ghost use Rattle.sim_cloud.specs.Rule.{fresh, facts_again};
-ghost use Rattle.sim_cloud.specs.Shown.{IsMade, IsMadeAnew, IsSentAtOnce};
-ghost use Rattle.sim_cloud.specs.Simulated.{cloud_of};
+ghost use Rattle.sim_cloud.specs.Shown.{IsMade, IsMadeAnew, IsSentAway};
+ghost use Rattle.sim_cloud.specs.Simulated.{shown_by};
 ghost use Rattle.sim_cloud.specs.declared.held.Held.{Held as held_type};
 
-use crate::SimCloud;
+use crate::course::Course;
 use crate::held::Held;
+use crate::holdings::Holdings;
+use crate::inventory::{Inventory, note};
 use crate::rule::{facts_anew, new_resource};
 use heat_plan::{Answered, Facts, Kind, Properties, Request, Token};
 use heat_value::TryCopy;
-use provider::Traced;
+use provider::Answer;
 use std::alloc::AllocError;
 
-// How many polls are left after a request.
-const NO_DELAY: u8 = 0;
-
-impl SimCloud {
-    /// Puts a call with its answer behind the trace.
-    pub(crate) fn note(
+impl Inventory {
+    /// Asks for a resource; where it is added, so many polls are left, at most 64.
+    pub fn create(
         &mut self,
+        course: Course,
         token: &Token,
-        request: Request,
-        answered: Answered,
-    ) -> Result<(), AllocError>
-        ensures held { self.new.held ≡ self.old.held }
-        ensures ok { OnOk result (self.new.trace
-            ≡ self.old.trace ++ Called token.now request answered ∷ []) }
-        ensures err { OnErr result (self.new.trace ≡ self.old.trace) }
+        kind: &Kind,
+        props: &Properties,
+        left: u8,
+    ) -> Answer
+        requires { left ≤ 64 }
+        ensures begun { result ≡ Answer.Begun → HasBegun token.now
+            (ask.Create kind.now.name props.now) (shown_by self.old) (shown_by self.new) }
+        ensures made { result ≡ Answer.Begun → IsMade token.now kind.now props.now left
+            (shown_by self.old) (shown_by self.new) }
+        ensures quota { result ≡ Answer.Quota → IsRefused token.now kind.now.name props.now
+            (shown_by self.old) (shown_by self.new) }
+        ensures failed { result ≡ Answer.Failed → HasFailed token.now
+            (ask.Create kind.now.name props.now) (shown_by self.old) (shown_by self.new) }
+        ensures works { course ≡ Course.Works → result ≢ Answer.Failed }
+        ensures fails { course ≢ Course.Works → (result ≢ Answer.Begun) × (result ≢ Answer.Quota) }
+        ensures memory { result ≡ Answer.Memory → IsAsBefore (shown_by self.old) (shown_by self.new) }
     {
-        let token = token.copy()?;
-        self.trace.push(Traced::Called(token, request, answered))
+        match course {
+            Course::Works => self.create_now(token, kind, props, left),
+            Course::Fails => match self.fail_create(token, kind, props) {
+                Ok(()) => Answer::Failed,
+                Err(_) => Answer::Memory,
+            },
+            Course::FailsLate => match self.create_late(token, kind, props, left) {
+                Ok(()) => Answer::Failed,
+                Err(_) => Answer::Memory,
+            },
+        }
     }
 
-    /// Begins a create.
-    pub(crate) fn begin_create(
+    // A create that works.
+    fn create_now(&mut self, token: &Token, kind: &Kind, props: &Properties, left: u8) -> Answer
+        requires { left ≤ 64 }
+        ensures begun { result ≡ Answer.Begun → HasBegun token.now
+            (ask.Create kind.now.name props.now) (shown_by self.old) (shown_by self.new) }
+        ensures made { result ≡ Answer.Begun → IsMade token.now kind.now props.now left
+            (shown_by self.old) (shown_by self.new) }
+        ensures quota { result ≡ Answer.Quota → IsRefused token.now kind.now.name props.now
+            (shown_by self.old) (shown_by self.new) }
+        ensures works { result ≢ Answer.Failed }
+        ensures memory { result ≡ Answer.Memory → IsAsBefore (shown_by self.old) (shown_by self.new) }
+    {
+        if self.refuses(token, &kind.name) {
+            match self.refuse(token, kind, props) {
+                Ok(()) => Answer::Quota,
+                Err(_) => Answer::Memory,
+            }
+        } else {
+            match self.begin_create(Answered::Begun, token, kind, props, left) {
+                Ok(()) => Answer::Begun,
+                Err(_) => Answer::Memory,
+            }
+        }
+    }
+
+    // Notes that a create is refused.
+    fn refuse(&mut self, token: &Token, kind: &Kind, props: &Properties) -> Result<(), AllocError>
+        requires absent { entry_of (shown_by self.old) token.now ≡ None }
+        requires full { IsFull (shown_by self.old) kind.now.name }
+        ensures ok { OnOk result (IsRefused token.now kind.now.name props.now
+            (shown_by self.old) (shown_by self.new)) }
+        ensures memory { OnErr result (IsAsBefore (shown_by self.old) (shown_by self.new)) }
+    {
+        let request = Request::Create(kind.name.copy()?, props.copy()?);
+        note(&mut self.trace, token, request, Answered::Quota)
+    }
+
+    // A create that fails with nothing done.
+    fn fail_create(
         &mut self,
         token: &Token,
         kind: &Kind,
         props: &Properties,
     ) -> Result<(), AllocError>
-        ensures ok { OnOk result (HasBegun token.now (ask.Create kind.now.name props.now)
-            (cloud_of self.old) (cloud_of self.new)) }
-        ensures made { OnOk result (IsMade token.now kind.now props.now
-            (cloud_of self.old) (cloud_of self.new)) }
-        ensures held { OnErr result (self.new.held.all ≡ self.old.held.all) }
-        ensures trace { OnErr result (self.new.trace ≡ self.old.trace) }
+        ensures ok { OnOk result (HasFailed token.now (ask.Create kind.now.name props.now)
+            (shown_by self.old) (shown_by self.new)) }
+        ensures memory { OnErr result (IsAsBefore (shown_by self.old) (shown_by self.new)) }
     {
         let request = Request::Create(kind.name.copy()?, props.copy()?);
-        self.note(token, request, Answered::Begun)?;
+        self.fail(token, request)
+    }
+
+    // A create that fails with its effect done, unless it is refused.
+    fn create_late(
+        &mut self,
+        token: &Token,
+        kind: &Kind,
+        props: &Properties,
+        left: u8,
+    ) -> Result<(), AllocError>
+        requires { left ≤ 64 }
+        ensures ok { OnOk result (HasFailed token.now (ask.Create kind.now.name props.now)
+            (shown_by self.old) (shown_by self.new)) }
+        ensures memory { OnErr result (IsAsBefore (shown_by self.old) (shown_by self.new)) }
+    {
+        if self.refuses(token, &kind.name) {
+            return self.fail_create(token, kind, props);
+        }
+        self.begin_create(Answered::Failed, token, kind, props, left)?;
+        self.count_fault();
+        Ok(())
+    }
+
+    // Notes a create with its answer, and adds the resource where it isn't alive.
+    fn begin_create(
+        &mut self,
+        answered: Answered,
+        token: &Token,
+        kind: &Kind,
+        props: &Properties,
+        left: u8,
+    ) -> Result<(), AllocError>
+        requires few { left ≤ 64 }
+        requires room { entry_of (shown_by self.old) token.now ≡ None →
+            ¬ IsFull (shown_by self.old) kind.now.name }
+        ensures noted { OnOk result (Notes
+            (Called token.now (ask.Create kind.now.name props.now) answered)
+            (shown_by self.old) (shown_by self.new)) }
+        ensures effect { OnOk result (Takes token.now (ask.Create kind.now.name props.now)
+            (shown_by self.old) (shown_by self.new)) }
+        ensures made { OnOk result (IsMade token.now kind.now props.now left
+            (shown_by self.old) (shown_by self.new)) }
+        ensures memory { OnErr result (IsAsBefore (shown_by self.old) (shown_by self.new)) }
+        ensures faults { self.new.faults ≡ self.old.faults }
+    {
+        let request = Request::Create(kind.name.copy()?, props.copy()?);
+        note(&mut self.trace, token, request, answered)?;
         match self.held.place_of(token) {
             Some(_) => Ok(()),
-            None => self.add_noted(token, kind, props),
+            None => self.add_noted(token, kind, props, left),
         }
     }
 
@@ -67,17 +167,21 @@ impl SimCloud {
         token: &Token,
         kind: &Kind,
         props: &Properties,
+        left: u8,
     ) -> Result<(), AllocError>
         requires absent { place_of self.old.held.all token.now ≡ None }
+        requires few { left ≤ 64 }
         requires noted { 0 < length self.old.trace }
-        ensures ok { OnOk result (self.new.held.all ≡ self.old.held.all
-            ++ (record { what = fresh token.now kind.now props.now; leaving = false; left = 0 }) ∷ []) }
+        ensures ok { OnOk result (self.new.held.all ≡ self.old.held.all ++ (record {
+            what = fresh token.now kind.now props.now; leaving = false; left = left }) ∷ []) }
         ensures kept { OnOk result (self.new.trace ≡ self.old.trace) }
         ensures err { OnErr result (self.new.held.all ≡ self.old.held.all) }
         ensures back { OnErr result (self.new.trace
             ≡ take (length self.old.trace - 1) self.old.trace) }
+        ensures quotas { self.new.quotas ≡ self.old.quotas }
+        ensures faults { self.new.faults ≡ self.old.faults }
     {
-        match self.add(token, kind, props) {
+        match add(&mut self.held, token, kind, props, left) {
             Ok(()) => Ok(()),
             Err(error) => {
                 self.trace.truncate(self.trace.len() - 1);
@@ -86,93 +190,237 @@ impl SimCloud {
         }
     }
 
-    fn add(&mut self, token: &Token, kind: &Kind, props: &Properties) -> Result<(), AllocError>
-        requires absent { place_of self.old.held.all token.now ≡ None }
-        ensures ok { OnOk result (self.new.held.all ≡ self.old.held.all
-            ++ (record { what = fresh token.now kind.now props.now; leaving = false; left = 0 }) ∷ []) }
-        ensures err { OnErr result (self.new.held.all ≡ self.old.held.all) }
-        ensures trace { self.new.trace ≡ self.old.trace }
+    /// Asks that an alive resource gets these properties; where they are others, so many polls are left,
+    /// at most 64.
+    pub fn update(
+        &mut self,
+        course: Course,
+        token: &Token,
+        props: &Properties,
+        left: u8,
+    ) -> Answer
+        requires there { IsAlive (shown_by self.old) token.now }
+        requires few { left ≤ 64 }
+        ensures begun { result ≡ Answer.Begun → HasBegun token.now
+            (ask.Update props.now) (shown_by self.old) (shown_by self.new) }
+        ensures made { result ≡ Answer.Begun → IsMadeAnew token.now props.now left
+            (shown_by self.old) (shown_by self.new) }
+        ensures quota { result ≢ Answer.Quota }
+        ensures failed { result ≡ Answer.Failed → HasFailed token.now
+            (ask.Update props.now) (shown_by self.old) (shown_by self.new) }
+        ensures works { course ≡ Course.Works → result ≢ Answer.Failed }
+        ensures fails { course ≢ Course.Works → result ≢ Answer.Begun }
+        ensures memory { result ≡ Answer.Memory → IsAsBefore (shown_by self.old) (shown_by self.new) }
     {
-        let what = new_resource(self.trace.allocator(), token, kind, props)?;
-        self.held.add(Held {
-            what,
-            leaving: false,
-            left: NO_DELAY,
-        })
+        match course {
+            Course::Works => match self.begin_update(Answered::Begun, token, props, left) {
+                Ok(()) => Answer::Begun,
+                Err(_) => Answer::Memory,
+            },
+            Course::Fails => match self.fail_update(token, props) {
+                Ok(()) => Answer::Failed,
+                Err(_) => Answer::Memory,
+            },
+            Course::FailsLate => match self.update_late(token, props, left) {
+                Ok(()) => Answer::Failed,
+                Err(_) => Answer::Memory,
+            },
+        }
     }
 
-    /// Begins an update of an alive resource.
-    pub(crate) fn begin_update(
+    // An update that fails with nothing done.
+    fn fail_update(&mut self, token: &Token, props: &Properties) -> Result<(), AllocError>
+        ensures ok { OnOk result (HasFailed token.now (ask.Update props.now)
+            (shown_by self.old) (shown_by self.new)) }
+        ensures memory { OnErr result (IsAsBefore (shown_by self.old) (shown_by self.new)) }
+    {
+        let request = Request::Update(props.copy()?);
+        self.fail(token, request)
+    }
+
+    // An update that fails with its effect done.
+    fn update_late(
         &mut self,
         token: &Token,
         props: &Properties,
+        left: u8,
     ) -> Result<(), AllocError>
-        requires { IsAlive (cloud_of self.old) token.now }
-        ensures ok { OnOk result (HasBegun token.now (ask.Update props.now)
-            (cloud_of self.old) (cloud_of self.new)) }
-        ensures made { OnOk result (IsMadeAnew token.now props.now
-            (cloud_of self.old) (cloud_of self.new)) }
-        ensures held { OnErr result (self.new.held.all ≡ self.old.held.all) }
-        ensures trace { OnErr result (self.new.trace ≡ self.old.trace) }
+        requires there { IsAlive (shown_by self.old) token.now }
+        requires few { left ≤ 64 }
+        ensures ok { OnOk result (HasFailed token.now (ask.Update props.now)
+            (shown_by self.old) (shown_by self.new)) }
+        ensures memory { OnErr result (IsAsBefore (shown_by self.old) (shown_by self.new)) }
+    {
+        self.begin_update(Answered::Failed, token, props, left)?;
+        self.count_fault();
+        Ok(())
+    }
+
+    // Notes an update with its answer, and sets the properties where they are others.
+    fn begin_update(
+        &mut self,
+        answered: Answered,
+        token: &Token,
+        props: &Properties,
+        left: u8,
+    ) -> Result<(), AllocError>
+        requires there { IsAlive (shown_by self.old) token.now }
+        requires few { left ≤ 64 }
+        ensures noted { OnOk result (Notes (Called token.now (ask.Update props.now) answered)
+            (shown_by self.old) (shown_by self.new)) }
+        ensures effect { OnOk result (Takes token.now (ask.Update props.now)
+            (shown_by self.old) (shown_by self.new)) }
+        ensures made { OnOk result (IsMadeAnew token.now props.now left
+            (shown_by self.old) (shown_by self.new)) }
+        ensures memory { OnErr result (IsAsBefore (shown_by self.old) (shown_by self.new)) }
+        ensures faults { self.new.faults ≡ self.old.faults }
     {
         match self.held.place_of(token) {
             None => unreachable!(),
             Some(at) => {
                 if self.held.get(at).what.props.equals(props) {
-                    self.note(token, Request::Update(props.copy()?), Answered::Begun)
+                    note(&mut self.trace, token, Request::Update(props.copy()?), answered)
                 } else {
-                    self.set_at(at, token, props)
+                    self.set_at(answered, at, token, props, left)
                 }
             }
         }
     }
 
-    // Gives the resource at this place other properties.
-    fn set_at(&mut self, at: usize, token: &Token, props: &Properties) -> Result<(), AllocError>
-        requires { place_of self.old.held.all token.now ≡ Some at }
-        ensures ok { (h : held_type) → slice_get self.old.held.all at ≡ Some h →
-            h.what.props ≢ props.now → OnOk result (HasBegun token.now (ask.Update props.now)
-            (cloud_of self.old) (cloud_of self.new)) }
+    // Notes an update with its answer, and gives the resource at this place other properties.
+    fn set_at(
+        &mut self,
+        answered: Answered,
+        at: usize,
+        token: &Token,
+        props: &Properties,
+        left: u8,
+    ) -> Result<(), AllocError>
+        requires at { place_of self.old.held.all token.now ≡ Some at }
+        requires few { left ≤ 64 }
+        ensures noted { OnOk result (Notes (Called token.now (ask.Update props.now) answered)
+            (shown_by self.old) (shown_by self.new)) }
+        ensures effect { (h : held_type) → slice_get self.old.held.all at ≡ Some h →
+            h.what.props ≢ props.now → OnOk result (Takes token.now (ask.Update props.now)
+            (shown_by self.old) (shown_by self.new)) }
         ensures made { (h : held_type) → slice_get self.old.held.all at ≡ Some h →
-            OnOk result (IsMadeAnew token.now props.now
-            (cloud_of self.old) (cloud_of self.new)) }
-        ensures held { OnErr result (self.new.held.all ≡ self.old.held.all) }
-        ensures trace { OnErr result (self.new.trace ≡ self.old.trace) }
+            OnOk result (IsMadeAnew token.now props.now left
+            (shown_by self.old) (shown_by self.new)) }
+        ensures memory { OnErr result (IsAsBefore (shown_by self.old) (shown_by self.new)) }
+        ensures faults { self.new.faults ≡ self.old.faults }
     {
-        let facts = self.facts_at(at, token, props)?;
+        let facts = facts_at(&self.held, at, token, props)?;
         let copy = props.copy()?;
-        self.note(token, Request::Update(props.copy()?), Answered::Begun)?;
-        self.held.set(at, copy, facts, NO_DELAY);
+        note(&mut self.trace, token, Request::Update(props.copy()?), answered)?;
+        self.held.set(at, copy, facts, left);
         Ok(())
     }
 
-    // The facts of the resource at this place, with its attributes anew.
-    fn facts_at(&self, at: usize, token: &Token, props: &Properties) -> Result<Facts, AllocError>
-        requires { at < length self.now.held.all }
-        ensures { (h : held_type) → slice_get self.now.held.all at ≡ Some h →
-            IfOk result (λ f. f ≡ facts_again h.what.facts props.now token.now.row) }
+    /// Asks that a resource goes; where it wasn't leaving, so many polls are left, at most 64.
+    pub fn delete(&mut self, course: Course, token: &Token, left: u8) -> Answer
+        requires { left ≤ 64 }
+        ensures begun { result ≡ Answer.Begun →
+            HasBegun token.now ask.Delete (shown_by self.old) (shown_by self.new) }
+        ensures made { result ≡ Answer.Begun →
+            IsSentAway token.now left (shown_by self.old) (shown_by self.new) }
+        ensures quota { result ≢ Answer.Quota }
+        ensures failed { result ≡ Answer.Failed →
+            HasFailed token.now ask.Delete (shown_by self.old) (shown_by self.new) }
+        ensures works { course ≡ Course.Works → result ≢ Answer.Failed }
+        ensures fails { course ≢ Course.Works → result ≢ Answer.Begun }
+        ensures memory { result ≡ Answer.Memory → IsAsBefore (shown_by self.old) (shown_by self.new) }
     {
-        let what = &self.held.get(at).what;
-        facts_anew(self.trace.allocator(), &what.facts, props, token.row)
+        match course {
+            Course::Works => match self.begin_delete(Answered::Begun, token, left) {
+                Ok(()) => Answer::Begun,
+                Err(_) => Answer::Memory,
+            },
+            Course::Fails => match self.fail(token, Request::Delete) {
+                Ok(()) => Answer::Failed,
+                Err(_) => Answer::Memory,
+            },
+            Course::FailsLate => match self.delete_late(token, left) {
+                Ok(()) => Answer::Failed,
+                Err(_) => Answer::Memory,
+            },
+        }
     }
 
-    /// Begins a delete.
-    pub(crate) fn begin_delete(&mut self, token: &Token) -> Result<(), AllocError>
+    // A delete that fails with its effect done.
+    fn delete_late(&mut self, token: &Token, left: u8) -> Result<(), AllocError>
+        requires { left ≤ 64 }
         ensures ok { OnOk result
-            (HasBegun token.now ask.Delete (cloud_of self.old) (cloud_of self.new)) }
-        ensures left { OnOk result (IsSentAtOnce token.now (cloud_of self.old) (cloud_of self.new)) }
-        ensures held { OnErr result (self.new.held.all ≡ self.old.held.all) }
-        ensures trace { OnErr result (self.new.trace ≡ self.old.trace) }
+            (HasFailed token.now ask.Delete (shown_by self.old) (shown_by self.new)) }
+        ensures memory { OnErr result (IsAsBefore (shown_by self.old) (shown_by self.new)) }
     {
-        self.note(token, Request::Delete, Answered::Begun)?;
+        self.begin_delete(Answered::Failed, token, left)?;
+        self.count_fault();
+        Ok(())
+    }
+
+    // Notes a delete with its answer, and marks an alive resource as leaving.
+    fn begin_delete(
+        &mut self,
+        answered: Answered,
+        token: &Token,
+        left: u8,
+    ) -> Result<(), AllocError>
+        requires { left ≤ 64 }
+        ensures noted { OnOk result (Notes (Called token.now ask.Delete answered)
+            (shown_by self.old) (shown_by self.new)) }
+        ensures effect { OnOk result
+            (Takes token.now ask.Delete (shown_by self.old) (shown_by self.new)) }
+        ensures made { OnOk result
+            (IsSentAway token.now left (shown_by self.old) (shown_by self.new)) }
+        ensures memory { OnErr result (IsAsBefore (shown_by self.old) (shown_by self.new)) }
+        ensures faults { self.new.faults ≡ self.old.faults }
+    {
+        note(&mut self.trace, token, Request::Delete, answered)?;
         match self.held.place_of(token) {
             None => {}
             Some(at) => {
                 if !self.held.get(at).leaving {
-                    self.held.send_away(at, NO_DELAY);
+                    self.held.send_away(at, left);
                 }
             }
         }
         Ok(())
     }
+}
+
+// Adds a new resource.
+fn add(
+    held: &mut Holdings,
+    token: &Token,
+    kind: &Kind,
+    props: &Properties,
+    left: u8,
+) -> Result<(), AllocError>
+    requires absent { place_of held.old.all token.now ≡ None }
+    requires few { left ≤ 64 }
+    ensures ok { OnOk result (held.new.all ≡ held.old.all ++ (record {
+        what = fresh token.now kind.now props.now; leaving = false; left = left }) ∷ []) }
+    ensures err { OnErr result (held.new.all ≡ held.old.all) }
+{
+    let what = new_resource(held.all.allocator(), token, kind, props)?;
+    held.add(Held {
+        what,
+        leaving: false,
+        left,
+    })
+}
+
+// The facts of the resource at this place, with its attributes anew.
+fn facts_at(
+    held: &Holdings,
+    at: usize,
+    token: &Token,
+    props: &Properties,
+) -> Result<Facts, AllocError>
+    requires { at < length held.now.all }
+    ensures { (h : held_type) → slice_get held.now.all at ≡ Some h →
+        IfOk result (λ f. f ≡ facts_again h.what.facts props.now token.now.row) }
+{
+    let what = &held.get(at).what;
+    facts_anew(held.all.allocator(), &what.facts, props, token.row)
 }

@@ -1,17 +1,14 @@
-//! The simulated cloud: what it holds, and its trace.
+//! The simulated cloud.
 ghost use Rattle.std.specs.Prelude.{◌≡◌, [], IfOk};
 
-use crate::holdings::Holdings;
+use crate::inventory::Inventory;
 use crate::settings::Settings;
-use heat_value::Seq;
-use provider::Traced;
 use std::alloc::AllocError;
 
 /// A cloud in memory, with its trace.
 #[derive(Debug, Drop)]
 pub struct SimCloud {
-    pub(crate) held: Holdings,
-    pub(crate) trace: Seq<Traced>,
+    pub(crate) all: Inventory,
 }
 
 impl SimCloud {
@@ -20,13 +17,14 @@ impl SimCloud {
     /// An empty cloud with no quota, which does each request at once and never fails.
     pub fn new(settings: Settings) -> Result<SimCloud, AllocError>
         requires { HasNothingSet settings }
-        ensures held { IfOk result (λ c. c.held.all ≡ []) }
-        ensures trace { IfOk result (λ c. c.trace ≡ []) }
+        ensures held { IfOk result (λ c. c.all.held.all ≡ []) }
+        ensures quotas { IfOk result (λ c. c.all.quotas ≡ []) }
+        ensures trace { IfOk result (λ c. c.all.trace ≡ []) }
+        ensures faults { IfOk result (λ c. c.all.faults ≡ 0) }
     {
         let alloc = settings.alive.allocator();
         Ok(SimCloud {
-            held: Holdings::new(alloc),
-            trace: Seq::new(alloc),
+            all: Inventory::new(alloc, settings.quotas),
         })
     }
 }

@@ -1,0 +1,10 @@
+use Rattle.std.proofs.Common.{refl, arith}
+use Rattle.sim_cloud.specs.Simulated.{beside_of}
+use Rattle.sim_cloud.proofs.Effects.{noted}
+use Rattle.sim_cloud.proofs.Clauses.{poll_waits}
+use Rattle.sim_cloud.proofs.Inventories.{with_trace}
+use Rattle.sim_cloud.proofs.inventory.Inventory.wait_at.Goals as goal
+
+pub returns-clause-ok : goal.returns-clause-ok
+returns-clause-ok c h at some =
+    rw (c.lower.ensures h at) (poll_waits c.args.self.now.held.all (beside_of c.args.self.now) (with_trace c.args.self.now c.note.new.trace) c.args.token.now c.args.at h c.requires at some (noted _ _ (beside_of c.args.self.now) (with_trace c.args.self.now c.note.new.trace) _ c.in_ok-note.ensures.ok (omega arith) refl))
