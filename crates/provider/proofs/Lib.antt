@@ -1,3 +1,4 @@
 pub mod Sames
 pub mod Lists
 pub mod States
+pub mod Lives

@@ -1,14 +1,16 @@
 //! The scripted cloud as a provider.
-ghost use Rattle.std.specs.Prelude.{◌≡◌, ◌≢◌, ◌⊎◌, ℕ, List};
+ghost use Rattle.std.specs.Prelude.{◌≡◌, ◌≢◌, ℕ, List, Some, None};
 ghost use Rattle.heat_plan.specs.declared.facts.Facts.{Facts as facts_type};
 ghost use Rattle.heat_plan.specs.declared.calls.Request.TheVariants as ask;
 ghost use Rattle.provider.specs.declared.alive.Alive.{Alive};
 ghost use Rattle.provider.specs.Cloud.{IsAlive};
 ghost use Rattle.provider.specs.Changes.{IsAsBefore};
 ghost use Rattle.provider.specs.Calls.{MayGo, HasBegun, HasFailed, IsRefused, Waits, IsReady, IsBroken, IsGone, Lingers, Lists, ListsNone};
+ghost use Rattle.sim_cloud.specs.Shown.{IsMade, IsMadeAnew, IsSentAway};
 ghost use Rattle.sim_cloud.specs.Sound.{lawful_shown};
 ghost use Rattle.sim_cloud.specs.Simulated.{beside_of};
-ghost use Rattle.scripted_cloud.specs.Scripted.{cloud_of, FollowsTurn};
+ghost use Rattle.scripted_cloud.specs.Scripted.{cloud_of, turn_of, FollowsTurn};
+ghost use Rattle.scripted_cloud.specs.Turns.{polls_of, code_of};
 
 use crate::ScriptedCloud;
 use crate::turn::{code_at, course_at, polls_at};
@@ -24,6 +26,8 @@ impl Provider for ScriptedCloud {
         ensures turn { FollowsTurn Answer.Failed Answer.Memory result self.old self.new }
         ensures begun { result ≡ Answer.Begun → HasBegun token.now
             (ask.Create kind.now.name props.now) (cloud_of self.old) (cloud_of self.new) }
+        ensures made { result ≡ Answer.Begun → IsMade token.now kind.now props.now
+            (polls_of (turn_of self.old)) (cloud_of self.old) (cloud_of self.new) }
         ensures quota { result ≡ Answer.Quota → IsRefused token.now kind.now.name props.now
             (cloud_of self.old) (cloud_of self.new) }
         ensures failed { result ≡ Answer.Failed → HasFailed token.now
@@ -44,6 +48,8 @@ impl Provider for ScriptedCloud {
         ensures turn { FollowsTurn Answer.Failed Answer.Memory result self.old self.new }
         ensures begun { result ≡ Answer.Begun →
             HasBegun token.now (ask.Update props.now) (cloud_of self.old) (cloud_of self.new) }
+        ensures made { result ≡ Answer.Begun → IsMadeAnew token.now props.now
+            (polls_of (turn_of self.old)) (cloud_of self.old) (cloud_of self.new) }
         ensures quota { result ≢ Answer.Quota }
         ensures failed { result ≡ Answer.Failed →
             HasFailed token.now (ask.Update props.now) (cloud_of self.old) (cloud_of self.new) }
@@ -62,6 +68,8 @@ impl Provider for ScriptedCloud {
         ensures turn { FollowsTurn Answer.Failed Answer.Memory result self.old self.new }
         ensures begun { result ≡ Answer.Begun →
             HasBegun token.now ask.Delete (cloud_of self.old) (cloud_of self.new) }
+        ensures made { result ≡ Answer.Begun → IsSentAway token.now
+            (polls_of (turn_of self.old)) (cloud_of self.old) (cloud_of self.new) }
         ensures quota { result ≢ Answer.Quota }
         ensures failed { result ≡ Answer.Failed →
             HasFailed token.now ask.Delete (cloud_of self.old) (cloud_of self.new) }
@@ -85,6 +93,10 @@ impl Provider for ScriptedCloud {
             IsReady token.now facts (cloud_of self.old) (cloud_of self.new) }
         ensures broken { (code : List ℕ) → result ≡ Poll.Broken code →
             IsBroken token.now code (cloud_of self.old) (cloud_of self.new) }
+        ensures code { (code : List ℕ) → result ≡ Poll.Broken code →
+            code_of (turn_of self.old) ≡ Some code }
+        ensures whole { (facts : facts_type) → result ≡ Poll.Ready facts →
+            code_of (turn_of self.old) ≡ None }
         ensures failed { result ≡ Poll.Failed →
             HasFailed token.now ask.Poll (cloud_of self.old) (cloud_of self.new) }
         ensures memory { result ≡ Poll.Memory → IsAsBefore (cloud_of self.old) (cloud_of self.new) }
