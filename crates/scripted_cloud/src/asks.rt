@@ -38,7 +38,7 @@ pub fn send<P: Provider>(cloud: &mut P, token: &Token) -> bool
 {
     match cloud.delete(token) {
         Answer::Begun => true,
-        Answer::Quota | Answer::Failed | Answer::Memory => false,
+        _ => false,
     }
 }
 

@@ -2,10 +2,37 @@
 use crate::{ScriptedCloud, Turn, change, look, make, send, wait};
 use heat_plan::{Facts, Kind, Properties, Token};
 use heat_value::{Props, Seq, Text, TryCopy, Value};
-use provider::{Alive, Answer, Gone, Listed, Listing, Poll, Provider, Traced};
-use sim_cloud::{KindQuota, Settings, SimCloud};
+use provider::{Answer, Gone, Listed, Poll, Provider};
+use sim_cloud::{Settings, SimCloud};
 use std::alloc::{AllocError, Global};
 use std::test::Fail;
+
+// A token, its kind, and properties.
+#[derive(Drop)]
+struct Example {
+    token: Token,
+    kind: Kind,
+    props: Properties,
+}
+
+fn of_size(alloc: Global, size: i64) -> Result<Example, Fail> {
+    let token = Token::read(alloc, b"s/a/1")?.ok_or("a token")?;
+    with_kind(alloc, token, size)
+}
+
+fn with_kind(alloc: Global, token: Token, size: i64) -> Result<Example, Fail> {
+    let kind = boxes(alloc)?;
+    let props = sized(alloc, size)?;
+    Ok(Example { token, kind, props })
+}
+
+fn boxes(alloc: Global) -> Result<Kind, AllocError> {
+    Ok(Kind {
+        name: Text::from_str(alloc, "Test::Box")?,
+        attrs: texts(alloc, &["addr", "link", "size"])?,
+        soft: Seq::new(alloc),
+    })
+}
 
 fn texts(alloc: Global, names: &[&str]) -> Result<Seq<Text>, AllocError> {
     let mut all = Seq::new(alloc);
@@ -15,22 +42,10 @@ fn texts(alloc: Global, names: &[&str]) -> Result<Seq<Text>, AllocError> {
     Ok(all)
 }
 
-fn boxes(alloc: Global) -> Result<Kind, AllocError> {
-    Ok(Kind {
-        name: Text::from_str(alloc, "Test::Box")?,
-        attrs: texts(alloc, &["addr", "link", "size"])?,
-        soft: texts(alloc, &["link", "size"])?,
-    })
-}
-
 fn sized(alloc: Global, size: i64) -> Result<Properties, Fail> {
     let mut props = Props::new(alloc);
     props.put(Text::from_str(alloc, "size")?, Value::Whole(size))?;
     Ok(Properties::from_props(props).ok_or("shallow")?)
-}
-
-fn token(alloc: Global, text: &[u8]) -> Result<Token, Fail> {
-    Ok(Token::read(alloc, text)?.ok_or("a token")?)
 }
 
 fn sim(alloc: Global) -> Result<SimCloud, AllocError> {
@@ -44,10 +59,18 @@ fn sim(alloc: Global) -> Result<SimCloud, AllocError> {
     })
 }
 
-// The id and the attributes as a text; nothing where the poll isn't Ready.
+// A cloud with two turns, which works then.
+fn scripted(alloc: Global, first: Turn, second: Turn) -> Result<ScriptedCloud, AllocError> {
+    let mut turns = Seq::new(alloc);
+    turns.push(first)?;
+    turns.push(second)?;
+    Ok(ScriptedCloud::new(alloc, Seq::new(alloc), turns))
+}
+
+// What a poll answers, as a text.
 fn told(alloc: Global, poll: Poll) -> Result<Text, AllocError> {
     match poll {
-        Poll::Ready(facts) => facts_text(alloc, facts),
+        Poll::Ready(facts) => facts_text(alloc, &facts),
         Poll::Broken(code) => Ok(code),
         Poll::NotYet => Text::from_str(alloc, "not yet"),
         Poll::Failed => Text::from_str(alloc, "failed"),
@@ -55,59 +78,152 @@ fn told(alloc: Global, poll: Poll) -> Result<Text, AllocError> {
     }
 }
 
-fn facts_text(alloc: Global, facts: Facts) -> Result<Text, AllocError> {
+fn facts_text(alloc: Global, facts: &Facts) -> Result<Text, AllocError> {
     let attrs = Value::Fields(facts.attrs.as_props().copy()?).text(alloc)?;
     let text = format!(in alloc; "{} {}", facts.id.as_str(), attrs.as_str())?;
     Ok(Text::from_string(text))
 }
 
-fn how_many(listed: Listed) -> Option<usize> {
-    match listed {
+// A create and a poll.
+fn made<P: Provider>(alloc: Global, cloud: &mut P, case: &Example) -> Result<Text, AllocError> {
+    if make(cloud, &case.token, &case.kind, &case.props) {
+        told(alloc, look(cloud, &case.token))
+    } else {
+        Text::from_str(alloc, "not begun")
+    }
+}
+
+// A create, an update and a poll.
+fn changed<P: Provider>(alloc: Global, cloud: &mut P, case: &Example) -> Result<Text, AllocError> {
+    if !make(cloud, &case.token, &case.kind, &case.props) {
+        return Text::from_str(alloc, "not begun");
+    }
+    match change(cloud, &case.token, &case.props) {
+        Answer::Begun => told(alloc, look(cloud, &case.token)),
+        Answer::Failed => Text::from_str(alloc, "failed"),
+        Answer::Quota | Answer::Memory => Text::from_str(alloc, "not begun"),
+    }
+}
+
+// A create, a delete and two questions; the second is answered so.
+fn sent<P: Provider>(cloud: &mut P, case: &Example) -> (Gone, Gone) {
+    if send(cloud, &case.token) {
+        let first = wait(cloud, &case.token);
+        (first, wait(cloud, &case.token))
+    } else {
+        (Gone::Memory, Gone::Memory)
+    }
+}
+
+fn how_many<P: Provider>(cloud: &mut P) -> Option<usize> {
+    match cloud.list() {
         Listed::Got(all) => Some(all.len()),
         Listed::Failed | Listed::Memory => None,
     }
 }
 
+// Whether a simulated resource of this size tells these facts.
+fn sim_tells(alloc: Global, size: i64, wanted: &str) -> Result<bool, Fail> {
+    let mut cloud = sim(alloc)?;
+    let case = of_size(alloc, size)?;
+    Ok(made(alloc, &mut cloud, &case)?.as_str() == wanted)
+}
+
+// Whether it tells these facts after it had another size.
+fn sim_tells_anew(alloc: Global, size: i64, wanted: &str) -> Result<bool, Fail> {
+    let mut cloud = sim(alloc)?;
+    let _first = made(alloc, &mut cloud, &of_size(alloc, 1)?)?;
+    let case = of_size(alloc, size)?;
+    Ok(changed(alloc, &mut cloud, &case)?.as_str() == wanted)
+}
+
+// What is alive before and after a resource is sent away, and the answers to two questions.
+fn sim_sends(alloc: Global) -> Result<(Option<usize>, Gone, Gone, Option<usize>), Fail> {
+    let mut cloud = sim(alloc)?;
+    let case = of_size(alloc, 1)?;
+    let _text = made(alloc, &mut cloud, &case)?;
+    let before = how_many(&mut cloud);
+    let (first, second) = sent(&mut cloud, &case);
+    Ok((before, first, second, how_many(&mut cloud)))
+}
+
+// Whether a create and a poll by these two turns answer so.
+fn tells(alloc: Global, first: Turn, second: Turn, wanted: &str) -> Result<bool, Fail> {
+    let mut cloud = scripted(alloc, first, second)?;
+    let case = of_size(alloc, 1)?;
+    Ok(made(alloc, &mut cloud, &case)?.as_str() == wanted)
+}
+
+// What a create by this turn answers, and how many are alive then.
+fn creates(alloc: Global, turn: Turn) -> Result<(Answer, Option<usize>), Fail> {
+    let mut cloud = scripted(alloc, turn, Turn::Works(0))?;
+    let case = of_size(alloc, 1)?;
+    let answer = cloud.create(&case.token, &case.kind, &case.props);
+    Ok((answer, how_many(&mut cloud)))
+}
+
+// What a delete and two questions by these turns answer.
+fn sends(alloc: Global, first: Turn, second: Turn) -> Result<(Gone, Gone), Fail> {
+    let mut cloud = scripted(alloc, first, second)?;
+    let case = of_size(alloc, 1)?;
+    Ok(sent(&mut cloud, &case))
+}
+
 #[test]
 fn a_simulated_resource_has_its_id_and_attributes(rt: HostRuntime) -> Result<(), Fail> {
     let alloc = rt.alloc();
-    let mut cloud = sim(alloc)?;
-    let a = token(alloc, b"s/a/1")?;
-    let kind = boxes(alloc)?;
-    let small = sized(alloc, 1)?;
-    if !make(&mut cloud, &a, &kind, &small) {
-        return Err("begun".into());
-    }
-    let ready = look(&mut cloud, &a);
-    assert_eq!(rt;
-        told(alloc, ready)?.as_str(),
-        "sim-1 {\"addr\":\"addr-1\",\"link\":\"link-1\",\"size\":1}"
-    );
-    let big = sized(alloc, 2)?;
-    assert_eq!(rt; change(&mut cloud, &a, &big), Answer::Begun);
-    let ready = look(&mut cloud, &a);
-    assert_eq!(rt;
-        told(alloc, ready)?.as_str(),
-        "sim-1 {\"addr\":\"addr-1\",\"link\":\"link-1\",\"size\":2}"
-    );
+    let small = "sim-1 {\"addr\":\"addr-1\",\"link\":\"link-1\",\"size\":1}";
+    assert!(rt; sim_tells(alloc, 1, small)?);
+    let big = "sim-1 {\"addr\":\"addr-1\",\"link\":\"link-1\",\"size\":2}";
+    assert!(rt; sim_tells_anew(alloc, 2, big)?);
     Ok(())
 }
 
 #[test]
 fn a_simulated_resource_goes(rt: HostRuntime) -> Result<(), Fail> {
+    let (before, first, second, after) = sim_sends(rt.alloc())?;
+    assert_eq!(rt; before, Some(1));
+    assert_eq!(rt; first, Gone::Gone);
+    assert_eq!(rt; second, Gone::Gone);
+    assert_eq!(rt; after, Some(0));
+    Ok(())
+}
+
+#[test]
+fn a_scripted_poll_gives_each_answer(rt: HostRuntime) -> Result<(), Fail> {
     let alloc = rt.alloc();
-    let mut cloud = sim(alloc)?;
-    let a = token(alloc, b"s/a/1")?;
-    let kind = boxes(alloc)?;
-    let small = sized(alloc, 1)?;
-    assert!(rt; make(&mut cloud, &a, &kind, &small));
-    assert!(rt; make(&mut cloud, &a, &kind, &small));
-    assert_eq!(rt; how_many(cloud.list()), Some(1));
-    if !send(&mut cloud, &a) {
-        return Err("begun".into());
-    }
-    assert_eq!(rt; wait(&mut cloud, &a), Gone::Gone);
-    assert_eq!(rt; wait(&mut cloud, &a), Gone::Gone);
-    assert_eq!(rt; how_many(cloud.list()), Some(0));
+    assert!(rt; tells(alloc, Turn::Works(1), Turn::Works(0), "not yet")?);
+    assert!(rt; tells(alloc, Turn::Works(0), Turn::Fails, "failed")?);
+    assert!(rt;
+        tells(
+            alloc,
+            Turn::Works(0),
+            Turn::Breaks(Text::from_str(alloc, "bad")?),
+            "bad"
+        )?
+    );
+    assert!(rt; tells(alloc, Turn::Fails, Turn::Fails, "not begun")?);
+    Ok(())
+}
+
+#[test]
+fn a_scripted_create_gives_each_answer(rt: HostRuntime) -> Result<(), Fail> {
+    let alloc = rt.alloc();
+    assert_eq!(rt; creates(alloc, Turn::Works(0))?, (Answer::Begun, Some(1)));
+    assert_eq!(rt; creates(alloc, Turn::Fails)?, (Answer::Failed, Some(0)));
+    assert_eq!(rt;
+        creates(alloc, Turn::FailsLate(0))?,
+        (Answer::Failed, Some(1))
+    );
+    Ok(())
+}
+
+#[test]
+fn a_scripted_question_gives_each_answer(rt: HostRuntime) -> Result<(), Fail> {
+    let alloc = rt.alloc();
+    assert_eq!(rt;
+        sends(alloc, Turn::Works(0), Turn::Fails)?,
+        (Gone::Failed, Gone::Gone)
+    );
     Ok(())
 }
