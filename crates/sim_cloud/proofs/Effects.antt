@@ -67,8 +67,8 @@ becomes-remove token xs i a h at here =
           (λ k d lt ne. same_token-other (get_or xs k d).what.token token (λ e. apart_at xs i k a d h here lt (sides k ne) (rw named e)));
       others = λ t ne. find-remove_other (is_of t) xs i a here (rw named (same_token-other token t (λ e. ne (sym e))));
     } where
-    sides : (k : ℕ) → k ≢ i → (k < i) ⊎ (i < k)
-    sides k ne = grind (arith, common_steps)
+      sides : (k : ℕ) → k ≢ i → (k < i) ⊎ (i < k)
+      sides k ne = grind (arith, common_steps)
 
 -- ---- what the cloud shows
 

@@ -20,8 +20,10 @@ pub holding_set : (xs : List Held) (i : ℕ) (a b : Held) → IsHolding xs → s
 holding_set xs i a b h at same few = (distinct, All-set (λ (x : Held). x.left ≤ 64) xs i b few h.1) where
   lt : i < length xs
   lt = slice_get_within xs i a at
+
   tokens : (k : ℕ) (d : Held) → k < length xs → (get_or (slice_set xs i b) k d).what.token ≡ (get_or xs k d).what.token
   tokens = token_at-set xs i b (λ d _. rw (get_or_from_slice_get xs i a d at) (sym same))
+
   distinct : AllPairs (λ (x y : Held). x.what.token ≢ y.what.token) (slice_set xs i b)
   distinct j k d jk kl = let within : k < length xs = grind (arith, common_steps) in rw (tokens j d (omega (arith, jk, within)), tokens k d within) (h.0 j k d jk within)
 
@@ -38,16 +40,19 @@ fails_at (x ∷ xs) t zero d none lt = λ e. let f = unless_found x (is_of t x) 
 fails_at (x ∷ xs) t (suc k) d none lt = let f = unless_found x (is_of t x) (find (is_of t) xs) none in fails_at xs t k d f.1 (omega (arith, lt))
 
 pub holding_push : (xs : List Held) (one : Held) → IsHolding xs → place_of xs one.what.token ≡ None → one.left ≤ 64 → IsHolding (xs ++ one ∷ [])
-holding_push xs one h none few =
-    (all_pairs_push (λ (x y : Held). x.what.token ≢ y.what.token) xs one h.0 (λ k d lt. fails_at xs one.what.token k d (find-position_None (is_of one.what.token) xs none) lt),
-     All-push (λ (x : Held). x.left ≤ 64) xs one h.1 few)
+holding_push xs one h none few = (
+  all_pairs_push (λ (x y : Held). x.what.token ≢ y.what.token) xs one h.0 (λ k d lt. fails_at xs one.what.token k d (find-position_None (is_of one.what.token) xs none) lt),
+  All-push (λ (x : Held). x.left ≤ 64) xs one h.1 few,
+)
 
 pub holding_remove : (xs : List Held) (i : ℕ) → i < length xs → IsHolding xs → IsHolding (remove xs i)
 holding_remove xs i lt h = (all_pairs_remove (λ (x y : Held). x.what.token ≢ y.what.token) xs i lt h.0, few) where
   before_or_after : (k : ℕ) → (k < i) ⊎ (i ≤ k)
   before_or_after k = grind (arith, common_steps)
+
   at : (k : ℕ) (d : Held) → k < length (remove xs i) → (k < i) ⊎ (i ≤ k) → (get_or (remove xs i) k d).left ≤ 64
   at k d within (inl low) = rw (get_or-remove_below xs i d k low lt) (h.1 k d (omega (arith, low, lt)))
   at k d within (inr high) = let long = length-remove xs i lt in rw (get_or-remove_above xs i d k high lt) (h.1 (k + 1) d (omega (arith, within, long)))
+
   few : All (λ (x : Held). x.left ≤ 64) (remove xs i)
   few k d within = at k d within (before_or_after k)

@@ -64,6 +64,7 @@ module _ {X : Type 0} (p : X → Bool) where
   find-remove xs i lt h = find-none (remove xs i) (λ k d within. at k d within (k_or k)) where
     k_or : (k : ℕ) → (k < i) ⊎ (i ≤ k)
     k_or k = grind (arith, common_steps)
+
     at : (k : ℕ) (d : X) → k < length (remove xs i) → (k < i) ⊎ (i ≤ k) → p (get_or (remove xs i) k d) ≡ false
     at k d within (inl low) = rw (get_or-remove_below xs i d k low lt) (h k d (omega (arith, low, lt)) (λ e. omega (arith, low, e)))
     at k d within (inr high) = let long = length-remove xs i lt in rw (get_or-remove_above xs i d k high lt) (h (k + 1) d (omega (arith, within, long)) (λ e. omega (arith, high, e)))

@@ -34,8 +34,7 @@ impl Provider for SimCloud {
             (cloud_of self.old) (cloud_of self.new) }
         ensures memory { result ≡ Answer.Memory → IsAsBefore (cloud_of self.old) (cloud_of self.new) }
     {
-        self.all
-            .create(Course::Works, token, kind, props, NO_DELAY)
+        self.all.create(Course::Works, token, kind, props, NO_DELAY)
     }
 
     fn update(&mut self, token: &Token, props: &Properties) -> Answer

@@ -86,7 +86,7 @@ impl Holdings {
         requires { at < length self.old.all }
         ensures { (h : held_type) → slice_get self.old.all at ≡ Some h →
             self.new.all ≡ slice_set self.old.all at
-                (record h { what = record h.what { ready = true } }) }
+            (record h { what = record h.what { ready = true } }) }
     {
         self.all.item_mut(at).what.ready = true;
     }
@@ -111,8 +111,9 @@ impl Holdings {
         requires few { left ≤ 64 }
         ensures { (h : held_type) → slice_get self.old.all at ≡ Some h →
             self.new.all ≡ slice_set self.old.all at (record h {
-                what = record h.what { props = props; facts = facts; ready = false };
-                left = left }) }
+              what = record h.what { props = props; facts = facts; ready = false };
+              left = left;
+            }) }
     {
         let one = self.all.item_mut(at);
         one.what.props = props;

@@ -173,7 +173,10 @@ impl Inventory {
         requires few { left ≤ 64 }
         requires noted { 0 < length self.old.trace }
         ensures ok { OnOk result (self.new.held.all ≡ self.old.held.all ++ (record {
-            what = fresh token.now kind.now props.now; leaving = false; left = left }) ∷ []) }
+          what = fresh token.now kind.now props.now;
+          leaving = false;
+          left = left;
+        }) ∷ []) }
         ensures kept { OnOk result (self.new.trace ≡ self.old.trace) }
         ensures err { OnErr result (self.new.held.all ≡ self.old.held.all) }
         ensures back { OnErr result (self.new.trace
@@ -192,13 +195,7 @@ impl Inventory {
 
     /// Asks that an alive resource gets these properties; where they are others, so many polls are left,
     /// at most 64.
-    pub fn update(
-        &mut self,
-        course: Course,
-        token: &Token,
-        props: &Properties,
-        left: u8,
-    ) -> Answer
+    pub fn update(&mut self, course: Course, token: &Token, props: &Properties, left: u8) -> Answer
         requires there { IsAlive (shown_by self.old) token.now }
         requires few { left ≤ 64 }
         ensures begun { result ≡ Answer.Begun → HasBegun token.now
@@ -239,12 +236,7 @@ impl Inventory {
     }
 
     // An update that fails with its effect done.
-    fn update_late(
-        &mut self,
-        token: &Token,
-        props: &Properties,
-        left: u8,
-    ) -> Result<(), AllocError>
+    fn update_late(&mut self, token: &Token, props: &Properties, left: u8) -> Result<(), AllocError>
         requires there { IsAlive (shown_by self.old) token.now }
         requires few { left ≤ 64 }
         ensures ok { OnOk result (HasFailed token.now (ask.Update props.now)
@@ -279,7 +271,12 @@ impl Inventory {
             None => unreachable!(),
             Some(at) => {
                 if self.held.get(at).what.props.equals(props) {
-                    note(&mut self.trace, token, Request::Update(props.copy()?), answered)
+                    note(
+                        &mut self.trace,
+                        token,
+                        Request::Update(props.copy()?),
+                        answered,
+                    )
                 } else {
                     self.set_at(answered, at, token, props, left)
                 }
@@ -311,7 +308,12 @@ impl Inventory {
     {
         let facts = facts_at(&self.held, at, token, props)?;
         let copy = props.copy()?;
-        note(&mut self.trace, token, Request::Update(props.copy()?), answered)?;
+        note(
+            &mut self.trace,
+            token,
+            Request::Update(props.copy()?),
+            answered,
+        )?;
         self.held.set(at, copy, facts, left);
         Ok(())
     }
@@ -399,7 +401,10 @@ fn add(
     requires absent { place_of held.old.all token.now ≡ None }
     requires few { left ≤ 64 }
     ensures ok { OnOk result (held.new.all ≡ held.old.all ++ (record {
-        what = fresh token.now kind.now props.now; leaving = false; left = left }) ∷ []) }
+      what = fresh token.now kind.now props.now;
+      leaving = false;
+      left = left;
+    }) ∷ []) }
     ensures err { OnErr result (held.new.all ≡ held.old.all) }
 {
     let what = new_resource(held.all.allocator(), token, kind, props)?;

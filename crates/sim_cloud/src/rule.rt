@@ -111,12 +111,7 @@ fn values(
 }
 
 // The property of that name, else words of the name and the row.
-fn value(
-    alloc: Global,
-    name: &Text,
-    props: &Properties,
-    row: RowNo,
-) -> Result<Value, AllocError>
+fn value(alloc: Global, name: &Text, props: &Properties, row: RowNo) -> Result<Value, AllocError>
     ensures { IfOk result (λ v. data_of v ≡ value_of props.now row name.now) }
 {
     if let Some(value) = props.as_props().get(name) {
