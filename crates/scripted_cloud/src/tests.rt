@@ -2,8 +2,8 @@
 use crate::{ScriptedCloud, Turn, change, look, make, send, wait};
 use heat_plan::{Facts, Kind, Properties, Token};
 use heat_value::{Props, Seq, Text, TryCopy, Value};
-use provider::{Answer, Gone, Listed, Poll, Provider};
-use sim_cloud::{Settings, SimCloud};
+use provider::{Answer, Gone, Listed, Listing, Poll, Provider, Traced};
+use sim_cloud::{KindQuota, Settings, SimCloud};
 use std::alloc::{AllocError, Global};
 use std::test::Fail;
 
@@ -169,6 +169,43 @@ fn sends(alloc: Global, first: Turn, second: Turn) -> Result<(Gone, Gone), Fail>
     Ok(sent(&mut cloud, &case))
 }
 
+// What a create, a delete and two questions answer, the first two by these turns.
+fn makes_and_sends(alloc: Global, first: Turn, second: Turn) -> Result<(Gone, Gone), Fail> {
+    let mut cloud = scripted(alloc, first, second)?;
+    let case = of_size(alloc, 1)?;
+    let _begun = make(&mut cloud, &case.token, &case.kind, &case.props);
+    Ok(sent(&mut cloud, &case))
+}
+
+// Whether a create and an update by these turns, and a poll, answer so.
+fn changes(alloc: Global, first: Turn, second: Turn, wanted: &str) -> Result<bool, Fail> {
+    let mut cloud = scripted(alloc, first, second)?;
+    let case = of_size(alloc, 1)?;
+    Ok(changed(alloc, &mut cloud, &case)?.as_str() == wanted)
+}
+
+// What a delete by this turn answers.
+fn deletes(alloc: Global, turn: Turn) -> Result<Answer, Fail> {
+    let mut cloud = scripted(alloc, turn, Turn::Works(0))?;
+    let case = of_size(alloc, 1)?;
+    Ok(cloud.delete(&case.token))
+}
+
+// What a create answers where no box may be alive.
+fn creates_none(alloc: Global) -> Result<Answer, Fail> {
+    let mut quotas = Seq::new(alloc);
+    let kind = Text::from_str(alloc, "Test::Box")?;
+    quotas.push(KindQuota { kind, most: 0 })?;
+    let mut cloud = ScriptedCloud::new(alloc, quotas, Seq::new(alloc));
+    let case = of_size(alloc, 1)?;
+    Ok(cloud.create(&case.token, &case.kind, &case.props))
+}
+
+fn lists(alloc: Global, turn: Turn) -> Result<Option<usize>, Fail> {
+    let mut cloud = scripted(alloc, turn, Turn::Works(0))?;
+    Ok(how_many(&mut cloud))
+}
+
 #[test]
 fn a_simulated_resource_has_its_id_and_attributes(rt: HostRuntime) -> Result<(), Fail> {
     let alloc = rt.alloc();
@@ -225,5 +262,35 @@ fn a_scripted_question_gives_each_answer(rt: HostRuntime) -> Result<(), Fail> {
         sends(alloc, Turn::Works(0), Turn::Fails)?,
         (Gone::Failed, Gone::Gone)
     );
+    Ok(())
+}
+
+#[test]
+fn a_quota_refuses(rt: HostRuntime) -> Result<(), Fail> {
+    assert_eq!(rt; creates_none(rt.alloc())?, Answer::Quota);
+    Ok(())
+}
+
+#[test]
+fn a_resource_lingers_while_polls_are_left(rt: HostRuntime) -> Result<(), Fail> {
+    let answers = makes_and_sends(rt.alloc(), Turn::Works(0), Turn::Works(1))?;
+    assert_eq!(rt; answers, (Gone::NotYet, Gone::Gone));
+    Ok(())
+}
+
+#[test]
+fn scripted_calls_fail(rt: HostRuntime) -> Result<(), Fail> {
+    let alloc = rt.alloc();
+    assert!(rt; changes(alloc, Turn::Works(0), Turn::Fails, "failed")?);
+    assert!(rt; changes(alloc, Turn::Works(0), Turn::FailsLate(0), "failed")?);
+    assert_eq!(rt; deletes(alloc, Turn::Fails)?, Answer::Failed);
+    assert_eq!(rt; lists(alloc, Turn::Fails)?, None);
+    Ok(())
+}
+
+#[test]
+fn a_call_of_a_trace_is_copied(rt: HostRuntime) -> Result<(), Fail> {
+    let call = Traced::Listed(Listing::Failed);
+    assert!(rt; matches!(call.copy()?, Traced::Listed(Listing::Failed)));
     Ok(())
 }
