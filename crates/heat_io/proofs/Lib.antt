@@ -1,0 +1,4 @@
+pub mod Ends
+pub mod Streaming
+pub mod Cuts
+pub mod Nexts
