@@ -2,3 +2,4 @@ pub mod Ends
 pub mod Streaming
 pub mod Cuts
 pub mod Nexts
+pub mod Runs

@@ -1,5 +1,5 @@
 -- What the next line comes to, by what was given, and with more behind.
-use Rattle.std.proofs.Common.{◌≡◌, ◌≢◌, ◌⊎◌, inl, inr, ⊎_elim, ℕ, ◌+◌, ◌-◌, ◌<◌, ◌≤◌, List, [], ◌∷◌, ◌++◌, length, take, drop, get_or, min, refl, ap, sym, ◌∙◌, subst, arith, rules, Option, Some, None, length-append, append-nil}
+use Rattle.std.proofs.Common.{◌≡◌, ◌≢◌, ◌⊎◌, inl, inr, ⊎_elim, ℕ, ◌+◌, ◌-◌, ◌<◌, ◌≤◌, List, [], ◌∷◌, ◌++◌, length, take, drop, get_or, min, refl, ap, sym, ◌∙◌, subst, arith, rules, Option, Some, None, length-append, length-drop, append-nil}
 use Rattle.std.specs.Io.BufRead.{strip_last}
 use Rattle.std.proofs.lemmas.List.{take-append-le, take-append-drop}
 use Rattle.std.proofs.Math.Seq.{take-length, drop-length}
@@ -19,6 +19,10 @@ front_is held seen count len same ends within is =
       sym (take-append-le len (take count seen) (drop count seen) within) ∙ ap (take len) (take-append-drop count seen ∙ same) in
     sym whole ∙ is ∙ ap (λ n. strip_last 13 (take n seen)) ends ∙ ap (λ bytes. strip_last 13 (take (length_of_line held) bytes)) same
 
+counted_lf : (bytes rest : List ℕ) (given now : ℕ) → length_of_line bytes < length bytes → rest ≡ behind_line bytes
+    → now ≡ given + (length_of_line bytes + 1) → now + length rest ≡ given + length bytes
+counted_lf bytes rest given now lf is count = omega (arith, lf, count, ap length is, length-drop (length_of_line bytes + 1) bytes)
+
 -- a line that ends at an LF was given, or it wasn't
 pub given_lf : (len : ℕ) (old new : Reader) (result : Next) → length_of_line old.held < length old.held → length_of_line old.held ≤ line_limit
     → take len old.held ≡ strip_last 13 (take (length_of_line old.held) old.held)
@@ -27,7 +31,7 @@ given_lf len old new (next.Line line) lf short cr is = record {
   lines = rw (is.0, cr, is.1) (lines_of-lf old.held lf);
   behind = is.1;
   short = short;
-  counted = omega (arith, lf, is.2);
+  counted = counted_lf old.held new.held old.given new.given lf is.1 is.2;
   rises = omega (arith, is.2);
   within = is.3;
 }
@@ -44,7 +48,7 @@ given_end old new (next.Line line) none short some is = record {
   lines = rw (is.0, take-length old.held, is.1, drop-length old.held) (lines_of-end old.held none some);
   behind = is.1 ∙ drop-length old.held ∙ sym (behind_line-end old.held none);
   short = omega (arith, none, short);
-  counted = omega (arith, none, is.2);
+  counted = omega (arith, is.2, ap length (is.1 ∙ drop-length old.held));
   rises = omega (arith, is.2, some);
   within = is.3;
 }
@@ -76,7 +80,7 @@ next-more given held more (next.Line line) rest now lf is = record {
   lines = line-more held more line rest lf is.lines ∙ ap (λ bytes. line ∷ lines_of bytes) (behind_line-append held more lf ∙ ap (λ bytes. bytes ++ more) (sym is.behind));
   behind = ap (λ bytes. bytes ++ more) is.behind ∙ sym (behind_line-append held more lf);
   short = rw (position_or_len-within is_lf held more lf) is.short;
-  counted = rw (size_of_line-append held more lf) is.counted;
+  counted = omega (arith, is.counted, length-append rest more, length-append held more);
   rises = is.rises;
   within = is.within;
 }

@@ -45,4 +45,4 @@ script_limit = 268435456
 
 -- no more is held than a line at its limit and one read
 abbrev pub most_held : ℕ
-most_held = 1052672
+most_held = line_limit + 4096

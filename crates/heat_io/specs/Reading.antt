@@ -1,5 +1,5 @@
 -- What a reader of lines holds, and what the next line comes to.
-use Rattle.std.specs.Prelude.{◌≡◌, ℕ, ◌+◌, ◌<◌, ◌≤◌, Bool, true, false, List, [], ◌∷◌, length, take, drop, Option, Some}
+use Rattle.std.specs.Prelude.{◌≡◌, ℕ, ◌+◌, ◌<◌, ◌≤◌, Bool, true, false, List, [], ◌∷◌, ◌++◌, length, take, drop, Option, Some}
 use Rattle.heat_io.specs.declared.next.Next.{Next}
 use Rattle.heat_io.specs.declared.next.Next.TheVariants as next
 use Rattle.heat_io.specs.Lines.{lines_of, length_of_line, behind_line, size_of_line, line_limit, script_limit}
@@ -18,7 +18,8 @@ pub record GivesLine (given : ℕ) (bytes line rest : List ℕ) (now : ℕ) : Ty
   pub lines : lines_of bytes ≡ line ∷ lines_of rest
   pub behind : rest ≡ behind_line bytes
   pub short : length_of_line bytes ≤ line_limit
-  pub counted : now ≡ given + size_of_line bytes
+  -- no byte is left out of the count
+  pub counted : now + length rest ≡ given + length bytes
   pub rises : given < now
   pub within : now ≤ script_limit
 
@@ -42,6 +43,17 @@ IsNext given bytes next.Memory rest now = Stays given bytes rest now
 abbrev pub IsNextOf : ℕ → Option (List ℕ) → Next → Option (List ℕ) → ℕ → Type 0
 IsNextOf given old result new now =
     (bytes : List ℕ) → old ≡ Some bytes → (rest : List ℕ) × (new ≡ Some rest) × IsNext given bytes result rest now
+
+-- Lines that were read one after another, from a script of which so many bytes were given before.
+pub data Reads (given : ℕ) (bytes : List ℕ) : List (List ℕ) → List ℕ → ℕ → Type 0 where
+  begins : (lines : List (List ℕ)) (rest : List ℕ) (now : ℕ) → lines ≡ [] → rest ≡ bytes → now ≡ given → Reads given bytes lines rest now
+  adds : (before : List (List ℕ)) (ahead : List ℕ) (so_far : ℕ) (line : List ℕ) (lines : List (List ℕ)) (rest : List ℕ) (now : ℕ)
+    → Reads given bytes before ahead so_far → GivesLine so_far ahead line rest now → lines ≡ before ++ line ∷ [] → Reads given bytes lines rest now
+
+-- They are the first lines of the script, and all of its bytes are counted.
+pub record AreLines (given : ℕ) (bytes : List ℕ) (lines : List (List ℕ)) (rest : List ℕ) (now : ℕ) : Type 0 where
+  pub lines_are : lines_of bytes ≡ lines ++ lines_of rest
+  pub counted : now + length rest ≡ given + length bytes
 
 abbrev pub is_line : Next → Bool
 is_line (next.Line line) = true

@@ -5,6 +5,7 @@
 
 mod calls;
 mod held;
+pub mod laws;
 mod lines;
 mod mem_sink;
 mod mem_source;
