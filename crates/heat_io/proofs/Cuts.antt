@@ -1,11 +1,10 @@
 -- The first line of a script, and what is behind it.
-use Rattle.std.proofs.Common.{◌≡◌, ℕ, suc, zero, ◌+◌, ◌-◌, ◌<◌, ◌≤◌, List, [], ◌∷◌, ◌++◌, Bool, true, false, cond, ◌&&◌, length, take, drop, get_or, min, refl, ap, sym, ◌∙◌, arith, rules, ltb, eqb, length-append, length-drop, length-take}
-use Rattle.std.specs.List.{position_or_len, after_first}
-use Rattle.std.specs.Io.BufRead.{strip_last, ends_with_byte}
+use Rattle.std.proofs.Common.{◌≡◌, ℕ, suc, ◌+◌, ◌<◌, List, [], ◌∷◌, ◌++◌, Bool, true, false, length, take, refl, ap, sym, ◌∙◌, arith, length-append}
+use Rattle.std.specs.Io.BufRead.{strip_last}
 use Rattle.std.proofs.lemmas.List.{drop-append-le}
 use Rattle.std.proofs.Math.ListN.{drop_of_length-le}
 use Rattle.heat_io.proofs.Ends.{position_or_len-within}
-use Rattle.heat_io.specs.Lines.{is_lf, is_cr_of_end, onto_first, lines_of, length_of_line, behind_line, size_of_line}
+use Rattle.heat_io.specs.Lines.{is_lf, onto_first, lines_of, length_of_line, behind_line, size_of_line}
 
 -- a byte in front of two or more changes nothing at their end
 pub strip_last-cons : (byte b c : ℕ) (xs : List ℕ) → strip_last byte (b ∷ c ∷ xs) ≡ b ∷ strip_last byte (c ∷ xs)
@@ -33,9 +32,9 @@ lines_of-two b c xs false false b_is c_is rest lt =
     let ends = length_of_line-cons b (c ∷ xs) b_is in
     let next = length_of_line-cons c xs c_is in
     let line : b ∷ strip_last 13 (take (length_of_line (c ∷ xs)) (c ∷ xs)) ≡ strip_last 13 (take (length_of_line (b ∷ c ∷ xs)) (b ∷ c ∷ xs)) =
-      ap (λ count. b ∷ strip_last 13 (take count (c ∷ xs))) next
-      ∙ sym (strip_last-cons 13 b c (take (length_of_line xs) xs))
-      ∙ sym (ap (λ count. strip_last 13 (take count (b ∷ c ∷ xs))) (ends ∙ ap suc next)) in
+    ap (λ count. b ∷ strip_last 13 (take count (c ∷ xs))) next
+    ∙ sym (strip_last-cons 13 b c (take (length_of_line xs) xs))
+    ∙ sym (ap (λ count. strip_last 13 (take count (b ∷ c ∷ xs))) (ends ∙ ap suc next)) in
     lines_of-inner b c xs b_is c_is
     ∙ ap (onto_first b) (rest (omega (arith, lt, ends)))
     ∙ ap (λ first. first ∷ lines_of (behind_line (c ∷ xs))) line

@@ -1,6 +1,6 @@
 -- The first LF of bytes that were searched in part, and of bytes with more behind.
-use Rattle.std.proofs.Common.{◌≡◌, ℕ, suc, zero, ◌+◌, ◌-◌, ◌<◌, ◌≤◌, List, [], ◌∷◌, ◌++◌, Bool, true, false, cond, length, take, drop, min, refl, ap, sym, ◌∙◌, arith, rules, ltb, eqb, not, Option, Some, None, length-append, length-drop}
-use Rattle.std.specs.List.{position, position_or_len, prefix_len, after_first}
+use Rattle.std.proofs.Common.{◌≡◌, ℕ, suc, zero, ◌+◌, ◌-◌, ◌<◌, ◌≤◌, List, [], ◌∷◌, ◌++◌, Bool, false, cond, length, take, drop, ap, sym, ◌∙◌, arith, eqb, not, Option, Some, None, length-drop}
+use Rattle.std.specs.List.{position, position_or_len}
 use Rattle.std.specs.Option.{option_map, is_some}
 use Rattle.std.proofs.lemmas.List.{take_all}
 use Rattle.std.proofs.lemmas.List.Sums.{prefix_len-le-length}

@@ -1,14 +1,14 @@
 -- What the next line comes to, by what was given, and with more behind.
-use Rattle.std.proofs.Common.{◌≡◌, ◌≢◌, ◌⊎◌, inl, inr, ⊎_elim, ℕ, ◌+◌, ◌-◌, ◌<◌, ◌≤◌, List, [], ◌∷◌, ◌++◌, length, take, drop, get_or, min, refl, ap, sym, ◌∙◌, subst, arith, rules, Option, Some, None, length-append, length-drop, append-nil}
+use Rattle.std.proofs.Common.{◌≡◌, ℕ, ◌+◌, ◌<◌, ◌≤◌, List, [], ◌∷◌, ◌++◌, length, take, drop, get_or, refl, ap, sym, ◌∙◌, subst, arith, Option, Some, None, length-append, length-drop, append-nil}
 use Rattle.std.specs.Io.BufRead.{strip_last}
 use Rattle.std.proofs.lemmas.List.{take-append-le, take-append-drop}
 use Rattle.std.proofs.Math.Seq.{take-length, drop-length}
 use Rattle.heat_io.specs.declared.next.Next.{Next}
 use Rattle.heat_io.specs.declared.next.Next.TheVariants as next
 use Rattle.heat_io.specs.Streams.{ahead, IsEmptied}
-use Rattle.heat_io.specs.Lines.{is_lf, lines_of, length_of_line, behind_line, size_of_line, line_limit, script_limit}
-use Rattle.heat_io.specs.Reading.{Reader, GivesLine, Stays, IsNext, IsNextOf, IsGiven}
-use Rattle.heat_io.proofs.Ends.{position_or_len-le, position_or_len-within, position_or_len-grows}
+use Rattle.heat_io.specs.Lines.{is_lf, lines_of, length_of_line, behind_line, line_limit}
+use Rattle.heat_io.specs.Reading.{Reader, Stays, IsNext, IsNextOf, IsGiven}
+use Rattle.heat_io.proofs.Ends.{position_or_len-within, position_or_len-grows}
 use Rattle.heat_io.proofs.Cuts.{lines_of-lf, lines_of-end, behind_line-append, size_of_line-append, behind_line-end}
 
 -- the line without its CR, by its length
@@ -16,7 +16,7 @@ pub front_is : (held seen : List ℕ) (count len : ℕ) → seen ≡ held → co
     → take len (take count seen) ≡ strip_last 13 (take count seen) → take len held ≡ strip_last 13 (take (length_of_line held) held)
 front_is held seen count len same ends within is =
     let whole : take len (take count seen) ≡ take len held =
-      sym (take-append-le len (take count seen) (drop count seen) within) ∙ ap (take len) (take-append-drop count seen ∙ same) in
+    sym (take-append-le len (take count seen) (drop count seen) within) ∙ ap (take len) (take-append-drop count seen ∙ same) in
     sym whole ∙ is ∙ ap (λ n. strip_last 13 (take n seen)) ends ∙ ap (λ bytes. strip_last 13 (take (length_of_line held) bytes)) same
 
 counted_lf : (bytes rest : List ℕ) (given now : ℕ) → length_of_line bytes < length bytes → rest ≡ behind_line bytes
@@ -69,9 +69,9 @@ line-more held more line rest lf is =
     let first = ap (λ lines. get_or lines 0 []) (sym (lines_of-lf held lf) ∙ is) in
     lines_of-lf (held ++ more) (omega (arith, lf, within, length-append held more))
     ∙ ap (λ bytes. bytes ∷ lines_of (behind_line (held ++ more)))
-        (ap (λ count. strip_last 13 (take count (held ++ more))) within
-        ∙ ap (strip_last 13) (take-append-le (length_of_line held) held more (omega (arith, lf)))
-        ∙ first)
+    (ap (λ count. strip_last 13 (take count (held ++ more))) within
+    ∙ ap (strip_last 13) (take-append-le (length_of_line held) held more (omega (arith, lf)))
+    ∙ first)
 
 -- more behind the first line's LF changes nothing
 pub next-more : (given : ℕ) (held more : List ℕ) (result : Next) (rest : List ℕ) (now : ℕ) → length_of_line held < length held

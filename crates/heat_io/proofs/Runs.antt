@@ -1,7 +1,7 @@
 -- Lines that were read one after another.
-use Rattle.std.proofs.Common.{◌≡◌, ℕ, ◌+◌, List, [], ◌∷◌, ◌++◌, length, sym, ◌∙◌, ap, arith, append_assoc}
+use Rattle.std.proofs.Common.{ℕ, List, [], ◌∷◌, ◌++◌, length, sym, ◌∙◌, ap, arith, append_assoc}
 use Rattle.heat_io.specs.Lines.{lines_of}
-use Rattle.heat_io.specs.Reading.{Reads, begins, adds, GivesLine, AreLines}
+use Rattle.heat_io.specs.Reading.{Reads, begins, adds, AreLines}
 
 pub are_lines : (given : ℕ) (bytes : List ℕ) (lines : List (List ℕ)) (rest : List ℕ) (now : ℕ) → Reads given bytes lines rest now → AreLines given bytes lines rest now
 are_lines given bytes _ _ _ (begins lines rest now empty same count) = record {

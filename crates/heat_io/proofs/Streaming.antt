@@ -23,9 +23,9 @@ gives_piece all seen buf read count same some within moved = record {
   some = some;
   within = within;
   first =
-    let rest : take (length seen - read) (drop read seen) ≡ drop read all =
+      let rest : take (length seen - read) (drop read seen) ≡ drop read all =
       take_all (length seen - read) (drop read seen) (omega (arith, length-drop read seen)) ∙ ap (drop read) same in
-    ap Some (sym (take-append-drop count (drop read all))
-    ∙ ap (λ front. front ++ drop count (drop read all)) (sym (moved ∙ ap (take count) rest))
-    ∙ ap (λ behind. take count buf ++ behind) (drop-drop count read all));
+      ap Some (sym (take-append-drop count (drop read all))
+      ∙ ap (λ front. front ++ drop count (drop read all)) (sym (moved ∙ ap (take count) rest))
+      ∙ ap (λ behind. take count buf ++ behind) (drop-drop count read all));
 }

@@ -1,5 +1,5 @@
 -- What a reader holds after one read, and after reading on to a line's end.
-use Rattle.std.specs.Prelude.{◌≡◌, ℕ, ◌<◌, ◌≤◌, List, [], ◌++◌, length, Option}
+use Rattle.std.specs.Prelude.{◌≡◌, ℕ, ◌<◌, ◌≤◌, List, ◌++◌, length, Option}
 use Rattle.heat_io.specs.declared.held.Filled.{Filled}
 use Rattle.heat_io.specs.declared.held.Filled.TheVariants as filled
 use Rattle.heat_io.specs.declared.held.Found.{Found}

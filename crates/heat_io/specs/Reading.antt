@@ -48,7 +48,7 @@ IsNextOf given old result new now =
 pub data Reads (given : ℕ) (bytes : List ℕ) : List (List ℕ) → List ℕ → ℕ → Type 0 where
   begins : (lines : List (List ℕ)) (rest : List ℕ) (now : ℕ) → lines ≡ [] → rest ≡ bytes → now ≡ given → Reads given bytes lines rest now
   adds : (before : List (List ℕ)) (ahead : List ℕ) (so_far : ℕ) (line : List ℕ) (lines : List (List ℕ)) (rest : List ℕ) (now : ℕ)
-    → Reads given bytes before ahead so_far → GivesLine so_far ahead line rest now → lines ≡ before ++ line ∷ [] → Reads given bytes lines rest now
+      → Reads given bytes before ahead so_far → GivesLine so_far ahead line rest now → lines ≡ before ++ line ∷ [] → Reads given bytes lines rest now
 
 -- They are the first lines of the script, and all of its bytes are counted.
 pub record AreLines (given : ℕ) (bytes : List ℕ) (lines : List (List ℕ)) (rest : List ℕ) (now : ℕ) : Type 0 where

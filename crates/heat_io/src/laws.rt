@@ -6,5 +6,4 @@ ghost use Rattle.heat_io.specs.Reading.{Reads, AreLines};
 pub fn lines_read_are_lines_of()
     ensures { (given : ℕ) (bytes : List ℕ) (lines : List (List ℕ)) (rest : List ℕ) (now : ℕ)
         → Reads given bytes lines rest now → AreLines given bytes lines rest now }
-{
-}
+{}

@@ -6,13 +6,12 @@ ghost use Rattle.heat_io.specs.Streams.{ahead};
 ghost use Rattle.heat_io.specs.Lines.{length_of_line, line_limit, script_limit, most_held};
 ghost use Rattle.heat_io.specs.Reading.{IsNext, IsNextOf, IsGiven, is_line};
 
+pub use crate::held::LINE_LIMIT;
 use crate::held::{Found, Held};
 use crate::next::Next;
 use crate::source::Source;
 use std::alloc::Global;
 use std::marker::Model;
-
-pub use crate::held::LINE_LIMIT;
 
 /// The most bytes of a script, with all ends of lines.
 pub const SCRIPT_LIMIT: u64 = 268_435_456;

@@ -124,7 +124,10 @@ fn counted(alloc: Global, source: &mut Endless) -> (u32, u8) {
 #[test]
 fn a_source_that_goes_on_for_ever_ends(rt: HostRuntime) -> Result<(), Fail> {
     assert_eq!(rt; counted(rt.alloc(), &mut Endless { last: b'x' }), (0, b'L'));
-    assert_eq!(rt; counted(rt.alloc(), &mut Endless { last: b'\n' }), (65_536, b'S'));
+    assert_eq!(rt;
+        counted(rt.alloc(), &mut Endless { last: b'\n' }),
+        (65_536, b'S')
+    );
     Ok(())
 }
 
@@ -145,7 +148,14 @@ fn the_listed_write_fails(rt: HostRuntime) -> Result<(), Fail> {
     for (call, want) in wants.iter().enumerate() {
         let mut sink = MemSink::new(rt.alloc(), 2, &[call as u64 + 1])?;
         let put = put_all(&mut sink, b"abcde");
-        assert_eq!(rt; put, if call < 3 { Err(PutFault::WriteFault) } else { Ok(()) });
+        assert_eq!(rt;
+            put,
+            if call < 3 {
+                Err(PutFault::WriteFault)
+            } else {
+                Ok(())
+            }
+        );
         assert_eq!(rt; sink.held(), *want);
         assert_eq!(rt; sink.faults(), u64::from(call < 3));
     }
@@ -165,7 +175,10 @@ impl Read for Broken {
 #[test]
 fn readers_of_std(rt: HostRuntime) -> Result<(), Fail> {
     let mut slice = StdSource::new(b"ab\r\nc".as_slice());
-    assert_eq!(rt; told(rt.alloc(), &mut slice)?.as_slice(), b"ab;c;E".as_slice());
+    assert_eq!(rt;
+        told(rt.alloc(), &mut slice)?.as_slice(),
+        b"ab;c;E".as_slice()
+    );
     assert_eq!(rt; slice.faults(), 0);
     let mut broken = StdSource::new(Broken);
     assert_eq!(rt; told(rt.alloc(), &mut broken)?.as_slice(), b"F".as_slice());

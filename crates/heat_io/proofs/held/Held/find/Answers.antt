@@ -1,4 +1,4 @@
-use Rattle.std.proofs.Common.{◌≡◌, ◌≤◌, length, ap, arith}
+use Rattle.std.proofs.Common.{arith}
 use Rattle.heat_io.specs.Lines.{is_lf}
 use Rattle.heat_io.proofs.Ends.{position_or_len-none, searched_more}
 use Rattle.heat_io.proofs.held.Held.find.Goals as goal
@@ -14,4 +14,4 @@ line_end-end-requires-in-loop-self-clause-searched g c =
     let came = c.in-More.ensures.filled in
     rw c.len-searched.ensures.held
     (searched_more is_lf c.loop-self.self came.0 c.fill.new.self came.2
-      (position_or_len-none is_lf c.loop-self.self c.loop-self.end c.loop-self-test.ensures c.loop-self.invariant.searched))
+    (position_or_len-none is_lf c.loop-self.self c.loop-self.end c.loop-self-test.ensures c.loop-self.invariant.searched))

@@ -1,4 +1,4 @@
-use Rattle.std.proofs.Common.{sym, None, Some}
+use Rattle.std.proofs.Common.{None, Some}
 use Rattle.heat_io.specs.Lines.{is_lf}
 use Rattle.heat_io.proofs.Ends.{position_is}
 use Rattle.heat_io.proofs.held.Held.line_end.Goals as goal
