@@ -3,3 +3,8 @@ pub mod Tables
 pub mod Graphs
 pub mod State
 pub mod Changes
+pub mod Reads
+pub mod Resolve
+pub mod Commands
+pub mod Turns
+pub mod Steps
