@@ -51,29 +51,36 @@ pub data QuietTurn (s : StateData) (e : ℕ) (cs : List Change) (es : List Entry
       → cs ≡ finished_changes e k.row k.point (PutStack (completed k.stack) ∷ [])
       → es ≡ finished_entries e k.row (complete_mark_entry e k.stack ∷ []) → QuietTurn s e cs es
 
--- one turn of the engine e that asks the provider, and what it answered
-pub data CallingTurn (s : StateData) (e : ℕ) (cs : List Change) (es : List Entry) : Type 0 where
-  begun : (k : Creating s e Asking) → k.row.key + 1 < 2 ^ 62
-      → cs ≡ asked_changes k.job → es ≡ asked_entries e k.job k.row → CallingTurn s e cs es
-  refused : (k : Creating s e Asking) (given : Answered) (reason : Why) → k.row.key + 1 < 2 ^ 62
+-- one turn of the engine e that asks for a create, and was given this answer
+pub data AskingTurn (s : StateData) (e : ℕ) (given : Answered) (cs : List Change) (es : List Entry) : Type 0 where
+  begun : (k : Creating s e Asking) → k.row.key + 1 < 2 ^ 62 → given ≡ answer.Begun
+      → cs ≡ asked_changes k.job → es ≡ asked_entries e k.job k.row → AskingTurn s e given cs es
+  refused : (k : Creating s e Asking) (reason : Why) → k.row.key + 1 < 2 ^ 62
       → IsFailure k.row (created_with k.row) given reason
       → cs ≡ failed_changes e k.stack k.row → es ≡ failed_entries e k.stack k.row (created_with k.row) given reason
-      → CallingTurn s e cs es
-  waits : (k : Creating s e Polling) → k.row.key + 1 < 2 ^ 62
-      → cs ≡ [] → es ≡ call_entry e k.row request.Poll answer.NotYet ∷ [] → CallingTurn s e cs es
-  ready : (k : Creating s e Polling) (facts : Facts) → k.row.key + 1 < 2 ^ 62
-      → cs ≡ ready_changes k.job k.row facts → es ≡ ready_entries e k.job k.row facts → CallingTurn s e cs es
-  broken : (k : Creating s e Polling) (given : Answered) (reason : Why) → k.row.key + 1 < 2 ^ 62
+      → AskingTurn s e given cs es
+
+-- one turn of the engine e that polls a create, and was given this answer
+pub data PollingTurn (s : StateData) (e : ℕ) (given : Answered) (cs : List Change) (es : List Entry) : Type 0 where
+  waits : (k : Creating s e Polling) → k.row.key + 1 < 2 ^ 62 → given ≡ answer.NotYet
+      → cs ≡ [] → es ≡ call_entry e k.row request.Poll given ∷ [] → PollingTurn s e given cs es
+  ready : (k : Creating s e Polling) (facts : Facts) → k.row.key + 1 < 2 ^ 62 → given ≡ answer.Ready facts
+      → cs ≡ ready_changes k.job k.row facts → es ≡ ready_entries e k.job k.row facts → PollingTurn s e given cs es
+  broken : (k : Creating s e Polling) (reason : Why) → k.row.key + 1 < 2 ^ 62
       → IsFailure k.row request.Poll given reason
       → cs ≡ failed_changes e k.stack k.row → es ≡ failed_entries e k.stack k.row request.Poll given reason
-      → CallingTurn s e cs es
-  -- the answer's size wasn't known, and there was no memory for what follows from it
-  unstored : (k : Creating s e Polling) (given : Answered) → IsOfUnknownSize given
-      → cs ≡ [] → es ≡ call_entry e k.row request.Poll given ∷ [] → CallingTurn s e cs es
+      → PollingTurn s e given cs es
+
+-- the answer's size wasn't known, and there was no memory for what follows from it: the call alone is told
+pub data UnstoredTurn (s : StateData) (e : ℕ) (given : Answered) (cs : List Change) (es : List Entry) : Type 0 where
+  unstored : (k : Creating s e Polling) → IsOfUnknownSize given
+      → cs ≡ [] → es ≡ call_entry e k.row request.Poll given ∷ [] → UnstoredTurn s e given cs es
 
 -- a step's changes and entries
 pub data Step (s : StateData) (cs : List Change) (es : List Entry) : Type 0 where
   command : CommandStep s cs es → Step s cs es
   quiet : (e : ℕ) → QuietTurn s e cs es → Step s cs es
-  calling : (e : ℕ) → CallingTurn s e cs es → Step s cs es
+  asking : (e : ℕ) (given : Answered) → AskingTurn s e given cs es → Step s cs es
+  polling : (e : ℕ) (given : Answered) → PollingTurn s e given cs es → Step s cs es
+  unstored : (e : ℕ) (given : Answered) → UnstoredTurn s e given cs es → Step s cs es
   note : (it : What) → IsNote it → cs ≡ [] → es ≡ record { by = Main; what = it } ∷ [] → Step s cs es
