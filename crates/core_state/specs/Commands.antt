@@ -137,13 +137,13 @@ created_changes s name plan k =
     SetNumbers (drawn s.next (length plan.items) (length k.leaves))
     ∷ PutStack (new_stack s.next name plan)
     ∷ (map PutRow (new_rows name s.next.trav s.next.row plan.items)
-      ++ (PutGraph (record { stack = name; graph = k.graph; points = fresh_points name 0 k.graph.nodes })
-        ∷ map Send (letters_to name s.next.trav s.next.letter k.leaves)))
+    ++ (PutGraph (record { stack = name; graph = k.graph; points = fresh_points name 0 k.graph.nodes })
+    ∷ map Send (letters_to name s.next.trav s.next.letter k.leaves)))
 
 -- the command, the rows, the letters, and the mark where there is nothing to do
 abbrev pub created_entries : (s : StateData) (name : List ℕ) (plan : PlanData) → Creates s name plan → List Entry
 created_entries s name plan k =
     record { by = Main; what = what.Command name s.next.trav Create (Some plan) }
     ∷ (set_entry Main (new_rows name s.next.trav s.next.row plan.items)
-      ++ (sent_entry Main (letters_to name s.next.trav s.next.letter k.leaves)
-        ++ complete_entry Main name s.next.trav plan.items))
+    ++ (sent_entry Main (letters_to name s.next.trav s.next.letter k.leaves)
+    ++ complete_entry Main name s.next.trav plan.items))

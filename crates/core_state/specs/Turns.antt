@@ -110,7 +110,7 @@ begun_row r item trav props = record r {
   props = props;
   trav = trav;
   requires_ = [];
-  policy = item.policy
+  policy = item.policy;
 }
 
 abbrev pub begun_changes : Job → Row → List Change
@@ -160,7 +160,7 @@ ready_row r facts = record r {
   status = Complete;
   props = unwrap_or r.target r.props;
   target = None;
-  facts = Some facts
+  facts = Some facts;
 }
 
 abbrev pub ready_changes : Job → Row → Facts → List Change
