@@ -1,5 +1,5 @@
 -- A cut, from the last record to the first.
-use Rattle.std.proofs.Common.{◌≡◌, ◌<◌, ◌≤◌, ◌+◌, ◌-◌, ◌∙◌, ℕ, Bool, true, false, cond, List, [], ◌∷◌, ◌++◌, length, get_or, take, drop, refl, sym, ap, append_assoc, append-nil, arith}
+use Rattle.std.proofs.Common.{◌≡◌, ◌<◌, ◌+◌, ◌∙◌, ℕ, Bool, true, false, cond, List, [], ◌∷◌, ◌++◌, length, get_or, take, drop, refl, sym, ap, append_assoc, append-nil, arith}
 use Rattle.std.specs.Prelude.{remove, not}
 use Rattle.std.proofs.lemmas.List.{take_more, drop_more, length-take-le, get_or_push}
 use Rattle.std.proofs.lemmas.List.Edits.{remove-append_left}
@@ -28,7 +28,7 @@ part xs ys j x lt read =
     let n : length (take j xs) ≡ j = length-take-le j xs (omega arith) in
     let m : length (take (j + 1) xs) ≡ j + 1 = length-take-le (j + 1) xs (omega arith) in
     sym (read ∙ get_or-append (take (j + 1) xs) ys x j (omega arith)
-      ∙ ap (λ (l : List _). get_or l j x) (take_more xs j x lt) ∙ get_or_push (take j xs) (get_or xs j x) x j n)
+    ∙ ap (λ (l : List _). get_or l j x) (take_more xs j x lt) ∙ get_or_push (take j xs) (get_or xs j x) x j n)
 
 pub cut-hit : {K A : Type 0} (same : K → K → Bool) (key : A → K) (k : K) (xs : List A) (j : ℕ) (x : A)
     → j < length xs → x ≡ get_or (take (j + 1) xs ++ cut same key k (drop (j + 1) xs)) j x → same (key x) k ≡ true
@@ -40,7 +40,7 @@ cut-hit same key k xs j x lt read hit =
     let m : length (take (j + 1) xs) ≡ j + 1 = length-take-le (j + 1) xs (omega arith) in
     remove-append_left (take (j + 1) xs) (cut same key k (drop (j + 1) xs)) j (omega arith)
     ∙ ap (λ (l : List _). l ++ cut same key k (drop (j + 1) xs))
-      (ap (λ (l : List _). remove l j) (take_more xs j x lt) ∙ ap (λ (i : ℕ). remove (take j xs ++ get_or xs j x ∷ []) i) (sym n) ∙ remove-last (take j xs) (get_or xs j x))
+    (ap (λ (l : List _). remove l j) (take_more xs j x lt) ∙ ap (λ (i : ℕ). remove (take j xs ++ get_or xs j x ∷ []) i) (sym n) ∙ remove-last (take j xs) (get_or xs j x))
     ∙ ap (λ (l : List _). take j xs ++ l) (sym (ap (cut same key k) (drop_more xs j x lt ∙ ap (λ (y : _). y ∷ drop (j + 1) xs) e) ∙ ap (λ (b : Bool). cond (not b) (x ∷ cut same key k (drop (j + 1) xs)) (cut same key k (drop (j + 1) xs))) hit))
 
 pub cut-miss : {K A : Type 0} (same : K → K → Bool) (key : A → K) (k : K) (xs : List A) (j : ℕ) (x : A)

@@ -1,5 +1,5 @@
 -- The step of a create command: its conditions, its changes and its entries.
-use Rattle.std.specs.Prelude.{◌≡◌, ◌<◌, ◌≤◌, ◌⊎◌, ◌+◌, ◌^◌, ℕ, List, [], ◌∷◌, ◌++◌, Option, Some, None, length, map}
+use Rattle.std.specs.Prelude.{◌≡◌, ◌<◌, ◌≤◌, ◌+◌, ◌^◌, ℕ, List, [], ◌∷◌, ◌++◌, Some, None, length, map}
 use Rattle.dep_graph.specs.Lists.{ListsAll}
 use Rattle.heat_value.specs.Data.{no_members}
 use Rattle.heat_plan.specs.Plans.{PlanData}
@@ -12,7 +12,6 @@ use Rattle.traversal_graph.specs.Nodes.{IsBuilt}
 use Rattle.traversal_graph.specs.declared.shape.TravGraph.{TravGraph}
 use Rattle.core_state.specs.declared.stack.Stack.{Stack}
 use Rattle.core_state.specs.declared.row.Row.{Row}
-use Rattle.core_state.specs.declared.graph.Graph.{Graph}
 use Rattle.core_state.specs.declared.mail.Letter.{Letter}
 use Rattle.core_state.specs.declared.numbers.Numbers.{Numbers}
 use Rattle.core_state.specs.declared.change.Change.{Change}

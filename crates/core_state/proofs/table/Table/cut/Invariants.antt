@@ -1,4 +1,4 @@
-use Rattle.std.proofs.Common.{◌≡◌, ◌++◌, ◌≤◌, ◌<◌, take, drop, length}
+use Rattle.std.proofs.Common.{◌≡◌, ◌++◌, ◌≤◌, take, drop}
 use Rattle.core_state.specs.Tables.{cut}
 use Rattle.core_state.proofs.table.Table.cut.Given as goal
 
