@@ -1,5 +1,5 @@
 -- The words of a report's lines.
-use Rattle.std.specs.Prelude.{ℕ, List, [], ◌∷◌, ◌++◌, Option, Some, None, option_map, codes, decimal}
+use Rattle.std.specs.Prelude.{ℕ, List, [], ◌∷◌, ◌++◌, Option, Some, None, codes}
 use Rattle.heat_value.specs.Path.{path_text}
 use Rattle.heat_value.specs.declared.path.Step.{Step}
 use Rattle.heat_plan.specs.declared.phase.Act.{Act}

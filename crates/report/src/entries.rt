@@ -71,7 +71,12 @@ fn cause_line(alloc: Global, cause: &Cause) -> Result<String, AllocError>
     ensures { IfOk result (λ s. string_bytes s ≡ cause_line cause.now) }
 {
     let why = why_text(alloc, &cause.why)?;
-    format!(in alloc; "{} {} {}\n", cause.name.as_str(), cause.row.get(), why.as_str())
+    format!(in alloc;
+        "{} {} {}\n",
+        cause.name.as_str(),
+        cause.row.get(),
+        why.as_str()
+    )
 }
 
 fn mark_line(
@@ -109,11 +114,7 @@ fn ran_line(alloc: Global, idle: bool, turns: u128) -> Result<String, AllocError
     }
 }
 
-fn turned_line(
-    alloc: Global,
-    engine: EngineNo,
-    lost: bool,
-) -> Result<String, AllocError>
+fn turned_line(alloc: Global, engine: EngineNo, lost: bool) -> Result<String, AllocError>
     ensures { IfOk result (λ s. string_bytes s ≡ turned_line engine lost) }
 {
     if lost {
@@ -156,16 +157,15 @@ fn show_text(
 }
 
 /// The line of an entry that writes no row.
-pub(crate) fn entry_line(
-    alloc: Global,
-    seen: &Seen<'_>,
-    what: &What,
-) -> Result<String, AllocError>
+pub(crate) fn entry_line(alloc: Global, seen: &Seen<'_>, what: &What) -> Result<String, AllocError>
     ensures { IfOk result (λ s. string_bytes s ≡ line_of seen.now what.now) }
 {
     match what {
         What::Command {
-            stack, trav, act, ..
+            stack,
+            trav,
+            act,
+            ..
         } => command_line(alloc, stack, *trav, *act),
         What::Mark {
             stack,

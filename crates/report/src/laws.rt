@@ -8,5 +8,4 @@ ghost use Rattle.report.specs.Text.{IsParted};
 pub fn text_is_parted()
     ensures { (opening : StateData) (entries : List Entry) (from : ℕ)
         → IsParted opening entries from }
-{
-}
+{}

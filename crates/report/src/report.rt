@@ -37,11 +37,7 @@ fn pass<'a>(seen: &mut Seen<'a>, entries: &'a [Entry]) -> Result<(), AllocError>
 }
 
 // The text of entries, given the rows that were seen before them.
-fn tell<'a>(
-    alloc: Global,
-    seen: &mut Seen<'a>,
-    entries: &'a [Entry],
-) -> Result<String, AllocError>
+fn tell<'a>(alloc: Global, seen: &mut Seen<'a>, entries: &'a [Entry]) -> Result<String, AllocError>
     ensures { IfOk result (λ s. string_bytes s ≡ told seen.old entries.now) }
 {
     let mut text = String::new(alloc);
