@@ -1,0 +1,10 @@
+pub mod Rooms
+pub mod Tables
+pub mod Graphs
+pub mod State
+pub mod Changes
+pub mod Reads
+pub mod Resolve
+pub mod Commands
+pub mod Turns
+pub mod Steps

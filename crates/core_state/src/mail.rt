@@ -1,0 +1,88 @@
+//! Letters that wait for an engine, and the jobs that engines have.
+ghost use Rattle.std.specs.Prelude.{nat_eq};
+
+use crate::table::Keyed;
+use heat_plan::{EngineNo, LetterNo, RowNo, StackName, TravNo};
+use heat_value::TryCopy;
+use std::alloc::AllocError;
+
+/// A letter: somebody is to work at a node of this traversal's graph.
+#[derive(Debug, Drop)]
+pub struct Letter {
+    pub no: LetterNo,
+    pub stack: StackName,
+    pub trav: TravNo,
+    pub node: u32,
+}
+
+/// How far a job is.
+#[derive(Clone, Copy, Debug, PartialEq, Eq)]
+pub enum Stage {
+    Taken,
+    Asking,
+    Polling,
+    Ending,
+}
+
+/// A job: the engine that has it, the letter that it answers, the row that it works at, and its stage.
+#[derive(Debug, Drop)]
+pub struct Job {
+    pub engine: EngineNo,
+    pub letter: Letter,
+    pub row: RowNo,
+    pub stage: Stage,
+}
+
+impl Keyed for Letter {
+    type Key = LetterNo;
+
+    ghost key_of = { λ l. l.no };
+
+    ghost same = { nat_eq };
+
+    fn has_key(&self, key: &LetterNo) -> bool {
+        self.no == *key
+    }
+
+    fn shares_key(&self, other: &Letter) -> bool {
+        self.no == other.no
+    }
+}
+
+impl Keyed for Job {
+    type Key = EngineNo;
+
+    ghost key_of = { λ j. j.engine };
+
+    ghost same = { nat_eq };
+
+    fn has_key(&self, key: &EngineNo) -> bool {
+        self.engine == *key
+    }
+
+    fn shares_key(&self, other: &Job) -> bool {
+        self.engine == other.engine
+    }
+}
+
+impl TryCopy for Letter {
+    fn copy(&self) -> Result<Letter, AllocError> {
+        Ok(Letter {
+            no: self.no,
+            stack: self.stack.copy()?,
+            trav: self.trav,
+            node: self.node,
+        })
+    }
+}
+
+impl TryCopy for Job {
+    fn copy(&self) -> Result<Job, AllocError> {
+        Ok(Job {
+            engine: self.engine,
+            letter: self.letter.copy()?,
+            row: self.row,
+            stage: self.stage,
+        })
+    }
+}

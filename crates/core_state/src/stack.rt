@@ -1,0 +1,49 @@
+//! A stack and its newest traversal.
+ghost use Rattle.std.specs.Str.{bytes_eq};
+
+use crate::copying::copy_option;
+use crate::table::Keyed;
+use heat_plan::{Act, Plan, StackName, StackNo, Status, TravNo};
+use heat_value::TryCopy;
+use std::alloc::AllocError;
+
+/// A stack: the number of its newest traversal, what that does and how far it is, and its plan. A plan
+/// of None means a delete.
+#[derive(Debug, Drop)]
+pub struct Stack {
+    pub name: StackName,
+    pub no: StackNo,
+    pub trav: TravNo,
+    pub act: Act,
+    pub status: Status,
+    pub plan: Option<Plan>,
+}
+
+impl Keyed for Stack {
+    type Key = StackName;
+
+    ghost key_of = { λ s. s.name };
+
+    ghost same = { bytes_eq };
+
+    fn has_key(&self, key: &StackName) -> bool {
+        self.name == *key
+    }
+
+    fn shares_key(&self, other: &Stack) -> bool {
+        self.name == other.name
+    }
+}
+
+impl TryCopy for Stack {
+    fn copy(&self) -> Result<Stack, AllocError> {
+        Ok(Stack {
+            name: self.name.copy()?,
+            no: self.no,
+            trav: self.trav,
+            act: self.act,
+            status: self.status,
+            plan: copy_option(&self.plan)?,
+        })
+    }
+}

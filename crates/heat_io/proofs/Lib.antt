@@ -1,0 +1,5 @@
+pub mod Ends
+pub mod Streaming
+pub mod Cuts
+pub mod Nexts
+pub mod Runs

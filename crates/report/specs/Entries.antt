@@ -1,0 +1,100 @@
+-- What an entry adds to the text, given the rows that were seen before it.
+use Rattle.std.specs.Prelude.{ℕ, List, [], ◌∷◌, ◌++◌, Bool, cond, Option, Some, None, codes, decimal}
+use Rattle.heat_value.specs.declared.path.Step.{Step}
+use Rattle.heat_plan.specs.declared.phase.Act.{Act}
+use Rattle.heat_plan.specs.declared.phase.Status.{Status}
+use Rattle.heat_plan.specs.declared.phase.Status.TheVariants.{Complete, InProgress, Failed}
+use Rattle.core_state.specs.declared.row.Row.{Row}
+use Rattle.core_state.specs.declared.entry.Cause.{Cause}
+use Rattle.core_state.specs.declared.entry.RowWrite.{RowWrite}
+use Rattle.core_state.specs.declared.entry.EngineChange.{EngineChange}
+use Rattle.core_state.specs.declared.entry.EngineChange.TheVariants.{Start, Stop, Restart}
+use Rattle.core_state.specs.declared.entry.ShowWhat.{ShowWhat}
+use Rattle.core_state.specs.declared.entry.ShowWhat.TheVariants as show
+use Rattle.core_state.specs.declared.entry.What.{What}
+use Rattle.core_state.specs.declared.entry.What.TheVariants as what
+use Rattle.report.specs.Words.{words, line, stand_word, why_text, path_words}
+use Rattle.report.specs.Rows.{after_writes, writes_text, resources_text}
+
+-- `stack <name> <trav> <ACT>_<STATUS>`
+abbrev pub stack_words : List ℕ → ℕ → Act → Status → List ℕ
+stack_words stack trav act status = words (codes "stack" ∷ stack ∷ decimal trav ∷ stand_word act status ∷ [])
+
+abbrev pub stack_line : List ℕ → ℕ → Act → Status → List ℕ
+stack_line stack trav act status = stack_words stack trav act status ++ 10 ∷ []
+
+abbrev pub command_line : List ℕ → ℕ → Act → List ℕ
+command_line stack trav act = stack_line stack trav act InProgress
+
+-- `<name> <row> <why>`
+abbrev pub cause_line : Cause → List ℕ
+cause_line cause = line (cause.name ∷ decimal cause.row ∷ why_text cause.why ∷ [])
+
+-- `stack <name> <trav> <ACT>_FAILED <name> <row> <why>`
+abbrev pub failed_line : List ℕ → ℕ → Act → Cause → List ℕ
+failed_line stack trav act cause =
+    stack_words stack trav act Failed ++ 32 ∷ cause_line cause
+
+abbrev pub mark_line : List ℕ → ℕ → Act → Option Cause → List ℕ
+mark_line stack trav act None = stack_line stack trav act Complete
+mark_line stack trav act (Some cause) = failed_line stack trav act cause
+
+-- `engine <e> started`, `engine <e> stopped`, `restart <e>`
+abbrev pub engine_line : EngineChange → List ℕ
+engine_line (Start e) = line (codes "engine" ∷ decimal e ∷ codes "started" ∷ [])
+engine_line (Stop e) = line (codes "engine" ∷ decimal e ∷ codes "stopped" ∷ [])
+engine_line (Restart e count) = line (codes "restart" ∷ decimal e ∷ [])
+
+-- `idle <m>`, `tired <n>`
+abbrev pub ran_line : Bool → ℕ → List ℕ
+ran_line idle turns = line (cond idle (codes "idle") (codes "tired") ∷ decimal turns ∷ [])
+
+-- `engine <e> idle`, `engine <e> lost`
+abbrev pub turned_line : ℕ → Bool → List ℕ
+turned_line e lost = line (codes "engine" ∷ decimal e ∷ cond lost (codes "lost") (codes "idle") ∷ [])
+
+-- `refused <line> <code>`, and the path where there is one
+abbrev pub note_line : ℕ → List ℕ → Option (List Step) → List ℕ
+note_line number code path = line (codes "refused" ∷ decimal number ∷ code ∷ path_words path)
+
+-- of a stack's status and outputs nothing is told yet
+abbrev pub show_text : ShowWhat → List ℕ → List Row → List ℕ
+show_text show.Status stack seen = []
+show_text show.Resources stack seen = resources_text stack seen
+show_text show.Outputs stack seen = []
+
+-- the line of an entry that writes no row
+abbrev pub line_of : List Row → What → List ℕ
+line_of seen (what.Command stack trav act plan) = command_line stack trav act
+line_of seen (what.Call token request answer) = []
+line_of seen (what.Mark stack trav act cause) = mark_line stack trav act cause
+line_of seen (what.Rows writes) = []
+line_of seen (what.Mail writes) = []
+line_of seen (what.Engine change) = engine_line change
+line_of seen (what.Show shown stack) = show_text shown stack seen
+line_of seen (what.Note number code path) = note_line number code path
+line_of seen (what.Ran idle turns) = ran_line idle turns
+line_of seen (what.Turned engine lost) = turned_line engine lost
+line_of seen what.Closed = []
+
+-- the rows that an entry writes
+abbrev pub writes_of : What → List RowWrite
+writes_of (what.Command stack trav act plan) = []
+writes_of (what.Call token request answer) = []
+writes_of (what.Mark stack trav act cause) = []
+writes_of (what.Rows writes) = writes
+writes_of (what.Mail writes) = []
+writes_of (what.Engine change) = []
+writes_of (what.Show shown stack) = []
+writes_of (what.Note number code path) = []
+writes_of (what.Ran idle turns) = []
+writes_of (what.Turned engine lost) = []
+writes_of what.Closed = []
+
+-- an entry's text: its line, or those of its writes
+abbrev pub what_text : List Row → What → List ℕ
+what_text seen what = line_of seen what ++ writes_text seen (writes_of what)
+
+-- the rows that are seen after an entry
+abbrev pub after_what : List Row → What → List Row
+after_what seen what = after_writes seen (writes_of what)
