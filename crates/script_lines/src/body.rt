@@ -1,16 +1,17 @@
 //! The body of a create, and the plan that it asks for.
-ghost use Rattle.std.specs.Prelude.{◌≡◌, ◌≢◌, ◌↔◌, ◌≤◌, IsTrue, IfOk, IfErr, MatchOption, SomeIff, Contains, option_map, length};
-ghost use Rattle.heat_value.specs.Data.{Data, Members, keys_of};
+ghost use Rattle.std.specs.Prelude.{◌≡◌, ◌≢◌, ◌↔◌, ◌≤◌, IsTrue, IfOk, IfErr, MatchOption, SomeIff, option_map, length, bytes_eq};
+ghost use Rattle.std.specs.List.{list_any};
+ghost use Rattle.heat_value.specs.Data.{Data, Members, Rises, keys_of};
 ghost use Rattle.heat_value.specs.Meaning.{data_of};
 ghost use Rattle.heat_value.specs.Reading.{IsReadAs};
 ghost use Rattle.heat_plan.specs.Plans.{PlanData};
-ghost use Rattle.script_lines.specs.Bodies.{body_of, HasResources, most_resources, IsVersion, versions, IsBody, AreItems, plan_of};
+ghost use Rattle.script_lines.specs.Bodies.{body_of, HasResources, most_resources, IsVersion, IsBody, AreItems, plan_of};
 
 use crate::LineFault;
 use crate::resources::items_of;
 use crate::shapes::{both, fields_of, only};
 use heat_plan::{Item, Plan};
-use heat_value::{Props, Seq, Text, Value, ValueFault};
+use heat_value::{Props, Seq, Value, ValueFault};
 use std::alloc::Global;
 
 /// How many resources a body may have.
@@ -103,22 +104,24 @@ fn has_version(value: &Value) -> bool
     ensures { IsTrue result ↔ IsVersion (data_of value.now) }
 {
     match value {
-        Value::Words(words) => is_version(words),
+        Value::Words(words) => is_among(words.as_str(), &VERSIONS),
         Value::Null | Value::Flag(_) | Value::Whole(_) | Value::Items(_) | Value::Fields(_) => {
             false
         }
     }
 }
 
-fn is_version(text: &Text) -> bool
-    ensures { IsTrue result ↔ Contains versions text.now }
+// Whether a text is one of these.
+fn is_among(text: &str, names: &[&str]) -> bool
+    ensures { result ≡ list_any (λ n. bytes_eq text.now n.now) names.now }
 {
-    VERSIONS.iter().any(|version| *version == text.as_str())
+    names.iter().any(|name| text == *name)
 }
 
 // The plan of items alone.
 fn plan_of_items(alloc: Global, resources: &Props, items: Seq<Item>) -> Plan
-    requires { AreItems resources.now items }
+    requires rising { Rises resources.now }
+    requires items { AreItems resources.now items }
     ensures { result ≡ plan_of items }
 {
     Plan::new(

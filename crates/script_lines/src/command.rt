@@ -7,7 +7,7 @@ ghost use Rattle.script_lines.specs.declared.command.Command.{Command as command
 
 use crate::LineFault;
 use crate::body::plan_of_body;
-use crate::words::{behind_spaces, first_word};
+use crate::words::{behind_spaces, first_word, is_blank};
 use heat_plan::{Plan, StackName};
 use std::alloc::Global;
 
@@ -75,9 +75,10 @@ fn run_asked(rest: &[u8]) -> Result<Command, LineFault>
     ensures ok { IfOk result (λ c. (c ≡ Command.Run) × AreSpaces rest.now) }
     ensures none { IfErr result (λ e. e ≡ LineFault.N00 → ¬ AreSpaces rest.now) }
 {
-    match first_word(rest) {
-        Some(_) => Err(LineFault::N00),
-        None => Ok(Command::Run),
+    if is_blank(rest) {
+        Ok(Command::Run)
+    } else {
+        Err(LineFault::N00)
     }
 }
 
@@ -90,7 +91,7 @@ fn list_asked(alloc: Global, rest: &[u8]) -> Result<Command, LineFault>
     let Some((stack, last)) = first_word(rest) else {
         return Err(LineFault::N00);
     };
-    if first_word(last).is_some() {
+    if !is_blank(last) {
         return Err(LineFault::N00);
     }
     Ok(Command::Resources(stack_of(alloc, stack)?))

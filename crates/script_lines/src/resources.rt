@@ -1,6 +1,6 @@
 //! The resources of a template, each of type `Test::Box`, and their items.
 ghost use Rattle.std.specs.Prelude.{◌≡◌, ◌↔◌, IsTrue, IfOk, IfErr, MatchOption, List, map, codes};
-ghost use Rattle.heat_value.specs.Data.{Members, words};
+ghost use Rattle.heat_value.specs.Data.{Members, Rises, words};
 ghost use Rattle.heat_value.specs.Meaning.{data_of};
 ghost use Rattle.script_lines.specs.Bodies.{one, boxed, IsItem, AreItems, GivesProperties, ArePlain, IsProperty, IsScalar, box_name, box_kind as the_kind};
 ghost use Rattle.heat_plan.specs.declared.item.Item.{Item as item_type};
@@ -16,6 +16,7 @@ const BOX: &str = "Test::Box";
 
 /// The items of resources, in their order.
 pub fn items_of(alloc: Global, resources: &Props) -> Result<Seq<Item>, LineFault>
+    ensures rising { Rises resources.now }
     ensures ok { IfOk result (λ is. AreItems resources.now is) }
     ensures none { IfErr result (λ e. e ≡ LineFault.N00
         → (is : List item_type) → ¬ AreItems resources.now is) }
@@ -81,7 +82,9 @@ fn given_of(resource: &Props) -> Option<&Props>
         ((ps : Members) → resource.now ≡ boxed ps → ¬ ArePlain ps)
         (λ ps. (resource.now ≡ boxed ps.now) × ArePlain ps.now) }
 {
-    let (given, name) = both(resource, "properties", "type")?;
+    let Some((given, name)) = both(resource, "properties", "type") else {
+        return None;
+    };
     let given = fields_of(given)?;
     if is_text(name, BOX) && are_plain(given) {
         Some(given)

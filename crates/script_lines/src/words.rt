@@ -1,5 +1,5 @@
 //! The words of a line, which are parted by spaces. A space is the byte 32 alone.
-ghost use Rattle.std.specs.Prelude.{◌≡◌, ◌≢◌, ◌<◌, ◌≤◌, ℕ, length, slice_index, MatchOption};
+ghost use Rattle.std.specs.Prelude.{◌≡◌, ◌≢◌, ◌↔◌, ◌<◌, ◌≤◌, ℕ, length, slice_index, IsTrue, MatchOption};
 ghost use Rattle.script_lines.specs.Words.{AreSpaces, BeginsWith, StandsBehindSpaces};
 
 /// The first word of a text and what stands behind it, down to the spaces; none where there are
@@ -13,6 +13,16 @@ pub fn first_word(text: &[u8]) -> Option<(&[u8], &[u8])>
         return None;
     }
     Some(text.split_at(letters(text)))
+}
+
+/// Whether there is no word.
+pub fn is_blank(text: &[u8]) -> bool
+    ensures { IsTrue result ↔ AreSpaces text.now }
+{
+    match first_word(text) {
+        Some(_) => false,
+        None => true,
+    }
 }
 
 /// What stands behind the spaces that a text begins with.
