@@ -1,5 +1,5 @@
 //! A line of the script, read.
-ghost use Rattle.std.specs.Prelude.{◌≡◌, IfOk, IfErr, Err};
+ghost use Rattle.std.specs.Prelude.{◌≡◌, ◌↔◌, ◌∷◌, ℕ, List, IsTrue, IfOk, IfErr, Err};
 ghost use Rattle.heat_plan.specs.Names.{IsStackName};
 ghost use Rattle.script_lines.specs.Words.{AreSpaces};
 ghost use Rattle.script_lines.specs.Lines.{Says, HasForm, Asks, AsksForList, AsksToCreate};
@@ -25,10 +25,12 @@ pub enum Command {
 }
 
 impl Command {
-    /// What the line says. N00 comes exactly where it isn't UTF-8 or is none of the forms.
+    /// What the line says, which is one thing at most. N00 comes exactly where it isn't UTF-8 or is
+    /// none of the forms.
     pub fn read(alloc: Global, line: &[u8]) -> Result<Command, LineFault>
         ensures ok { IfOk result (λ c. Says line.now c) }
         ensures not_built { result ≡ Err LineFault.N00 → (c : command_type) → ¬ Says line.now c }
+        ensures one { (a b : command_type) → Says line.now a → Says line.now b → a ≡ b }
     {
         match str::from_utf8(line) {
             Ok(_text) => form_of(alloc, line),
@@ -55,7 +57,7 @@ fn asked(alloc: Global, word: &[u8], rest: &[u8]) -> Result<Command, LineFault>
     ensures none { IfErr result (λ e. e ≡ LineFault.N00
         → (c : command_type) → ¬ Asks word.now rest.now c) }
 {
-    if word.starts_with(b"#".as_slice()) {
+    if is_comment(word) {
         return Ok(Command::Blank);
     }
     if word == b"run".as_slice() {
@@ -68,6 +70,13 @@ fn asked(alloc: Global, word: &[u8], rest: &[u8]) -> Result<Command, LineFault>
         return create_asked(alloc, rest);
     }
     Err(LineFault::N00)
+}
+
+// Whether this is the first word of a comment.
+fn is_comment(word: &[u8]) -> bool
+    ensures { IsTrue result ↔ (more : List ℕ) × (word.now ≡ 35 ∷ more) }
+{
+    matches!(word, [b'#', ..])
 }
 
 // Nothing stands behind `run`.
