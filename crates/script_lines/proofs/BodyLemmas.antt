@@ -1,9 +1,8 @@
 -- The parts of a body are those that its bytes are read as.
-use Rattle.std.proofs.Common.{◌≡◌, ◌∙◌, ℕ, List, [], ◌∷◌, refl, sym, ap, subst, codes}
+use Rattle.std.proofs.Common.{◌≡◌, ◌∙◌, ℕ, List, refl, sym, ap, subst, codes}
 use Rattle.heat_value.specs.Data.{Data, Members, fields}
 use Rattle.heat_value.specs.Reading.{IsReadAs}
 use Rattle.heat_plan.specs.Plans.{PlanData}
-use Rattle.heat_plan.specs.declared.item.Item.{Item}
 use Rattle.script_lines.specs.Bodies.{two, body_of, HasResources, AreItems, IsBody, plan_of}
 use Rattle.script_lines.proofs.ReadingLemmas.{value_unique}
 use Rattle.script_lines.proofs.ItemLemmas.{items_unique}

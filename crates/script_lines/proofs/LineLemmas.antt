@@ -1,14 +1,12 @@
 -- A line's first word decides its form.
-use Rattle.std.proofs.Common.{◌≡◌, ◌∙◌, ℕ, List, [], ◌∷◌, get_or, refl, sym, ap, subst, codes, arith}
+use Rattle.std.proofs.Common.{◌≡◌, ◌∙◌, ℕ, List, ◌∷◌, get_or, sym, ap, subst, codes, arith}
 use Rattle.heat_plan.specs.Names.{IsStackName}
-use Rattle.heat_plan.specs.Plans.{PlanData}
 use Rattle.script_lines.specs.Words.{AreSpaces, BeginsWith, StandsBehindSpaces}
 use Rattle.script_lines.specs.Bodies.{IsBody}
-use Rattle.script_lines.specs.Lines.{Asks, comment, create, run, resources, AsksForList, AsksToCreate, HasForm, empty, worded, Says}
+use Rattle.script_lines.specs.Lines.{Asks, comment, create, run, resources, AsksForList, AsksToCreate, HasForm, empty, worded}
 use Rattle.script_lines.specs.declared.command.Command.{Command}
 use Rattle.script_lines.specs.declared.command.Command.TheVariants as command
 use Rattle.script_lines.proofs.WordLemmas.{no_word, word_unique, text_unique}
-use Rattle.script_lines.proofs.BodyLemmas.{plan_unique}
 
 -- the word of a line that has one
 pub form_of_word : (line word rest : List ℕ) (said : Command) → BeginsWith line word rest → HasForm line said → Asks word rest said

@@ -1,7 +1,6 @@
 -- A line says at most one thing.
-use Rattle.std.proofs.Common.{◌≡◌, ◌∙◌, ℕ, List, ◌∷◌, sym, ap}
+use Rattle.std.proofs.Common.{◌≡◌, ◌∙◌, ℕ, List, sym, ap}
 use Rattle.heat_plan.specs.Plans.{PlanData}
-use Rattle.script_lines.specs.Words.{BeginsWith}
 use Rattle.script_lines.specs.Lines.{Asks, comment, create, run, resources, AsksForList, AsksToCreate, HasForm, empty, worded, Says}
 use Rattle.script_lines.specs.declared.command.Command.{Command}
 use Rattle.script_lines.specs.declared.command.Command.TheVariants as command

@@ -1,13 +1,13 @@
 -- The items of boxes are a plan: their names rise, and they need nothing.
-use Rattle.std.proofs.Common.{◌≡◌, ◌∙◌, ℕ, zero, suc, List, [], ◌∷◌, ◌++◌, map, All, Contains, Some, None, slice_get, get_or, Option, unwrap_or, refl, ap, sym, subst}
+use Rattle.std.proofs.Common.{◌≡◌, ◌∙◌, ℕ, List, [], ◌∷◌, All, Contains, Some, slice_get, get_or, Option, unwrap_or, refl, ap, sym, subst}
 use Rattle.std.proofs.lemmas.List.Elements.{All-nil, All-cons}
 use Rattle.std.proofs.lemmas.List.Sorted.{IsPermutation-refl}
 use Rattle.std.proofs.lemmas.Option.{slice_get_within, unwrap_or-slice_get}
-use Rattle.heat_value.specs.Data.{Data, Members, no_members, member, keys_of, Rises}
+use Rattle.heat_value.specs.Data.{Members, no_members, member, keys_of, Rises}
 use Rattle.heat_plan.specs.Order.{Rising}
-use Rattle.heat_plan.specs.Plans.{IsPlan, IsListing, StandsBefore, names_of}
+use Rattle.heat_plan.specs.Plans.{IsPlan, StandsBefore, names_of}
 use Rattle.heat_plan.specs.declared.item.Item.{Item}
-use Rattle.script_lines.specs.Bodies.{IsItem, AreItems}
+use Rattle.script_lines.specs.Bodies.{AreItems}
 
 pub names_of-items : (rs : Members) (is : List Item) → AreItems rs is → keys_of rs ≡ names_of is
 names_of-items no_members [] are = refl
@@ -33,9 +33,12 @@ pub items_are_plan : (rs : Members) (is : List Item) → Rises rs → AreItems r
 items_are_plan rs is rises are = record {
   rising = subst Rising (names_of-items rs is are) rises;
   met = λ k d below. rw (needs_nothing rs is are k d below) (All-nil (Contains (names_of is)));
-  acyclic = (is, record {
-    same = IsPermutation-refl is;
-    behind = λ p i found. rw (needs_nothing_at is (needs_nothing rs is are) p i found) (All-nil (StandsBefore is p));
-  });
+  acyclic = (
+    is,
+    record {
+      same = IsPermutation-refl is;
+      behind = λ p i found. rw (needs_nothing_at is (needs_nothing rs is are) p i found) (All-nil (StandsBefore is p));
+    },
+  );
   apart = All-nil _;
 }

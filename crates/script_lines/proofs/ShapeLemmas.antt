@@ -1,7 +1,7 @@
 -- The shapes of maps: those of just one entry, of just two, of boxes.
-use Rattle.std.proofs.Common.{◌≡◌, ◌≢◌, ◌∙◌, ◌≤◌, ◌<◌, ◌↔◌, ◌++◌, ℕ, suc, max, List, [], ◌∷◌, length, get_or, refl, ap, sym, subst, arith}
+use Rattle.std.proofs.Common.{◌≡◌, ℕ, suc, List, [], ◌∷◌, length, refl, ap}
 use Rattle.heat_value.specs.Data.{Data, Members, no_members, member, keys_of, fields, depth, members_depth, null, flag, whole, words, items}
-use Rattle.heat_value.specs.Meaning.{data_of, members_of}
+use Rattle.heat_value.specs.Meaning.{members_of}
 use Rattle.heat_value.specs.declared.value.Entry.{Entry}
 use Rattle.script_lines.specs.Bodies.{one, two, ArePlain, IsScalar}
 

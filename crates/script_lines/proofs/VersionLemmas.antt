@@ -1,5 +1,5 @@
 -- A text is among the versions exactly where the test over them finds it.
-use Rattle.std.proofs.Common.{◌≡◌, ◌<◌, ℕ, List, length, get_or, true, refl, Contains, bytes_eq}
+use Rattle.std.proofs.Common.{◌≡◌, ℕ, List, get_or, true, refl, Contains, bytes_eq}
 use Rattle.std.specs.List.{list_any}
 use Rattle.std.proofs.lemmas.List.Folds.{list_any_at}
 use Rattle.std.proofs.lemmas.Map.Views.{Contains-from_any}

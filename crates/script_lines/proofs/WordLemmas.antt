@@ -1,8 +1,6 @@
 -- A text has at most one first word, and none where it is spaces alone.
-use Rattle.std.proofs.Common.{◌≡◌, ◌≢◌, ◌∙◌, ◌<◌, ◌≤◌, ℕ, zero, suc, List, [], ◌∷◌, ◌++◌, All, length, get_or, take, drop, refl, sym, ap, subst, arith}
-use Rattle.std.proofs.lemmas.Grind.{common_steps}
-use Rattle.std.proofs.lemmas.List.{take-append-drop}
-use Rattle.std.proofs.lemmas.List.Elements.{All-tail, All-append}
+use Rattle.std.proofs.Common.{◌≡◌, ◌≢◌, ◌∙◌, ℕ, List, [], ◌∷◌, ◌++◌, All, refl, sym, subst, arith}
+use Rattle.std.proofs.lemmas.List.Elements.{All-tail}
 use Rattle.script_lines.specs.Words.{AreSpaces, BeginsUnspaced, BeginsSpaced, StandsBehindSpaces, IsWord, BeginsWith}
 
 -- a byte that isn't a space
@@ -44,8 +42,8 @@ ends_unique (a ∷ w) (b ∷ v) x y ws vs xb yb e =
 pub word_unique : (text w v r s : List ℕ) → BeginsWith text w r → BeginsWith text v s → (w ≡ v) × (r ≡ s)
 word_unique text w v r s a b =
     ends_unique w v r s a.is_word.unspaced b.is_word.unspaced a.ends b.ends
-        (behind_unique a.behind.gap b.behind.gap (w ++ r) (v ++ s) a.behind.spaces b.behind.spaces a.behind.begins b.behind.begins
-            (sym a.behind.parts ∙ b.behind.parts))
+    (behind_unique a.behind.gap b.behind.gap (w ++ r) (v ++ s) a.behind.spaces b.behind.spaces a.behind.begins b.behind.begins
+    (sym a.behind.parts ∙ b.behind.parts))
 
 pub text_unique : (more s t : List ℕ) → StandsBehindSpaces more s → StandsBehindSpaces more t → s ≡ t
 text_unique more s t a b = behind_unique a.gap b.gap s t a.spaces b.spaces a.begins b.begins (sym a.parts ∙ b.parts)
@@ -58,55 +56,3 @@ spaces_end (a ∷ g) w r spaces is = spaces_end g w r (space_rest a (g ++ (w ++ 
 -- spaces have no word
 pub no_word : (text w r : List ℕ) → BeginsWith text w r → AreSpaces text → ⊥
 no_word text w r b spaces = spaces_end b.behind.gap w r (subst AreSpaces b.behind.parts spaces) b.is_word
-
--- the first n bytes, from each of them
-pub All-first : (P : ℕ → Type 0) (n : ℕ) (xs : List ℕ) → n ≤ length xs → ((k : ℕ) → k < n → P (get_or xs k 0)) → All P (take n xs)
-All-first P n xs within each k d below =
-    let less : k < n = grind (arith, common_steps) in
-    let inside : k < length xs = omega arith in
-    let same : get_or (take n xs) k d ≡ get_or xs k 0 = grind (arith, common_steps) in
-    rw same (each k less)
-
-pub BeginsUnspaced-drop : (n : ℕ) (xs : List ℕ) → (n < length xs → get_or xs n 0 ≢ 32) → BeginsUnspaced (drop n xs)
-BeginsUnspaced-drop zero [] end = tt
-BeginsUnspaced-drop zero (x ∷ xs) end = end (omega arith)
-BeginsUnspaced-drop (suc n) [] end = tt
-BeginsUnspaced-drop (suc n) (x ∷ xs) end = BeginsUnspaced-drop n xs (λ lt. end (omega (arith, lt)))
-
-pub BeginsSpaced-drop : (n : ℕ) (xs : List ℕ) → (n < length xs → get_or xs n 0 ≡ 32) → BeginsSpaced (drop n xs)
-BeginsSpaced-drop zero [] end = tt
-BeginsSpaced-drop zero (x ∷ xs) end = end (omega arith)
-BeginsSpaced-drop (suc n) [] end = tt
-BeginsSpaced-drop (suc n) (x ∷ xs) end = BeginsSpaced-drop n xs (λ lt. end (omega (arith, lt)))
-
--- the text behind the first n bytes, which are spaces
-pub behind-drop : (n : ℕ) (text : List ℕ) → n ≤ length text → ((k : ℕ) → k < n → get_or text k 0 ≡ 32) → (n < length text → get_or text n 0 ≢ 32)
-    → StandsBehindSpaces text (drop n text)
-behind-drop n text within each end = record {
-  gap = take n text;
-  spaces = All-first (λ b. b ≡ 32) n text within each;
-  parts = sym (take-append-drop n text);
-  begins = BeginsUnspaced-drop n text end;
-}
-
-first_letter : (text : List ℕ) → BeginsUnspaced text → 0 < length text → get_or text 0 0 ≢ 32
-first_letter [] begins lt = absurd (omega arith)
-first_letter (b ∷ bs) begins lt = begins
-
--- the word of the first n bytes behind the spaces
-pub word-take : (n : ℕ) (text behind : List ℕ) → StandsBehindSpaces text behind → 0 < length behind → n ≤ length behind
-    → ((k : ℕ) → k < n → get_or behind k 0 ≢ 32) → (n < length behind → get_or behind n 0 ≡ 32) → BeginsWith text (take n behind) (drop n behind)
-word-take zero text behind stands some within each end = absurd (first_letter behind stands.begins some (end some))
-word-take (suc n) text behind stands some within each end = record {
-  behind = rw (take-append-drop (suc n) behind) stands;
-  is_word = record {
-    some = grind (arith, common_steps);
-    unspaced = All-first NoSpace (suc n) behind within each;
-  };
-  ends = BeginsSpaced-drop (suc n) behind end;
-}
-
--- a text of spaces alone
-pub spaces-all : (text behind : List ℕ) → StandsBehindSpaces text behind → length behind ≡ 0 → AreSpaces text
-spaces-all text [] stands none = rw stands.parts (All-append (λ (b : ℕ). b ≡ 32) stands.gap [] stands.spaces (λ k d lt. absurd (omega (arith, lt))))
-spaces-all text (b ∷ bs) stands none = absurd (omega (arith, none))

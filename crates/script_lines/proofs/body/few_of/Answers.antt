@@ -1,4 +1,4 @@
-use Rattle.std.proofs.Common.{◌≡◌, ◌∙◌, ◌≤◌, length, sym, ap, refl, arith}
+use Rattle.std.proofs.Common.{◌∙◌, length, sym, ap, refl, arith}
 use Rattle.heat_value.specs.Data.{keys_of, Members}
 use Rattle.script_lines.proofs.ShapeLemmas.{length-keys_of}
 use Rattle.script_lines.proofs.body.few_of.Goals as goal

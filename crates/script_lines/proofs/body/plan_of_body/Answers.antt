@@ -18,4 +18,4 @@ pub returns-in_err-items-clause-none : goal.returns-in_err-items-clause-none
 returns-in_err-items-clause-none c =
     let p = err_from_is_err_and c.from_residual-in_err-items.result c.from_residual-in_err-items.ensures.1 in
     rw (p.1, p.2) (λ e plan b. c.in_err-items.ensures.none e b.all
-        (items_of_body _ _ _ _ plan c.in_ok-value.ensures.ok c.in-Some.ensures c.in-Some-resources_of.ensures b))
+    (items_of_body _ _ _ _ plan c.in_ok-value.ensures.ok c.in-Some.ensures c.in-Some-resources_of.ensures b))

@@ -1,5 +1,5 @@
 use Rattle.std.proofs.lemmas.Result.{IfOk-weaker, IfErr-weaker}
-use Rattle.script_lines.specs.Lines.{HasForm, worded}
+use Rattle.script_lines.specs.Lines.{worded}
 use Rattle.script_lines.proofs.LineLemmas.{form_of_word}
 use Rattle.script_lines.proofs.command.form_of.Goals as goal
 

@@ -17,5 +17,5 @@ pub returns-in_err-stack_of-clause-none : goal.returns-in_err-stack_of-clause-no
 returns-in_err-stack_of-clause-none c =
     let p = err_from_is_err_and c.from_residual.result c.from_residual.ensures.1 in
     rw (p.1, p.2) (λ e said asks.
-        let same = word_unique _ _ _ _ _ c.in-Some.ensures asks.word in
-        c.in_err-stack_of.ensures.none e (subst IsStackName (sym same.0) asks.named))
+    let same = word_unique _ _ _ _ _ c.in-Some.ensures asks.word in
+    c.in_err-stack_of.ensures.none e (subst IsStackName (sym same.0) asks.named))
