@@ -1,0 +1,9 @@
+pub mod WordLemmas
+pub mod ReadingLemmas
+pub mod VersionLemmas
+pub mod ShapeLemmas
+pub mod ItemLemmas
+pub mod PlanLemmas
+pub mod BodyLemmas
+pub mod LineLemmas
+pub mod MeaningLemmas

@@ -1,0 +1,8 @@
+use Rattle.std.proofs.Common.{◌↔◌, drop}
+use Rattle.heat_value.specs.Meaning.{members_of}
+use Rattle.script_lines.specs.Bodies.{ArePlain}
+use Rattle.script_lines.proofs.resources.are_plain.Given as goal
+
+-- what is left decides
+abbrev pub invariant-loop-entry : goal.invariant-loop-entry
+invariant-loop-entry l = ArePlain l.given ↔ ArePlain (members_of (drop l.entry-index l.entry-items))

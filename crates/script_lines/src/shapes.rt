@@ -1,0 +1,72 @@
+//! The shapes of values: maps with just these keys, texts.
+ghost use Rattle.std.specs.Prelude.{◌≡◌, ◌≢◌, ◌↔◌, IsTrue, MatchOption};
+ghost use Rattle.heat_value.specs.Data.{Data, Members, fields, words};
+ghost use Rattle.heat_value.specs.Meaning.{data_of};
+ghost use Rattle.script_lines.specs.Bodies.{one, two};
+
+use heat_value::{Entry, Props, Value};
+
+/// The map that a value is.
+pub fn fields_of(value: &Value) -> Option<&Props>
+    ensures { MatchOption result ((ms : Members) → data_of value.now ≢ fields ms)
+        (λ p. data_of value.now ≡ fields p.now) }
+{
+    match value {
+        Value::Fields(fields) => Some(fields),
+        Value::Null | Value::Flag(_) | Value::Whole(_) | Value::Words(_) | Value::Items(_) => None,
+    }
+}
+
+/// Whether a value is this text.
+pub fn is_text(value: &Value, text: &str) -> bool
+    ensures { IsTrue result ↔ (data_of value.now ≡ words text.now) }
+{
+    match value {
+        Value::Words(words) => words.as_str() == text,
+        Value::Null | Value::Flag(_) | Value::Whole(_) | Value::Items(_) | Value::Fields(_) => {
+            false
+        }
+    }
+}
+
+/// What stands under a key that is a map's only one.
+pub fn only<'a>(map: &'a Props, key: &str) -> Option<&'a Value>
+    ensures { MatchOption result ((d : Data) → map.now ≢ one key.now d)
+        (λ v. map.now ≡ one key.now (data_of v.now)) }
+{
+    let entries = map.as_slice();
+    if entries.len() != 1 {
+        return None;
+    }
+    let entry = &entries[0];
+    if !is_under(entry, key) {
+        return None;
+    }
+    Some(&entry.value)
+}
+
+/// What stands under two keys that are a map's only ones, of which the first is the lesser.
+pub fn both<'a>(map: &'a Props, first: &str, second: &str) -> Option<(&'a Value, &'a Value)>
+    ensures { MatchOption result ((d e : Data) → map.now ≢ two first.now d second.now e)
+        (λ p. map.now ≡ two first.now (data_of p.0.now) second.now (data_of p.1.now)) }
+{
+    let entries = map.as_slice();
+    if entries.len() != 2 {
+        return None;
+    }
+    let (front, back) = (&entries[0], &entries[1]);
+    if !is_under(front, first) {
+        return None;
+    }
+    if !is_under(back, second) {
+        return None;
+    }
+    Some((&front.value, &back.value))
+}
+
+// Whether an entry stands under this key.
+fn is_under(entry: &Entry, key: &str) -> bool
+    ensures { IsTrue result ↔ (entry.now.key ≡ key.now) }
+{
+    entry.key.as_str() == key
+}
