@@ -1,0 +1,3 @@
+pub mod Sames
+pub mod Lists
+pub mod States

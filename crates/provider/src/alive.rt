@@ -1,0 +1,26 @@
+//! A resource that a cloud has.
+use heat_plan::{Facts, Properties, Token};
+use heat_value::{Text, TryCopy};
+use std::alloc::AllocError;
+
+/// An alive resource, under its kind's name. Its facts hold only where it is ready.
+#[derive(Debug, Drop)]
+pub struct Alive {
+    pub token: Token,
+    pub kind: Text,
+    pub props: Properties,
+    pub facts: Facts,
+    pub ready: bool,
+}
+
+impl TryCopy for Alive {
+    fn copy(&self) -> Result<Alive, AllocError> {
+        Ok(Alive {
+            token: self.token.copy()?,
+            kind: self.kind.copy()?,
+            props: self.props.copy()?,
+            facts: self.facts.copy()?,
+            ready: self.ready,
+        })
+    }
+}
