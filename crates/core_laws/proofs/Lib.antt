@@ -3,3 +3,6 @@ pub mod Rows
 pub mod Points
 pub mod Lists
 pub mod Coulds
+pub mod Going
+pub mod NextFits
+pub mod Moves
