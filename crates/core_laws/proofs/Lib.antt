@@ -6,3 +6,4 @@ pub mod Coulds
 pub mod Going
 pub mod NextFits
 pub mod Moves
+pub mod Turned
