@@ -7,3 +7,4 @@ pub mod Going
 pub mod NextFits
 pub mod Moves
 pub mod Turned
+pub mod Ended
