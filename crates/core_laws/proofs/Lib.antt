@@ -8,3 +8,5 @@ pub mod NextFits
 pub mod Moves
 pub mod Turned
 pub mod Ended
+pub mod Drawn
+pub mod Apart

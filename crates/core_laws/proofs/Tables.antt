@@ -106,3 +106,15 @@ pub set_here : {A : Type 0} (xs : List A) (i : ℕ) (p q : A) → slice_get xs i
 set_here [] i p q h = cc
 set_here (x ∷ xs) zero p q h = refl
 set_here (x ∷ xs) (suc i) p q h = set_here xs i p q h
+
+-- a record that stands in the list is found, or one with its key
+pub at-some : {K A : Type 0} (same : K → K → Bool) (decides : (x y : K) → Decides (same x y) (x ≡ y)) (key : A → K) (xs : List A) (i : ℕ) (x : A)
+    → slice_get xs i ≡ Some x → (y : A) × (at same key xs (key x) ≡ Some y)
+unfolding at
+at-some same decides key [] i x h = cc
+at-some {A = A} same decides key (y ∷ ys) i x h = by (same (key y) (key x)) refl i h (λ k e. at-some same decides key ys k x e) where
+  by : (b : Bool) → same (key y) (key x) ≡ b → (i : ℕ) → slice_get (y ∷ ys) i ≡ Some x → ((k : ℕ) → slice_get ys k ≡ Some x → (z : A) × (at same key ys (key x) ≡ Some z))
+      → (z : A) × (cond b (Some y) (at same key ys (key x)) ≡ Some z)
+  by true e i h rest = (y, refl)
+  by false e (suc i) h rest = rest i h
+  by false e zero h rest = let is : y ≡ x = cc in let t : same (key y) (key x) ≡ true = (decides (key y) (key x)).1 (ap key is) in cc
