@@ -10,3 +10,4 @@ pub mod Turned
 pub mod Ended
 pub mod Drawn
 pub mod Apart
+pub mod Created
