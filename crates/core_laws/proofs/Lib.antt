@@ -11,3 +11,4 @@ pub mod Ended
 pub mod Drawn
 pub mod Apart
 pub mod Created
+pub mod Kept

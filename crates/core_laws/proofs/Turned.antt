@@ -120,3 +120,45 @@ module _ (s : StateData) (g : Going s) (e : ℕ) (is_one : e ≡ 1) where
         | inl new ↦ (sym new.0 ∙ (key ∙ is_one), subst (λ (x : ℕ). Holds gone_to x k) (sym key ∙ new.0) (subst (λ (x : Job). Holds gone_to e x) new.1 made))
         | inr was ↦ absurd (was.0 (key ∙ only_its s g e f j k at_e was.1))
       ]
+
+  -- ---- a begun create
+  module _ (j : Job) (at_e : job_at s.jobs e ≡ Some j) (h : Holds s e j) (act : h.on.row.act ≡ Create) (status : h.on.row.status ≡ InProgress) (key : j.engine ≡ e) where
+    abbrev asked_to : StateData
+    asked_to = record s { jobs = put_job (with_stage Polling j) s.jobs }
+
+    moves_none : Moves s asked_to h.on.row.no
+    moves_none = record {
+      stacks = λ name st at. stack_same s.stacks name st at;
+      graphs = λ name o node named n at its ne. graph_same s.graphs name o node at;
+      were = λ name o at. (o, at, refl);
+      rows = λ n ne. refl;
+    }
+
+    pub asked_goes : Going (applied (asked_changes j) s)
+    asked_goes = moved s asked_to h.on.row.no h.on.row g moves_none h.on.found refl refl letters holds settled where
+      letters : (n : ℕ) (k : Letter) → letter_at s.letters n ≡ Some k → (letter_at s.letters n ≡ Some k) × ((v : Waits s k) → v.on.row.no ≢ h.on.row.no)
+      letters n k at_n = (at_n, λ v same. others_wait s e h.on.row h.on.found h.locked k v same)
+
+      on : (k : OnNode asked_to j.letter) × (k.row ≡ h.on.row)
+      on = on_again s asked_to j.letter h.on (stack_same s.stacks j.letter.stack h.on.stack h.on.names.in_table) (graph_same s.graphs j.letter.stack h.on.graph j.letter.node h.on.names.its_graph)
+          h.on.row h.on.found refl refl refl refl
+
+      made : Holds asked_to e (with_stage Polling j)
+      made = record {
+        on = on.0;
+        its_row = h.its_row ∙ ap (λ (x : Row). x.no) (sym on.1);
+        locked = ap (λ (x : Row). x.engine) on.1 ∙ h.locked;
+        stage = (ap (λ (x : Row). x.act) on.1 ∙ act, ap (λ (x : Row). x.status) on.1 ∙ status);
+      }
+
+      holds : (f : ℕ) (k : Job) → job_at (put_job (with_stage Polling j) s.jobs) f ≡ Some k → (f ≡ 1) × Holds asked_to f k
+      holds f k at_f = elim (job_put (with_stage Polling j) s.jobs at_f) [
+        | inl new ↦ (sym new.0 ∙ (key ∙ is_one), subst (λ (x : ℕ). Holds asked_to x k) (sym key ∙ new.0) (subst (λ (x : Job). Holds asked_to e x) new.1 made))
+        | inr was ↦ absurd (was.0 (key ∙ only_its s g e f j k at_e was.1))
+      ]
+
+      settled : (name : List ℕ) (st : Stack) → stack_at s.stacks name ≡ Some st → Settled asked_to name st
+      settled name st at = let it = g.settled name st at in record {
+        graph = it.graph; its_graph = it.its_graph; complete = it.complete;
+        failed = λ is. let f = it.failed is in failed_again s asked_to h.on.row.no moves_none name f (not_that s name h.on.row.no h.on.row h.on.found (λ _ i. cc) f);
+      }
