@@ -207,3 +207,18 @@ module _ (s : StateData) (g : Going s) (e : ℕ) (j : Job) (at_e : job_at s.jobs
 
       there : stack_at s.stacks h.on.stack.name ≡ Some h.on.stack
       there = subst (λ (x : List ℕ). stack_at s.stacks x ≡ Some h.on.stack) (sym its) h.on.names.in_table
+
+-- a failure leaves the rows and jobs that it writes, whatever the stack's mark
+module _ (s : StateData) (e : ℕ) (r : Row) where
+  marks_only : (st : Stack) (P : StateData → Type 0) → ((stacks : List Stack) → P (record s { stacks = stacks; rows = put_row (failed_row r) s.rows; jobs = cut_job e s.jobs })) → P (applied (failed_changes e st r) s)
+  marks_only st P all = by st.name st.no st.trav st.act st.status st.plan where
+    by : (name : List ℕ) (number trav : ℕ) (act : Act) (status : Status) (plan : Option PlanData) → P (applied (failed_changes e (stack_of name number trav act status plan) r) s)
+    by name number trav act Complete plan = all s.stacks
+    by name number trav act Failed plan = all s.stacks
+    by name number trav act InProgress plan = all (put_stack (stack_of name number trav act Failed plan) s.stacks)
+
+  pub failed_jobs : (st : Stack) → (applied (failed_changes e st r) s).jobs ≡ cut_job e s.jobs
+  failed_jobs st = marks_only st (λ (t : StateData). t.jobs ≡ cut_job e s.jobs) (λ stacks. refl)
+
+  pub failed_rows : (st : Stack) → (applied (failed_changes e st r) s).rows ≡ put_row (failed_row r) s.rows
+  failed_rows st = marks_only st (λ (t : StateData). t.rows ≡ put_row (failed_row r) s.rows) (λ stacks. refl)

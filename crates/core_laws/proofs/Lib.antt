@@ -12,3 +12,5 @@ pub mod Drawn
 pub mod Apart
 pub mod Created
 pub mod Kept
+pub mod Tells
+pub mod Polls
