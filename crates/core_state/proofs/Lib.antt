@@ -1,2 +1,4 @@
 pub mod Puts
 pub mod PointPuts
+pub mod Cuts
+pub mod FreshPoints

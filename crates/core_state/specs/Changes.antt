@@ -1,5 +1,5 @@
 -- What each change does to a state.
-use Rattle.std.specs.Prelude.{ℕ, List, [], ◌∷◌, ◌++◌, cond, slice_set}
+use Rattle.std.specs.Prelude.{List, [], ◌∷◌, ◌++◌, cond, slice_set}
 use Rattle.std.specs.Str.{bytes_eq}
 use Rattle.core_state.specs.declared.graph.Graph.{Graph}
 use Rattle.core_state.specs.declared.graph.Point.{Point}

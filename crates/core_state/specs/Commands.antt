@@ -1,5 +1,5 @@
 -- The step of a create command: its conditions, its changes and its entries.
-use Rattle.std.specs.Prelude.{◌≡◌, ◌<◌, ◌≤◌, ◌⊎◌, ◌+◌, ◌^◌, ℕ, List, [], ◌∷◌, ◌++◌, Option, Some, None, length, map}
+use Rattle.std.specs.Prelude.{◌≡◌, ◌<◌, ◌≤◌, ◌+◌, ◌^◌, ℕ, List, [], ◌∷◌, ◌++◌, Some, None, length, map}
 use Rattle.dep_graph.specs.Lists.{ListsAll}
 use Rattle.heat_value.specs.Data.{no_members}
 use Rattle.heat_plan.specs.Plans.{PlanData}
@@ -12,7 +12,6 @@ use Rattle.traversal_graph.specs.Nodes.{IsBuilt}
 use Rattle.traversal_graph.specs.declared.shape.TravGraph.{TravGraph}
 use Rattle.core_state.specs.declared.stack.Stack.{Stack}
 use Rattle.core_state.specs.declared.row.Row.{Row}
-use Rattle.core_state.specs.declared.graph.Graph.{Graph}
 use Rattle.core_state.specs.declared.mail.Letter.{Letter}
 use Rattle.core_state.specs.declared.numbers.Numbers.{Numbers}
 use Rattle.core_state.specs.declared.change.Change.{Change}
@@ -137,13 +136,13 @@ created_changes s name plan k =
     SetNumbers (drawn s.next (length plan.items) (length k.leaves))
     ∷ PutStack (new_stack s.next name plan)
     ∷ (map PutRow (new_rows name s.next.trav s.next.row plan.items)
-      ++ (PutGraph (record { stack = name; graph = k.graph; points = fresh_points name 0 k.graph.nodes })
-        ∷ map Send (letters_to name s.next.trav s.next.letter k.leaves)))
+    ++ (PutGraph (record { stack = name; graph = k.graph; points = fresh_points name 0 k.graph.nodes })
+    ∷ map Send (letters_to name s.next.trav s.next.letter k.leaves)))
 
 -- the command, the rows, the letters, and the mark where there is nothing to do
 abbrev pub created_entries : (s : StateData) (name : List ℕ) (plan : PlanData) → Creates s name plan → List Entry
 created_entries s name plan k =
     record { by = Main; what = what.Command name s.next.trav Create (Some plan) }
     ∷ (set_entry Main (new_rows name s.next.trav s.next.row plan.items)
-      ++ (sent_entry Main (letters_to name s.next.trav s.next.letter k.leaves)
-        ++ complete_entry Main name s.next.trav plan.items))
+    ++ (sent_entry Main (letters_to name s.next.trav s.next.letter k.leaves)
+    ++ complete_entry Main name s.next.trav plan.items))

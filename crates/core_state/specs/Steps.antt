@@ -1,9 +1,8 @@
 -- One step of the engine: a case for each row of the tables.
-use Rattle.std.specs.Prelude.{◌≡◌, ◌<◌, ◌+◌, ◌^◌, ℕ, List, [], ◌∷◌, Contains}
+use Rattle.std.specs.Prelude.{◌≡◌, ◌<◌, ◌+◌, ◌^◌, ℕ, List, [], ◌∷◌}
 use Rattle.heat_value.specs.Data.{Members}
 use Rattle.heat_plan.specs.Plans.{PlanData}
 use Rattle.heat_plan.specs.declared.facts.Facts.{Facts}
-use Rattle.heat_plan.specs.declared.calls.Request.{Request}
 use Rattle.heat_plan.specs.declared.calls.Request.TheVariants as request
 use Rattle.heat_plan.specs.declared.calls.Answered.{Answered}
 use Rattle.heat_plan.specs.declared.calls.Answered.TheVariants as answer

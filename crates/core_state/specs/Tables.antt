@@ -1,5 +1,5 @@
 -- Tables: lists of records, each with a key.
-use Rattle.std.specs.Prelude.{ℕ, Bool, List, [], ◌∷◌, Option, Some, None, cond, filter, not}
+use Rattle.std.specs.Prelude.{Bool, List, [], ◌∷◌, Option, Some, None, cond, filter, not}
 
 -- the record with this key
 unfoldable pub at : {K A : Type 0} → (K → K → Bool) → (A → K) → List A → K → Option A

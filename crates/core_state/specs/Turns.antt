@@ -1,5 +1,5 @@
 -- The steps of an engine's turn: for each row of the table its conditions, its changes and its entries.
-use Rattle.std.specs.Prelude.{◌≡◌, ◌≢◌, ◌<◌, ◌≤◌, ◌⊎◌, ◌+◌, ◌^◌, ℕ, true, List, [], ◌∷◌, ◌++◌, Option, Some, None, Contains, All, slice_get, unwrap_or}
+use Rattle.std.specs.Prelude.{◌≡◌, ◌+◌, ℕ, true, List, [], ◌∷◌, Some, None, Contains, All, slice_get, unwrap_or}
 use Rattle.heat_value.specs.Data.{Members}
 use Rattle.heat_plan.specs.Plans.{PlanData}
 use Rattle.heat_plan.specs.declared.item.Item.{Item}
@@ -34,7 +34,6 @@ use Rattle.core_state.specs.declared.entry.RowWrite.TheVariants.{Set}
 use Rattle.core_state.specs.declared.entry.MailWrite.TheVariants.{Dropped, Held, Ended}
 use Rattle.core_state.specs.Changes.{with_point}
 use Rattle.core_state.specs.Reads.{item_at, IsDone, Names, HasNoHolder, TakesNext, Works}
-use Rattle.core_state.specs.Resolve.{Props, resolve}
 use Rattle.core_state.specs.State.{StateData, row_at}
 
 -- the token under which a row is asked for
@@ -110,7 +109,7 @@ begun_row r item trav props = record r {
   props = props;
   trav = trav;
   requires_ = [];
-  policy = item.policy
+  policy = item.policy;
 }
 
 abbrev pub begun_changes : Job → Row → List Change
@@ -160,7 +159,7 @@ ready_row r facts = record r {
   status = Complete;
   props = unwrap_or r.target r.props;
   target = None;
-  facts = Some facts
+  facts = Some facts;
 }
 
 abbrev pub ready_changes : Job → Row → Facts → List Change

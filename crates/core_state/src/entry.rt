@@ -3,7 +3,9 @@
 use crate::copying::copy_option;
 use crate::mail::{Job, Letter};
 use crate::row::Row;
-use heat_plan::{Act, Answered, EngineNo, LetterNo, Plan, Request, ResName, RowNo, StackName, Token, TravNo};
+use heat_plan::{
+    Act, Answered, EngineNo, LetterNo, Plan, Request, ResName, RowNo, StackName, Token, TravNo,
+};
 use heat_value::{Path, Seq, Text, TryCopy};
 use std::alloc::AllocError;
 

@@ -55,11 +55,7 @@ impl Graph {
 }
 
 // A point for each node.
-fn points_of(
-    alloc: Global,
-    stack: &StackName,
-    graph: &TravGraph,
-) -> Result<Seq<Point>, AllocError>
+fn points_of(alloc: Global, stack: &StackName, graph: &TravGraph) -> Result<Seq<Point>, AllocError>
     ensures { IfOk result (λ points. points ≡ fresh_points stack.now 0 graph.now.nodes) }
 {
     let Ok(count) = u32::try_from(graph.nodes.len()) else {

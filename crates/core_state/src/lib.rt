@@ -8,27 +8,27 @@ mod change;
 mod copying;
 mod entry;
 mod graph;
-mod mail;
 mod made;
+mod mail;
 mod numbers;
 mod roomed;
 mod row;
 mod stack;
 mod state;
-
 mod table;
+#[cfg(test)]
+mod tests;
 
 pub use batch::Batch;
 pub use change::Change;
 pub use copying::copy_option;
 pub use entry::{Actor, Cause, EngineChange, Entry, MailWrite, RowWrite, ShowWhat, What, Why};
 pub use graph::{Graph, Input, Point};
-pub use mail::{Job, Letter, Stage};
 pub use made::Made;
+pub use mail::{Job, Letter, Stage};
 pub use numbers::{Next, Numbers};
 pub use roomed::Roomed;
 pub use row::Row;
 pub use stack::Stack;
 pub use state::State;
-
 pub use table::{Keyed, Table};

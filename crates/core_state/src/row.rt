@@ -3,7 +3,9 @@ ghost use Rattle.std.specs.Prelude.{nat_eq};
 
 use crate::copying::copy_option;
 use crate::table::Keyed;
-use heat_plan::{Act, EngineNo, Facts, Kind, Policy, Properties, ResName, RowNo, StackName, Status, TravNo};
+use heat_plan::{
+    Act, EngineNo, Facts, Kind, Policy, Properties, ResName, RowNo, StackName, Status, TravNo,
+};
 use heat_value::{Seq, TryCopy};
 use std::alloc::AllocError;
 

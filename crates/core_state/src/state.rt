@@ -50,7 +50,7 @@ impl Model for State {
         next = s.next;
       };
       spare = min s.stacks.spare (min s.graphs.spare (min s.rows.spare
-        (min s.letters.spare (min s.jobs.spare s.live.spare))));
+          (min s.letters.spare (min s.jobs.spare s.live.spare))));
     } };
 }
 
