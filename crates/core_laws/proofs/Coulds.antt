@@ -71,14 +71,14 @@ could-other first h after by t token request given ne none =
 
 -- ---- what the cloud shows
 
-same_or_not : (a b : Token) → (a ≡ b) ⊎ (a ≢ b)
-same_or_not a b = by (same_token a b) refl where
+pub token_or_not : (a b : Token) → (a ≡ b) ⊎ (a ≢ b)
+token_or_not a b = by (same_token a b) refl where
   by : (x : Bool) → same_token a b ≡ x → (a ≡ b) ⊎ (a ≢ b)
   by true e = inl (same_token-true a b e)
   by false e = inr (λ is. let t : same_token a b ≡ true = rw is (same_token-same b) in cc)
 
 pub call_agrees : CallAgrees
-call_agrees first h after by old new token request given agrees answers none t = elim (same_or_not token t) [
+call_agrees first h after by old new token request given agrees answers none t = elim (token_or_not token t) [
   | inl is ↦ subst (λ (x : Token). Contains (could first (h ++ record { by = by; what = what.Call token request given } ∷ after) x) (state_of new x)) is
       (rw (could-called first h after by token request given none) (fold-keeps old new token request given (could first h token) answers (agrees token)))
   | inr ne ↦ rw (could-other first h after by t token request given ne none, answers.others t (λ e. ne (sym e))) (agrees t)

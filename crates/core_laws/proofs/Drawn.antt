@@ -142,3 +142,12 @@ points-new stack (x ∷ nodes) first zero n node at is =
     let number : first ≡ n = omega (arith, is) in
     subst (λ (k : ℕ). slice_get (fresh_points stack first (x ∷ nodes)) 0 ≡ Some (record { stack = stack; node = k; inputs = []; done = false })) number refl
 points-new stack (x ∷ nodes) first (suc i) n node at is = points-new stack nodes (first + 1) i n node at (omega (arith, is))
+
+-- the node of an item
+pub nodes-new : (items : List Item) (first i n : ℕ) (item : Item) → slice_get items i ≡ Some item → n ≡ first + i → slice_get (update_nodes items (row_numbers first items)) i ≡ Some (U item.name n)
+nodes-new [] first i n item at is = cc
+nodes-new (x ∷ items) first zero n item at is =
+    let same : x ≡ item = cc in
+    let number : first ≡ n = omega (arith, is) in
+    subst (λ (k : ℕ). Some (U x.name first) ≡ Some (U item.name k)) number (ap (λ (y : Item). Some (U y.name first)) same)
+nodes-new (x ∷ items) first (suc i) n item at is = nodes-new items (first + 1) i n item at (omega (arith, is))

@@ -14,3 +14,10 @@ pub mod Created
 pub mod Kept
 pub mod Tells
 pub mod Polls
+pub mod ItemNames
+pub mod Folds
+pub mod Agreed
+pub mod Boundary
+pub mod Told
+pub mod AgreedTurns
+pub mod Says

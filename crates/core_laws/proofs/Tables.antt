@@ -118,3 +118,12 @@ at-some {A = A} same decides key (y ∷ ys) i x h = by (same (key y) (key x)) re
   by true e i h rest = (y, refl)
   by false e (suc i) h rest = rest i h
   by false e zero h rest = let is : y ≡ x = cc in let t : same (key y) (key x) ≡ true = (decides (key y) (key x)).1 (ap key is) in cc
+
+-- what is found stands at a place
+pub at-place : {K A : Type 0} (same : K → K → Bool) (key : A → K) (xs : List A) (k : K) (x : A) → at same key xs k ≡ Some x → (i : ℕ) × (slice_get xs i ≡ Some x)
+unfolding at
+at-place same key [] k x h = cc
+at-place {A = A} same key (y ∷ ys) k x h = by (same (key y) k) h (at-place same key ys k x) where
+  by : (b : Bool) → cond b (Some y) (at same key ys k) ≡ Some x → (at same key ys k ≡ Some x → (i : ℕ) × (slice_get ys i ≡ Some x)) → (i : ℕ) × (slice_get (y ∷ ys) i ≡ Some x)
+  by true e rest = (0, e)
+  by false e rest = let (i, at_i) = rest e in (suc i, at_i)

@@ -51,22 +51,22 @@ Other (what.Ran idle turns) = Unit {0}
 Other (what.Turned engine lost) = Unit {0}
 Other what.Closed = Unit {0}
 
-none : HasNoCall []
+pub none : HasNoCall []
 none = All-none IsNoCall
 
 more : (by : Actor) (it : What) (es : List Entry) → Other it → HasNoCall es → HasNoCall (record { by = by; what = it } ∷ es)
 more by it es other rest = All-more IsNoCall (record { by = by; what = it }) es (λ token asked given is. subst (λ (w : What). Other w) is other) rest
 
-alone : (by : Actor) (it : What) → Other it → HasNoCall (record { by = by; what = it } ∷ [])
+pub alone : (by : Actor) (it : What) → Other it → HasNoCall (record { by = by; what = it } ∷ [])
 alone by it other = more by it [] other none
 
-rows_mail : (e : ℕ) (rows : List RowWrite) (mail : List MailWrite) (es : List Entry) → HasNoCall es → HasNoCall (by_engine e (what.Rows rows) ∷ by_engine e (what.Mail mail) ∷ es)
+pub rows_mail : (e : ℕ) (rows : List RowWrite) (mail : List MailWrite) (es : List Entry) → HasNoCall es → HasNoCall (by_engine e (what.Rows rows) ∷ by_engine e (what.Mail mail) ∷ es)
 rows_mail e rows mail es h = more (Engine e) (what.Rows rows) (by_engine e (what.Mail mail) ∷ es) tt (more (Engine e) (what.Mail mail) es tt h)
 
 pub mail_alone : (e : ℕ) (mail : List MailWrite) → HasNoCall (by_engine e (what.Mail mail) ∷ [])
 mail_alone e mail = alone (Engine e) (what.Mail mail) tt
 
-failed_mark-silent : (e : ℕ) (st : Stack) (cause : Cause) → HasNoCall (failed_mark_entry e st cause)
+pub failed_mark-silent : (e : ℕ) (st : Stack) (cause : Cause) → HasNoCall (failed_mark_entry e st cause)
 failed_mark-silent e st cause = by st.name st.no st.trav st.act st.status st.plan where
   by : (name : List ℕ) (number trav : ℕ) (act : Act) (status : Status) (plan : Option PlanData) → HasNoCall (failed_mark_entry e (record { name = name; no = number; trav = trav; act = act; status = status; plan = plan }) cause)
   by name number trav act Complete plan = none

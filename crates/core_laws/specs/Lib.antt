@@ -4,4 +4,12 @@ pub mod Next
 pub mod Could
 pub mod Shown
 pub mod Asked
+pub mod Newest
+pub mod Marked
+pub mod Stored
+pub mod Tokens
+pub mod Fits
+pub mod Caused
+pub mod Stir
+pub mod Headline
 pub mod Laws
