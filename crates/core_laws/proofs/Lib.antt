@@ -21,3 +21,4 @@ pub mod Boundary
 pub mod Told
 pub mod AgreedTurns
 pub mod Says
+pub mod QuietTold

@@ -12,7 +12,7 @@ pub record Told (o : Opening) (h : List Entry) : Type 0 where
   pub entries : (n : ℕ) (e : Entry) → slice_get h n ≡ Some e → FitsIn o (take n h) e
 
 -- the next entries fit in their places
-pub Follows : Opening → List Entry → List Entry → List Entry → Type 0
+abbrev pub Follows : Opening → List Entry → List Entry → List Entry → Type 0
 Follows o h done [] = Unit {0}
 Follows o h done (e ∷ es) = FitsIn o (h ++ done) e × (AtPrefix o (h ++ (done ++ e ∷ [])) × Follows o h (done ++ e ∷ []) es)
 
@@ -48,7 +48,6 @@ told_more o h e told fits at = record { prefixes = prefixes; entries = entries }
   ]
 
 pub told_on : (o : Opening) (h done es : List Entry) → Told o (h ++ done) → Follows o h done es → Told o (h ++ (done ++ es))
-unfolding Follows
 told_on o h done [] told follows = subst (λ (x : List Entry). Told o (h ++ x)) (sym (append-nil done)) told
 told_on o h done (e ∷ es) told follows =
     let next : Told o (h ++ (done ++ e ∷ [])) = subst (λ (x : List Entry). Told o x) (append_assoc h done (e ∷ [])) (told_more o (h ++ done) e told follows.0 (subst (λ (x : List Entry). AtPrefix o x) (sym (append_assoc h done (e ∷ []))) follows.1.0)) in

@@ -126,7 +126,7 @@ module _ (s : StateData) (g : Going s) (e : ℕ) (is_one : e ≡ 1) where
     abbrev asked_to : StateData
     asked_to = record s { jobs = put_job (with_stage Polling j) s.jobs }
 
-    moves_none : Moves s asked_to h.on.row.no
+    pub moves_none : Moves s asked_to h.on.row.no
     moves_none = record {
       stacks = λ name st at. stack_same s.stacks name st at;
       graphs = λ name o node named n at its ne. graph_same s.graphs name o node at;
