@@ -22,3 +22,4 @@ pub mod Told
 pub mod AgreedTurns
 pub mod Says
 pub mod QuietTold
+pub mod CallTold

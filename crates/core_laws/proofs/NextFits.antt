@@ -131,3 +131,11 @@ module _ (s : StateData) (g : Going s) where
         settles = settles e j h (fits j Ending at is).1;
       };
     }
+
+-- a stack with a job isn't marked Complete
+pub never_complete : (s : StateData) (g : Going s) (e : ℕ) (j : Job) (h : Holds s e j) → h.on.stack.status ≡ Complete → ⊥
+never_complete s g e j h is =
+    let it = g.settled j.letter.stack h.on.stack h.on.names.in_table in
+    let same : it.graph ≡ h.on.graph = same_some it.graph h.on.graph it.its_graph h.on.names.its_graph in
+    let all : AllDone h.on.graph = subst (λ (x : Graph). AllDone x) same (it.complete is) in
+    apart h.on.point.done (All-at (λ (p : Point). p.done ≡ true) h.on.graph.points j.letter.node h.on.point all h.on.its_point) h.on.open_
