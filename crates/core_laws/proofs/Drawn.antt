@@ -70,6 +70,27 @@ module _ (stack : List ℕ) (trav : ℕ) where
         (subst (λ (y : Item). row_at (put_row (new_row stack trav first x) table) first ≡ Some (new_row stack trav first y)) same (row_here (new_row stack trav first x) table))
   rows-new (x ∷ items) first (suc i) n item table at is = rows-new items (first + 1) i n item (put_row (new_row stack trav first x) table) at (omega (arith, is))
 
+  -- a row is the one for the item at the place i
+  pub record IsMade (first : ℕ) (items : List Item) (n : ℕ) (r : Row) : Type 0 where
+    pub place : ℕ
+    pub item : Item
+    pub there : slice_get items place ≡ Some item
+    pub number : n ≡ first + place
+    pub it : new_row stack trav n item ≡ r
+
+  pub rows-found : (items : List Item) (first n : ℕ) (r : Row) (table : List Row) → row_at (put_rows (new_rows stack trav first items) table) n ≡ Some r
+      → (row_at table n ≡ Some r) ⊎ IsMade first items n r
+  rows-found [] first n r table at = inl at
+  rows-found (item ∷ items) first n r table at = elim (rows-found items (first + 1) n r (put_row (new_row stack trav first item) table) at) [
+    | inl was ↦ elim (row_put (new_row stack trav first item) table was) [
+      | inl new ↦
+          let number : first ≡ n = new.0 in
+          inr (record { place = 0; item = item; there = refl; number = omega (arith, number); it = subst (λ (k : ℕ). new_row stack trav k item ≡ r) number new.1 })
+      | inr old ↦ inl old.1
+    ]
+    | inr made ↦ inr (record { place = suc made.place; item = made.item; there = made.there; number = (let e = made.number in omega (arith, e)); it = made.it })
+  ]
+
   -- ---- letters
 
   abbrev pub to : ℕ → ℕ → Letter

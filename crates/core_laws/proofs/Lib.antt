@@ -23,3 +23,4 @@ pub mod AgreedTurns
 pub mod Says
 pub mod QuietTold
 pub mod CallTold
+pub mod CreateTold

@@ -150,3 +150,12 @@ stack_back old new stacks was same name st at = elim (text_or_not new.name name)
       (old, subst (λ (x : List ℕ). stack_at stacks x ≡ Some old) is was, ap (λ (x : Stack). x.plan) one ∙ same)
   | inr ne ↦ (st, sym (stack_else new stacks name ne) ∙ at, refl)
 ]
+
+pub newest_put : (new : Stack) (stacks : List Stack) (name : List ℕ)
+    → (if bytes_eq new.name name then Some (latest_of new) else option_map latest_of (stack_at stacks name)) ≡ option_map latest_of (stack_at (put_stack new stacks) name)
+newest_put new stacks name = elim (cases bytes_eq bytes_eq-Decides (λ (x : List ℕ). x) new.name name) [
+  | inl is ↦
+      let here : stack_at (put_stack new stacks) name ≡ Some new = subst (λ (x : List ℕ). stack_at (put_stack new stacks) x ≡ Some new) is.1 (stack_here new stacks) in
+      rw (is.0, here) refl
+  | inr not ↦ rw (not.0, stack_else new stacks name not.1) refl
+]
