@@ -1,21 +1,19 @@
 -- A turn on one row keeps what a history and its state say of one another.
-use Rattle.std.proofs.Common.{◌≡◌, ◌≢◌, ◌⊎◌, inl, inr, ℕ, ◌<◌, ◌+◌, true, false, List, [], ◌∷◌, ◌++◌, Option, Some, None, refl, sym, ap, ◌∙◌, subst}
+use Rattle.std.proofs.Common.{◌≡◌, ◌≢◌, ◌⊎◌, inl, inr, ℕ, ◌+◌, true, List, [], ◌∷◌, Some, None, refl, sym, ap, ◌∙◌, subst}
 use Rattle.std.specs.Prelude.{option_map, slice_get}
 use Rattle.heat_plan.specs.Plans.{PlanData}
 use Rattle.heat_plan.specs.declared.item.Item.{Item}
 use Rattle.heat_plan.specs.declared.token.Token.{Token}
-use Rattle.heat_plan.specs.declared.phase.Act.TheVariants.{Init, Create}
-use Rattle.heat_plan.specs.declared.phase.Status.TheVariants.{Complete, InProgress, Failed}
+use Rattle.heat_plan.specs.declared.phase.Act.TheVariants.{Create}
+use Rattle.heat_plan.specs.declared.phase.Status.TheVariants.{Complete}
 use Rattle.traversal_graph.specs.declared.shape.Node.{Node}
 use Rattle.traversal_graph.specs.declared.shape.Node.TheVariants.{U}
-use Rattle.traversal_graph.specs.Nodes.{update_nodes}
 use Rattle.core_state.specs.declared.stack.Stack.{Stack}
 use Rattle.core_state.specs.declared.row.Row.{Row}
 use Rattle.core_state.specs.declared.graph.Graph.{Graph}
 use Rattle.core_state.specs.declared.graph.Point.{Point}
 use Rattle.core_state.specs.declared.mail.Job.{Job}
 use Rattle.core_state.specs.declared.entry.Entry.{Entry}
-use Rattle.core_state.specs.Commands.{row_numbers}
 use Rattle.core_state.specs.Reads.{item_at}
 use Rattle.core_state.specs.State.{StateData, stack_at, graph_at, row_at, job_at}
 use Rattle.core_state.specs.Turns.{token_of}
@@ -27,10 +25,10 @@ use Rattle.core_laws.specs.Marked.{mark_of}
 use Rattle.core_laws.specs.Stored.{stored}
 use Rattle.core_laws.specs.Tokens.{token_at}
 use Rattle.core_laws.proofs.Rows.{same_some, same_or_not, row-key}
-use Rattle.core_laws.proofs.Moves.{StackOn, GraphOn, Moves}
+use Rattle.core_laws.proofs.Moves.{Moves}
 use Rattle.core_laws.proofs.Drawn.{nodes-new}
 use Rattle.core_laws.proofs.ItemNames.{item_asked}
-use Rattle.core_laws.proofs.Agreed.{StateFits, AskFits, IsBegun, NodeRow, RowItem, PlanOf, Agreed}
+use Rattle.core_laws.proofs.Agreed.{StateFits, AskFits, IsBegun, NodeRow, PlanOf, Agreed}
 
 -- the graph of the row's own node, and how its point is left
 pub record OwnPoint (graphs : List Graph) (name : List ℕ) (old : Graph) (node : ℕ) (p : Point) (r q : Row) : Type 0 where
@@ -85,7 +83,12 @@ module _ (o : Opening) (h g : List Entry) (s t : StateData) (r q : Row) (a : Agr
       from p = on (m.graphs name p.graph p.its_graph) where
         on : (new : Graph) × (graph_at t.graphs name ≡ Some new) × (new.graph ≡ p.graph.graph) → PlanOf t name st
         on (new, found, shape) = record {
-          plan = p.plan; first = p.first; graph = new; planned = same ∙ p.planned; proper = p.proper; its_graph = found;
+          plan = p.plan;
+          first = p.first;
+          graph = new;
+          planned = same ∙ p.planned;
+          proper = p.proper;
+          its_graph = found;
           nodes = ap (λ (x : _). x.nodes) shape ∙ p.nodes;
           node_row = node_row;
           row_item = λ n x at_n its. elim (row_was n x at_n) [
@@ -105,7 +108,12 @@ module _ (o : Opening) (h g : List Entry) (s t : StateData) (r q : Row) (a : Agr
                 let gr = m.moves.graphs name p.graph place item.name n p.its_graph (its_node place n item there is) ne in
                 let one : gr.graph ≡ new = same_some gr.graph new gr.found found in
                 record {
-                  row = k.row; point = k.point; found = m.moves.rows n ne ∙ k.found; stack = k.stack; named = k.named; begun = k.begun;
+                  row = k.row;
+                  point = k.point;
+                  found = m.moves.rows n ne ∙ k.found;
+                  stack = k.stack;
+                  named = k.named;
+                  begun = k.begun;
                   its_point = subst (λ (x : Graph). slice_get x.points place ≡ Some k.point) one (gr.point ∙ k.its_point);
                   ends = k.ends;
                 }
@@ -119,9 +127,11 @@ module _ (o : Opening) (h g : List Entry) (s t : StateData) (r q : Row) (a : Agr
                 let old_at : stack_at s.stacks r.stack ≡ Some old = subst (λ (x : List ℕ). stack_at s.stacks x ≡ Some old) (sym in_stack) was in
                 let asked : item_at p.plan.items r.name ≡ Some item = subst (λ (x : List ℕ). item_at p.plan.items x ≡ Some item) (sym in_name) (item_asked p.plan.items p.proper.proper.rising place item there) in
                 record {
-                  row = q; point = gr.point;
+                  row = q;
+                  point = gr.point;
                   found = subst (λ (x : ℕ). row_at t.rows x ≡ Some q) (sym own) m.is;
-                  stack = m.stack ∙ in_stack; named = m.named ∙ in_name;
+                  stack = m.stack ∙ in_stack;
+                  named = m.named ∙ in_name;
                   begun = m.begun old p.plan item old_at p.planned asked (subst (λ (x : Row). IsBegun x item) row k.begun);
                   its_point = subst (λ (x : Graph). slice_get x.points place ≡ Some gr.point) one gr.its_point;
                   ends = gr.ends (subst (λ (x : Row). k.point.done ≡ true → (x.act ≡ Create) × (x.status ≡ Complete)) row k.ends);
@@ -155,6 +165,12 @@ module _ (o : Opening) (h g : List Entry) (s t : StateData) (r q : Row) (a : Agr
 
   pub turned : Agreed o g t
   turned = record {
-    stored_is = m.stored_is; newest_is = m.newest_is; marks_are = m.marks_are;
-    plans = plans; owned = owned; states = states; others = others; asked = m.asked;
+    stored_is = m.stored_is;
+    newest_is = m.newest_is;
+    marks_are = m.marks_are;
+    plans = plans;
+    owned = owned;
+    states = states;
+    others = others;
+    asked = m.asked;
   }

@@ -1,14 +1,12 @@
 -- A graph of items that need nothing has no edges, and its leaves are listed once.
-use Rattle.std.proofs.Common.{◌≡◌, ◌≢◌, ◌⊎◌, inl, inr, ℕ, ◌<◌, ◌≤◌, ◌+◌, zero, suc, List, [], ◌∷◌, ◌++◌, length, Option, Some, None, refl, sym, ap, ◌∙◌, subst, arith}
-use Rattle.std.specs.Prelude.{All, AllPairs, Contains, IsPermutation, nat_lt, slice_get, slice_index_or}
+use Rattle.std.proofs.Common.{◌≡◌, ◌≢◌, ◌⊎◌, inl, inr, ℕ, ◌<◌, ◌+◌, zero, suc, List, [], ◌∷◌, ◌++◌, length, Some, refl, sym, ap, ◌∙◌, subst, arith}
+use Rattle.std.specs.Prelude.{All, AllPairs, Contains, nat_lt, slice_get, slice_index_or}
 use Rattle.std.proofs.lemmas.List.{nil_from_length, append-nil}
 use Rattle.std.proofs.lemmas.List.Sorted.{length_permutation}
-use Rattle.std.proofs.lemmas.Option.{slice_get-get_or, get_or_from_slice_get}
+use Rattle.std.proofs.lemmas.Option.{get_or_from_slice_get}
 use Rattle.std.proofs.lemmas.Option.{slice_get_within}
-use Rattle.dep_graph.specs.Lists.{ListsAll}
 use Rattle.heat_plan.specs.declared.item.Item.{Item}
 use Rattle.traversal_graph.specs.declared.brief.RowBrief.{RowBrief}
-use Rattle.traversal_graph.specs.declared.shape.Node.{Node}
 use Rattle.traversal_graph.specs.declared.shape.TravGraph.{TravGraph}
 use Rattle.traversal_graph.specs.Builds.{Keeps, begins, goes_on}
 use Rattle.traversal_graph.specs.Candidates.{edge_if, place_of, each_from, each, needs_into, need_edges, row_edges, rows_behind, candidates}
@@ -77,3 +75,11 @@ place_once xs rising i k x at_i at_k =
         | inr gt ↦ let less : slice_index_or xs k x < slice_index_or xs i x = rising k i x gt in_i in absurd (omega (arith, less, a, b))
       ]
     ]
+
+-- what a list has stands at a place
+pub contained : {X : Type 0} (xs : List X) (x : X) → Contains xs x → (i : ℕ) × (slice_get xs i ≡ Some x)
+contained xs x c =
+    let (y, at) = there_at xs c.0 c.1 in
+    let read = get_or_from_slice_get xs c.0 y x at in
+    let same : y ≡ x = sym read ∙ c.2 in
+    (c.0, at ∙ ap Some same)

@@ -1,42 +1,37 @@
 -- Behind a step the history fits: what is marked Complete, and what is named.
-use Rattle.std.proofs.Common.{◌≡◌, ◌≢◌, ◌⊎◌, inl, inr, ℕ, ◌<◌, ◌+◌, zero, suc, true, false, List, [], ◌∷◌, map, length, Option, Some, None, refl, sym, ap, ◌∙◌, subst, arith}
-use Rattle.std.specs.Prelude.{All, Contains, IsSome, option_map, slice_get, slice_index_or}
+use Rattle.std.proofs.Common.{◌≡◌, ◌≢◌, ◌⊎◌, inl, inr, ℕ, ◌<◌, ◌+◌, zero, suc, true, List, [], ◌∷◌, Option, Some, None, refl, sym, ap, ◌∙◌, subst, arith}
+use Rattle.std.specs.Prelude.{Contains, option_map, slice_get, slice_index_or}
 use Rattle.std.specs.List.{AllZip}
-use Rattle.std.proofs.lemmas.Option.{get_or_from_slice_get}
 use Rattle.core_state.specs.Resolve.{Props}
 use Rattle.heat_plan.specs.Plans.{PlanData, names_of}
 use Rattle.heat_plan.specs.declared.facts.Facts.{Facts}
 use Rattle.heat_plan.specs.declared.item.Item.{Item}
 use Rattle.heat_plan.specs.declared.token.Token.{Token}
-use Rattle.heat_plan.specs.declared.phase.Act.TheVariants.{Init, Create}
-use Rattle.heat_plan.specs.declared.phase.Status.{Status}
-use Rattle.heat_plan.specs.declared.phase.Status.TheVariants.{Complete, InProgress, Failed}
+use Rattle.heat_plan.specs.declared.phase.Act.TheVariants.{Init}
+use Rattle.heat_plan.specs.declared.phase.Status.TheVariants.{Complete}
 use Rattle.core_state.specs.declared.stack.Stack.{Stack}
 use Rattle.core_state.specs.declared.row.Row.{Row}
 use Rattle.core_state.specs.declared.graph.Graph.{Graph}
 use Rattle.core_state.specs.declared.graph.Point.{Point}
 use Rattle.core_state.specs.declared.entry.Entry.{Entry}
-use Rattle.core_state.specs.State.{StateData, stack_at, graph_at, row_at}
+use Rattle.core_state.specs.State.{StateData, stack_at, row_at}
 use Rattle.core_state.specs.Turns.{token_of, AllDone}
-use Rattle.provider.specs.Table.{Living, TokenState}
-use Rattle.provider.specs.Same.{same_token}
-use Rattle.provider.proofs.Sames.{same_token-same, same_token-true}
+use Rattle.provider.specs.Table.{TokenState}
 use Rattle.core_laws.specs.Opening.{Opening, first_of}
 use Rattle.core_laws.specs.Could.{could}
 use Rattle.core_laws.specs.Newest.{Latest, latest_of, newest}
 use Rattle.core_laws.specs.Marked.{mark_of}
-use Rattle.core_laws.specs.Stored.{stored}
-use Rattle.core_laws.specs.Tokens.{token_at, IsAlive, IsCertain, tokens_of, HasRow, IsNamed}
+use Rattle.core_laws.specs.Tokens.{token_at, IsAlive, IsCertain, tokens_of, IsNamed}
 use Rattle.core_laws.specs.Fits.{plan_of, IsFactOf, HasExactly, Fits}
 use Rattle.core_laws.specs.Headline.{AtPrefix}
-use Rattle.core_laws.proofs.Rows.{same_some, same_or_not, row-key}
+use Rattle.core_laws.proofs.Rows.{same_some, row-key}
 use Rattle.core_laws.proofs.Lists.{All-from}
 use Rattle.core_laws.proofs.Coulds.{token_or_not}
-use Rattle.core_laws.proofs.Apart.{there_at, contains_at}
+use Rattle.core_laws.proofs.Apart.{contains_at, contained}
 use Rattle.core_laws.proofs.ItemNames.{name_once}
-use Rattle.core_laws.proofs.Going.{Settled, Going}
+use Rattle.core_laws.proofs.Going.{Going}
 use Rattle.core_laws.proofs.NextFits.{All-at}
-use Rattle.core_laws.proofs.Agreed.{living, StateFits, NodeRow, RowItem, PlanOf, Agreed}
+use Rattle.core_laws.proofs.Agreed.{living, RowItem, PlanOf, Agreed}
 
 -- a token that may be alive isn't certainly absent
 never_alive : (states : List TokenState) → states ≡ None ∷ [] → IsAlive states → ⊥
@@ -47,14 +42,6 @@ never_alive states is alive = one (subst (λ (x : List TokenState). Contains x (
 
   one : Contains (None ∷ []) (Some alive.it) → ⊥
   one c = at c.0 c.1 c.2
-
--- the item at a place of the list
-pub contained_at : {X : Type 0} (xs : List X) (x : X) → Contains xs x → (i : ℕ) × (slice_get xs i ≡ Some x)
-contained_at xs x c =
-    let (y, at) = there_at xs c.0 c.1 in
-    let read = get_or_from_slice_get xs c.0 y x at in
-    let same : y ≡ x = sym read ∙ c.2 in
-    (c.0, at ∙ ap Some same)
 
 map_at : (items : List Item) (i : ℕ) (item : Item) → slice_get items i ≡ Some item → slice_get (names_of items) i ≡ Some item.name
 map_at [] i item h = cc
@@ -76,13 +63,21 @@ module _ (o : Opening) (h : List Entry) (s : StateData) (g : Going s) (a : Agree
   pub alive_row : (t : Token) → IsAlive (could (first_of o) h t) → (r : Row) × (row_at s.rows t.row ≡ Some r) × (token_of r ≡ t) × (r.act ≢ Init)
   alive_row t alive = elim (row_or_none t) [
     | inr none ↦ absurd (never_alive (could (first_of o) h t) none alive)
-    | inl has ↦ (has.0, has.1, has.2, λ init.
-        never_alive (could (first_of o) h t) (subst (λ (x : Token). could (first_of o) h x ≡ None ∷ []) has.2 ((a.states t.row has.0 has.1).still init)) alive)
+    | inl has ↦ (
+      has.0,
+      has.1,
+      has.2,
+      λ init.
+          never_alive (could (first_of o) h t) (subst (λ (x : Token). could (first_of o) h x ≡ None ∷ []) has.2 ((a.states t.row has.0 has.1).still init)) alive,
+    )
   ]
 
   pub named_at : IsNamed o h
   named_at t alive = let (r, found, its, begun) = alive_row t alive in record {
-    row = r; found = subst (λ (rows : List Row). row_at rows t.row ≡ Some r) (sym a.stored_is) found; its = its; begun = begun;
+    row = r;
+    found = subst (λ (rows : List Row). row_at rows t.row ≡ Some r) (sym a.stored_is) found;
+    its = its;
+    begun = begun;
   }
 
   module _ (name : List ℕ) (st : Stack) (at : stack_at s.stacks name ≡ Some st) (complete : st.status ≡ Complete) where
@@ -95,15 +90,15 @@ module _ (o : Opening) (h : List Entry) (s : StateData) (g : Going s) (a : Agree
     -- each item's row is made
     made : (place : ℕ) (item : Item) → slice_get p.plan.items place ≡ Some item
         → (r : Row) × (row_at s.rows (p.first + place) ≡ Some r) × (token_of r ≡ token_at name item.name (p.first + place)) × (r.kind ≡ item.kind) × (r.props ≡ item.props)
-            × (facts : Facts) × (could (first_of o) h (token_of r) ≡ Some (living r (Some facts)) ∷ [])
+        × (facts : Facts) × (could (first_of o) h (token_of r) ≡ Some (living r (Some facts)) ∷ [])
     made place item there =
         let k = p.node_row place (p.first + place) item there refl in
         let done = k.ends (All-at (λ (q : Point). q.done ≡ true) p.graph.points place k.point all_done k.its_point) in
         let begun = k.begun done.0 in
         let ready = (a.states (p.first + place) k.row k.found).ready done.0 done.1 in
         (k.row, k.found, token_is k.row name item.name (p.first + place) k.stack k.named (row-key s.rows (p.first + place) k.row k.found), begun.0, begun.1, ready.0, ready.1) where
-      token_is : (r : Row) (x y : List ℕ) (n : ℕ) → r.stack ≡ x → r.name ≡ y → r.no ≡ n → token_of r ≡ token_at x y n
-      token_is r x y n e f u = rw (← e, ← f, ← u) refl
+          token_is : (r : Row) (x y : List ℕ) (n : ℕ) → r.stack ≡ x → r.name ≡ y → r.no ≡ n → token_of r ≡ token_at x y n
+          token_is r x y n e f u = rw (← e, ← f, ← u) refl
 
     -- the item of a row of the stack
     item_of : (t : Token) → t.stack ≡ name → (r : Row) → row_at s.rows t.row ≡ Some r → token_of r ≡ t → RowItem p.plan p.first t.row r
@@ -124,7 +119,7 @@ module _ (o : Opening) (h : List Entry) (s : StateData) (g : Going s) (a : Agree
 
     exactly : (item : Item) → Contains p.plan.items item → HasExactly o h name p.plan item
     exactly item among =
-        let (place, there) = contained_at p.plan.items item among in
+        let (place, there) = contained p.plan.items item among in
         let m = made place item there in
         record {
           row = p.first + place;
@@ -138,16 +133,16 @@ module _ (o : Opening) (h : List Entry) (s : StateData) (g : Going s) (a : Agree
           props = ap Props (sym m.4);
           only = λ other alive. only place item there other alive.1;
         } where
-      needless : (place : ℕ) (item : Item) → slice_get p.plan.items place ≡ Some item → AllZip (IsFactOf o h name) item.needs []
-      needless place item there = subst (λ (needs : List (List ℕ)). AllZip (IsFactOf o h name) needs []) (sym (All-at (λ (i : Item). i.needs ≡ []) p.plan.items place item p.proper.needless there)) tt
+          needless : (place : ℕ) (item : Item) → slice_get p.plan.items place ≡ Some item → AllZip (IsFactOf o h name) item.needs []
+          needless place item there = subst (λ (needs : List (List ℕ)). AllZip (IsFactOf o h name) needs []) (sym (All-at (λ (i : Item). i.needs ≡ []) p.plan.items place item p.proper.needless there)) tt
 
-      only : (place : ℕ) (item : Item) → slice_get p.plan.items place ≡ Some item → (other : ℕ) → IsAlive (could (first_of o) h (token_at name item.name other)) → other ≡ p.first + place
-      only place item there other alive =
-          let (r, found, same, begun) = alive_row (token_at name item.name other) alive in
-          let i = item_of (token_at name item.name other) refl r found same in
-          let names : item.name ≡ i.item.name = sym (ap (λ (x : Token). x.name) same) ∙ i.named in
-          let places : place ≡ i.place = name_once p.plan.items p.proper.proper.rising place i.place item i.item there i.there names in
-          i.number ∙ ap (λ (x : ℕ). p.first + x) (sym places)
+          only : (place : ℕ) (item : Item) → slice_get p.plan.items place ≡ Some item → (other : ℕ) → IsAlive (could (first_of o) h (token_at name item.name other)) → other ≡ p.first + place
+          only place item there other alive =
+              let (r, found, same, begun) = alive_row (token_at name item.name other) alive in
+              let i = item_of (token_at name item.name other) refl r found same in
+              let names : item.name ≡ i.item.name = sym (ap (λ (x : Token). x.name) same) ∙ i.named in
+              let places : place ≡ i.place = name_once p.plan.items p.proper.proper.rising place i.place item i.item there i.there names in
+              i.number ∙ ap (λ (x : ℕ). p.first + x) (sym places)
 
     no_other : (t : Token) → tokens_of o h name t → Contains (names_of p.plan.items) t.name
     no_other t (its, alive) =

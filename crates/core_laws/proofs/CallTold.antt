@@ -1,29 +1,25 @@
 -- The turns that ask the cloud are told.
-use Rattle.std.proofs.Common.{◌≡◌, ◌≢◌, ◌⊎◌, inl, inr, ℕ, ◌<◌, ◌+◌, true, false, List, [], ◌∷◌, ◌++◌, Option, Some, None, refl, sym, ap, ◌∙◌, subst}
-use Rattle.std.specs.Prelude.{All, Contains, option_map, slice_get, unwrap_or, if◌then◌else◌}
+use Rattle.std.proofs.Common.{◌≡◌, ◌≢◌, inl, inr, ℕ, false, List, [], ◌∷◌, ◌++◌, Option, Some, None, refl, sym, ap, ◌∙◌, subst}
+use Rattle.std.specs.Prelude.{option_map, unwrap_or, if◌then◌else◌}
 use Rattle.std.specs.Str.{bytes_eq}
 use Rattle.std.proofs.lemmas.List.{append_assoc}
 use Rattle.heat_value.specs.Data.{Members}
 use Rattle.heat_plan.specs.Plans.{PlanData}
 use Rattle.heat_plan.specs.declared.facts.Facts.{Facts}
-use Rattle.heat_plan.specs.declared.item.Item.{Item}
 use Rattle.heat_plan.specs.declared.token.Token.{Token}
 use Rattle.heat_plan.specs.declared.calls.Request.{Request}
 use Rattle.heat_plan.specs.declared.calls.Request.TheVariants as request
 use Rattle.heat_plan.specs.declared.calls.Answered.{Answered}
 use Rattle.heat_plan.specs.declared.calls.Answered.TheVariants as answer
 use Rattle.heat_plan.specs.declared.phase.Act.{Act}
-use Rattle.heat_plan.specs.declared.phase.Act.TheVariants.{Init, Create}
+use Rattle.heat_plan.specs.declared.phase.Act.TheVariants.{Create}
 use Rattle.heat_plan.specs.declared.phase.Status.{Status}
 use Rattle.heat_plan.specs.declared.phase.Status.TheVariants.{Complete, InProgress, Failed}
 use Rattle.core_state.specs.declared.stack.Stack.{Stack}
 use Rattle.core_state.specs.declared.row.Row.{Row}
-use Rattle.core_state.specs.declared.graph.Graph.{Graph}
-use Rattle.core_state.specs.declared.graph.Point.{Point}
-use Rattle.core_state.specs.declared.mail.Letter.{Letter}
 use Rattle.core_state.specs.declared.mail.Job.{Job}
 use Rattle.core_state.specs.declared.mail.Stage.{Stage}
-use Rattle.core_state.specs.declared.mail.Stage.TheVariants.{Taken, Asking, Polling, Ending}
+use Rattle.core_state.specs.declared.mail.Stage.TheVariants.{Asking, Polling, Ending}
 use Rattle.core_state.specs.declared.entry.Actor.TheVariants.{Engine}
 use Rattle.core_state.specs.declared.entry.Cause.{Cause}
 use Rattle.core_state.specs.declared.entry.Entry.{Entry}
@@ -33,32 +29,32 @@ use Rattle.core_state.specs.declared.entry.RowWrite.TheVariants.{Set}
 use Rattle.core_state.specs.declared.entry.What.TheVariants as what
 use Rattle.core_state.specs.declared.entry.Why.{Why}
 use Rattle.core_state.specs.Changes.{applied}
-use Rattle.core_state.specs.State.{StateData, stack_at, graph_at, row_at, job_at, put_row, put_job, put_stack, cut_job}
+use Rattle.core_state.specs.State.{StateData, stack_at, row_at, job_at, put_row, put_job, put_stack, cut_job}
 use Rattle.core_state.specs.Steps.{IsOfUnknownSize, facts, code}
 use Rattle.core_state.specs.Turns.{token_of, by_engine, call_entry, Creating, created_with, with_stage, asked_changes, asked_entries, ready_row, ready_changes, ready_entries, IsFailure, quota, create_failed, poll_failed, broken, failed_row, failed_changes, failed_entries, cause_at}
 use Rattle.provider.specs.Table.{TokenState, after_each}
 use Rattle.core_laws.specs.Asked.{HasNoCall}
 use Rattle.core_laws.specs.Opening.{Opening, first_of}
 use Rattle.core_laws.specs.Could.{could}
-use Rattle.core_laws.specs.Newest.{Latest, latest_of, newest}
+use Rattle.core_laws.specs.Newest.{latest_of, newest}
 use Rattle.core_laws.specs.Marked.{mark_of}
 use Rattle.core_laws.specs.Stored.{stored}
 use Rattle.core_laws.specs.Tokens.{token_at, IsNamed}
-use Rattle.core_laws.specs.Caused.{EndsWithCall, Blames, quota as by_quota, failed as by_failed, broken as by_broken, CausedByCall, IsCaused}
+use Rattle.core_laws.specs.Caused.{EndsWithCall, Blames, quota as by_quota, failed as by_failed, broken as by_broken, IsCaused}
 use Rattle.core_laws.specs.Headline.{AtPrefix, IsOfNewest, FitsIn}
-use Rattle.core_laws.proofs.Rows.{same_some, same_or_not, text_or_not, row-key, row_here, row_else, job-key, stack-key, stack_put}
+use Rattle.core_laws.proofs.Rows.{same_some, row_here, row_else, job-key, stack-key}
 use Rattle.core_laws.proofs.Coulds.{could-silent, could-called, could-other}
 use Rattle.core_laws.proofs.Tells.{none, alone, rows_mail, mail_alone}
 use Rattle.core_laws.proofs.Folds.{newest-append, mark-append, stored-append}
 use Rattle.core_laws.proofs.Going.{Holds, Going}
 use Rattle.core_laws.proofs.NextFits.{never_complete}
-use Rattle.core_laws.proofs.Moves.{StackOn, GraphOn, Moves, stack_same, graph_same, stack_marked}
+use Rattle.core_laws.proofs.Moves.{StackOn, Moves, stack_same, graph_same, stack_marked}
 use Rattle.core_laws.proofs.Turned.{with_row, moves_row}
 use Rattle.core_laws.proofs.Kept.{one_row}
-use Rattle.core_laws.proofs.Agreed.{StateFits, AskFits, IsBegun, living, Agreed}
-use Rattle.core_laws.proofs.AgreedTurns.{OwnPoint, TurnsOn, turned, token_same}
+use Rattle.core_laws.proofs.Agreed.{StateFits, AskFits, living, Agreed}
+use Rattle.core_laws.proofs.AgreedTurns.{turned}
 use Rattle.core_laws.proofs.Boundary.{at_boundary}
-use Rattle.core_laws.proofs.Says.{Says, fits_in, Completes, complete_kept, named_same, named_called, mark_put, latest_put, stack_back}
+use Rattle.core_laws.proofs.Says.{fits_in, complete_kept, named_same, named_called, mark_put, latest_put, stack_back}
 use Rattle.core_laws.proofs.Told.{Follows}
 use Rattle.core_laws.proofs.QuietTold.{next, own_stays, asked_put, asked_cut}
 
@@ -99,12 +95,13 @@ module _ (o : Opening) (h : List Entry) (s : StateData) (g : Going s) (a : Agree
 
   at_job : AskFits stage k.row (could (first_of o) h (token_of k.row))
   at_job = subst (λ (x : Stage). AskFits x k.row (could (first_of o) h (token_of k.row))) k.works.stage_is
-    (a.asked e k.job k.row k.works.its (subst (λ (n : ℕ). row_at s.rows n ≡ Some k.row) (sym k.its_row) k.found))
+      (a.asked e k.job k.row k.works.its (subst (λ (n : ℕ). row_at s.rows n ≡ Some k.row) (sym k.its_row) k.found))
 
   -- a row on which something was begun and isn't complete says nothing of its states
   unsaid : (q : Row) (states new : List TokenState) → q.act ≡ Create → (q.status ≡ Complete → ⊥) → q.target ≡ k.row.target → StateFits k.row states → StateFits q new
   unsaid q states new act status target f = record {
-    plain = target ∙ f.plain; acts = inr act;
+    plain = target ∙ f.plain;
+    acts = inr act;
     still = λ init. let is = act in cc;
     ready = λ _ complete. absurd (status complete);
   }
@@ -125,13 +122,16 @@ module _ (o : Opening) (h : List Entry) (s : StateData) (g : Going s) (a : Agree
     -- right behind the call
     at_called : AtPrefix o (h ++ call ∷ [])
     at_called = record {
-      complete = complete_kept o h (h ++ call ∷ []) (λ name marked. (newest-append o h (call ∷ []) name, mark-append o h (call ∷ []) name,
+      complete = complete_kept o h (h ++ call ∷ []) (λ name marked. (
+        newest-append o h (call ∷ []) name,
+        mark-append o h (call ∷ []) name,
         λ t in_it. could_else [] none t (λ same.
-          let own : name ≡ k.row.stack = sym in_it ∙ ap (λ (x : Token). x.stack) same in
-          not_complete (subst (λ (x : List ℕ). mark_of o h x ≡ Some Complete) own (sym (mark-append o h (call ∷ []) name) ∙ marked)))))
-        (at_boundary o h s g a).complete;
+            let own : name ≡ k.row.stack = sym in_it ∙ ap (λ (x : Token). x.stack) same in
+            not_complete (subst (λ (x : List ℕ). mark_of o h x ≡ Some Complete) own (sym (mark-append o h (call ∷ []) name) ∙ marked))),
+      ))
+          (at_boundary o h s g a).complete;
       named = named_called o h (h ++ call ∷ []) k.row (subst (λ (rows : List Row). row_at rows k.row.no ≡ Some k.row) (sym a.stored_is) k.found)
-        (λ init. let is = k.act_is in cc) (could_else [] none) (stored-append o h (call ∷ [])) (at_boundary o h s g a).named;
+          (λ init. let is = k.act_is in cc) (could_else [] none) (stored-append o h (call ∷ [])) (at_boundary o h s g a).named;
     }
 
     called : FitsIn o (h ++ []) call
@@ -177,10 +177,10 @@ module _ (o : Opening) (h : List Entry) (s : StateData) (g : Going s) (a : Agree
       follow_rows t gt b =
           let end = at_boundary o (h ++ call ∷ rows ∷ mail ∷ []) t gt b in
           next called at_called
-            (next (fits_in o (h ++ call ∷ []) (Engine e) (what.Rows (Set q ∷ [])) tt)
-              (behind (rows ∷ []) (rows ∷ mail ∷ []) silent_rows silent_both (λ name. newest-append o h (call ∷ rows ∷ []) name) (λ name. mark-append o h (call ∷ rows ∷ []) name)
-                (stored-append o h (call ∷ rows ∷ []) ∙ sym (stored-append o h (call ∷ rows ∷ mail ∷ []))) end.named)
-              (next (fits_in o (h ++ call ∷ rows ∷ []) (Engine e) (what.Mail ms) tt) end tt))
+          (next (fits_in o (h ++ call ∷ []) (Engine e) (what.Rows (Set q ∷ [])) tt)
+          (behind (rows ∷ []) (rows ∷ mail ∷ []) silent_rows silent_both (λ name. newest-append o h (call ∷ rows ∷ []) name) (λ name. mark-append o h (call ∷ rows ∷ []) name)
+          (stored-append o h (call ∷ rows ∷ []) ∙ sym (stored-append o h (call ∷ rows ∷ mail ∷ []))) end.named)
+          (next (fits_in o (h ++ call ∷ rows ∷ []) (Engine e) (what.Mail ms) tt) end tt))
 
       module _ (stack : List ℕ) (trav : ℕ) (act : Act) (cause : Cause) where
         abbrev mark : Entry
@@ -194,13 +194,13 @@ module _ (o : Opening) (h : List Entry) (s : StateData) (g : Going s) (a : Agree
         follow_failed t gt b is_newest caused =
             let end = at_boundary o (h ++ call ∷ rows ∷ mail ∷ mark ∷ []) t gt b in
             next called at_called
-              (next (fits_in o (h ++ call ∷ []) (Engine e) (what.Rows (Set q ∷ [])) tt)
-                (behind (rows ∷ []) (rows ∷ mail ∷ mark ∷ []) silent_rows silent_all (λ name. newest-append o h (call ∷ rows ∷ []) name) (λ name. mark-append o h (call ∷ rows ∷ []) name)
-                  (stored-append o h (call ∷ rows ∷ []) ∙ sym (stored-append o h (call ∷ rows ∷ mail ∷ mark ∷ []))) end.named)
-                (next (fits_in o (h ++ call ∷ rows ∷ []) (Engine e) (what.Mail ms) tt)
-                  (behind (rows ∷ mail ∷ []) (rows ∷ mail ∷ mark ∷ []) silent_both silent_all (λ name. newest-append o h (call ∷ rows ∷ mail ∷ []) name) (λ name. mark-append o h (call ∷ rows ∷ mail ∷ []) name)
-                    (stored-append o h (call ∷ rows ∷ mail ∷ []) ∙ sym (stored-append o h (call ∷ rows ∷ mail ∷ mark ∷ []))) end.named)
-                  (next (fits_in o (h ++ call ∷ rows ∷ mail ∷ []) (Engine e) (what.Mark stack trav act (Some cause)) (is_newest, caused)) end tt)))
+            (next (fits_in o (h ++ call ∷ []) (Engine e) (what.Rows (Set q ∷ [])) tt)
+            (behind (rows ∷ []) (rows ∷ mail ∷ mark ∷ []) silent_rows silent_all (λ name. newest-append o h (call ∷ rows ∷ []) name) (λ name. mark-append o h (call ∷ rows ∷ []) name)
+            (stored-append o h (call ∷ rows ∷ []) ∙ sym (stored-append o h (call ∷ rows ∷ mail ∷ mark ∷ []))) end.named)
+            (next (fits_in o (h ++ call ∷ rows ∷ []) (Engine e) (what.Mail ms) tt)
+            (behind (rows ∷ mail ∷ []) (rows ∷ mail ∷ mark ∷ []) silent_both silent_all (λ name. newest-append o h (call ∷ rows ∷ mail ∷ []) name) (λ name. mark-append o h (call ∷ rows ∷ mail ∷ []) name)
+            (stored-append o h (call ∷ rows ∷ mail ∷ []) ∙ sym (stored-append o h (call ∷ rows ∷ mail ∷ mark ∷ []))) end.named)
+            (next (fits_in o (h ++ call ∷ rows ∷ mail ∷ []) (Engine e) (what.Mark stack trav act (Some cause)) (is_newest, caused)) end tt)))
 
   -- ---- no row is written
   moves_still : (jobs : List Job) → Moves s (record s { jobs = jobs }) k.row.no
@@ -218,7 +218,11 @@ module _ (o : Opening) (h : List Entry) (s : StateData) (g : Going s) (a : Agree
       → ((f : ℕ) (j : Job) (x : Row) → job_at jobs f ≡ Some j → row_at s.rows j.row ≡ Some x → AskFits j.stage x (could (first_of o) (h ++ call_entry e k.row asked given ∷ rest) (token_of x)))
       → Agreed o (h ++ call_entry e k.row asked given ∷ rest) (record s { jobs = jobs })
   still_turns asked given rest jobs quiet rows_are newest_is marks_are asks = turned o h (h ++ call_entry e k.row asked given ∷ rest) s (record s { jobs = jobs }) k.row k.row a (record {
-    was = k.found; is = k.found; number = refl; stack = refl; named = refl;
+    was = k.found;
+    is = k.found;
+    number = refl;
+    stack = refl;
+    named = refl;
     moves = moves_still jobs;
     graphs = λ name gr at. (gr, at, refl);
     own = λ name gr node p named at there its. own_stays s.graphs name gr node p k.row k.row at its (λ act status. (act, status));
@@ -237,12 +241,14 @@ module _ (o : Opening) (h : List Entry) (s : StateData) (g : Going s) (a : Agree
   module _ (k : Creating s e Asking) where
     pub begun_agrees : Agreed o (h ++ asked_entries e k.job k.row) (applied (asked_changes k.job) s)
     begun_agrees = still_turns o h s g a e Asking k (created_with k.row) answer.Begun (by_engine e (what.Mail (Held (with_stage Polling k.job) ∷ [])) ∷ []) (put_job (with_stage Polling k.job) s.jobs)
-      (mail_alone e (Held (with_stage Polling k.job) ∷ []))
-      (stored-append o h (asked_entries e k.job k.row)) (λ name. newest-append o h (asked_entries e k.job k.row) name) (λ name. mark-append o h (asked_entries e k.job k.row) name)
-      (asked_put o h s g a e (with_stage Polling k.job) [] (record s { jobs = put_job (with_stage Polling k.job) s.jobs }) k.row k.row (λ x. could (first_of o) (h ++ asked_entries e k.job k.row) (token_of x))
-        (is_one o h s g a e Asking k) (job-key s.jobs e k.job k.works.its) refl k.its_row k.found
-        (None, could_own o h s g a e Asking k (created_with k.row) answer.Begun (by_engine e (what.Mail (Held (with_stage Polling k.job) ∷ [])) ∷ []) (mail_alone e (Held (with_stage Polling k.job) ∷ []))
-          ∙ ap (after_each (created_with k.row) answer.Begun) (at_job o h s g a e Asking k)))
+        (mail_alone e (Held (with_stage Polling k.job) ∷ []))
+        (stored-append o h (asked_entries e k.job k.row)) (λ name. newest-append o h (asked_entries e k.job k.row) name) (λ name. mark-append o h (asked_entries e k.job k.row) name)
+        (asked_put o h s g a e (with_stage Polling k.job) [] (record s { jobs = put_job (with_stage Polling k.job) s.jobs }) k.row k.row (λ x. could (first_of o) (h ++ asked_entries e k.job k.row) (token_of x))
+        (is_one o h s g a e Asking k) (job-key s.jobs e k.job k.works.its) refl k.its_row k.found (
+          None,
+          could_own o h s g a e Asking k (created_with k.row) answer.Begun (by_engine e (what.Mail (Held (with_stage Polling k.job) ∷ [])) ∷ []) (mail_alone e (Held (with_stage Polling k.job) ∷ []))
+              ∙ ap (after_each (created_with k.row) answer.Begun) (at_job o h s g a e Asking k),
+        ))
 
     pub begun_follows : Going (applied (asked_changes k.job) s) → Follows o h [] (asked_entries e k.job k.row)
     begun_follows gt = follow_mail o h s g a e Asking k (created_with k.row) answer.Begun (Held (with_stage Polling k.job) ∷ []) (applied (asked_changes k.job) s) gt begun_agrees
@@ -253,19 +259,19 @@ module _ (o : Opening) (h : List Entry) (s : StateData) (g : Going s) (a : Agree
         → Agreed o (h ++ call_entry e k.row request.Poll given ∷ []) s
     polled_once given goes = still_turns o h s g a e Polling k request.Poll given [] s.jobs none
         (stored-append o h (call_entry e k.row request.Poll given ∷ [])) (λ name. newest-append o h (call_entry e k.row request.Poll given ∷ []) name) (λ name. mark-append o h (call_entry e k.row request.Poll given ∷ []) name) asks where
-      own : AskFits Polling k.row (could (first_of o) (h ++ call_entry e k.row request.Poll given ∷ []) (token_of k.row))
-      own = by (at_job o h s g a e Polling k) where
-        by : (f : Option Facts) × (could (first_of o) h (token_of k.row) ≡ Some (living k.row f) ∷ []) → AskFits Polling k.row (could (first_of o) (h ++ call_entry e k.row request.Poll given ∷ []) (token_of k.row))
-        by (f, is) = let (n, new) = goes f in (n, could_own o h s g a e Polling k request.Poll given [] none ∙ (ap (after_each request.Poll given) is ∙ new))
+          own : AskFits Polling k.row (could (first_of o) (h ++ call_entry e k.row request.Poll given ∷ []) (token_of k.row))
+          own = by (at_job o h s g a e Polling k) where
+            by : (f : Option Facts) × (could (first_of o) h (token_of k.row) ≡ Some (living k.row f) ∷ []) → AskFits Polling k.row (could (first_of o) (h ++ call_entry e k.row request.Poll given ∷ []) (token_of k.row))
+            by (f, is) = let (n, new) = goes f in (n, could_own o h s g a e Polling k request.Poll given [] none ∙ (ap (after_each request.Poll given) is ∙ new))
 
-      asks : (f : ℕ) (j : Job) (x : Row) → job_at s.jobs f ≡ Some j → row_at s.rows j.row ≡ Some x → AskFits j.stage x (could (first_of o) (h ++ call_entry e k.row request.Poll given ∷ []) (token_of x))
-      asks f j x at_f at_x =
-          let engines : f ≡ e = (g.holds f j at_f).0 ∙ sym (is_one o h s g a e Polling k) in
-          let jobs : j ≡ k.job = same_some j k.job (subst (λ (n : ℕ). job_at s.jobs n ≡ Some j) engines at_f) k.works.its in
-          let rows : x ≡ k.row = same_some x k.row (subst (λ (n : ℕ). row_at s.rows n ≡ Some x) (ap (λ (y : Job). y.row) jobs ∙ k.its_row) at_x) k.found in
-          let stage : j.stage ≡ Polling = ap (λ (y : Job). y.stage) jobs ∙ k.works.stage_is in
-          subst (λ (y : Stage). AskFits y x (could (first_of o) (h ++ call_entry e k.row request.Poll given ∷ []) (token_of x))) (sym stage)
-            (subst (λ (y : Row). AskFits Polling y (could (first_of o) (h ++ call_entry e k.row request.Poll given ∷ []) (token_of y))) (sym rows) own)
+          asks : (f : ℕ) (j : Job) (x : Row) → job_at s.jobs f ≡ Some j → row_at s.rows j.row ≡ Some x → AskFits j.stage x (could (first_of o) (h ++ call_entry e k.row request.Poll given ∷ []) (token_of x))
+          asks f j x at_f at_x =
+              let engines : f ≡ e = (g.holds f j at_f).0 ∙ sym (is_one o h s g a e Polling k) in
+              let jobs : j ≡ k.job = same_some j k.job (subst (λ (n : ℕ). job_at s.jobs n ≡ Some j) engines at_f) k.works.its in
+              let rows : x ≡ k.row = same_some x k.row (subst (λ (n : ℕ). row_at s.rows n ≡ Some x) (ap (λ (y : Job). y.row) jobs ∙ k.its_row) at_x) k.found in
+              let stage : j.stage ≡ Polling = ap (λ (y : Job). y.stage) jobs ∙ k.works.stage_is in
+              subst (λ (y : Stage). AskFits y x (could (first_of o) (h ++ call_entry e k.row request.Poll given ∷ []) (token_of x))) (sym stage)
+              (subst (λ (y : Row). AskFits Polling y (could (first_of o) (h ++ call_entry e k.row request.Poll given ∷ []) (token_of y))) (sym rows) own)
 
     pub waits_agrees : Agreed o (h ++ call_entry e k.row request.Poll answer.NotYet ∷ []) s
     waits_agrees = polled_once answer.NotYet (λ f. (f, refl))
@@ -298,11 +304,15 @@ module _ (o : Opening) (h : List Entry) (s : StateData) (g : Going s) (a : Agree
       told = by (at_job o h s g a e Polling k) where
         by : (n : Option Facts) × (could (first_of o) h (token_of k.row) ≡ Some (living k.row n) ∷ []) → could (first_of o) (h ++ ready_entries e k.job k.row f) (token_of k.row) ≡ Some (living new (Some f)) ∷ []
         by (n, is) = could_own o h s g a e Polling k request.Poll (answer.Ready f) rest silent_rest ∙ (ap (after_each request.Poll (answer.Ready f)) is
-          ∙ ap (λ (p : Members). Some (record { kind = k.row.kind.name; props = p; facts = Some f; leaving = false }) ∷ []) (sym props_same))
+            ∙ ap (λ (p : Members). Some (record { kind = k.row.kind.name; props = p; facts = Some f; leaving = false }) ∷ []) (sym props_same))
 
       pub ready_agrees : Agreed o (h ++ ready_entries e k.job k.row f) (applied (ready_changes k.job k.row f) s)
       ready_agrees = turned o h (h ++ ready_entries e k.job k.row f) s ready_to k.row new a (record {
-        was = k.found; is = row_here new s.rows; number = refl; stack = refl; named = refl;
+        was = k.found;
+        is = row_here new s.rows;
+        number = refl;
+        stack = refl;
+        named = refl;
         moves = moves_row s new s.letters (put_job (with_stage Ending k.job) s.jobs);
         graphs = λ name gr at. (gr, at, refl);
         own = λ name gr node p named at there its. own_stays s.graphs name gr node p k.row new at its (λ act status. (act, refl));
@@ -314,7 +324,7 @@ module _ (o : Opening) (h : List Entry) (s : StateData) (g : Going s) (a : Agree
         could_else = could_else o h s g a e Polling k request.Poll (answer.Ready f) rest silent_rest;
         state = λ old. record { plain = refl; acts = inr k.act_is; still = λ init. let is = k.act_is in cc; ready = λ act status. (f, told) };
         asked = asked_put o h s g a e (with_stage Ending k.job) [] ready_to k.row new (λ x. could (first_of o) (h ++ ready_entries e k.job k.row f) (token_of x))
-          (is_one o h s g a e Polling k) (job-key s.jobs e k.job k.works.its) refl k.its_row (row_here new s.rows) tt;
+            (is_one o h s g a e Polling k) (job-key s.jobs e k.job k.works.its) refl k.its_row (row_here new s.rows) tt;
       })
 
       pub ready_follows : Going (applied (ready_changes k.job k.row f) s) → Follows o h [] (ready_entries e k.job k.row f)
@@ -339,9 +349,15 @@ module _ (o : Opening) (h : List Entry) (s : StateData) (g : Going s) (a : Agree
         → ((name : List ℕ) → mark_of o (h ++ call_entry e k.row asked given ∷ by_engine e (what.Rows (Set failed ∷ [])) ∷ by_engine e (what.Mail (Ended e ∷ [])) ∷ marks) name ≡ option_map (λ (st : Stack). st.status) (stack_at stacks name))
         → Agreed o (h ++ call_entry e k.row asked given ∷ by_engine e (what.Rows (Set failed ∷ [])) ∷ by_engine e (what.Mail (Ended e ∷ [])) ∷ marks) (failed_to stacks)
     failed_agrees marks quiet stacks kept were rows_are newest_is marks_are = turned o h _ s (failed_to stacks) k.row failed a (record {
-      was = k.found; is = row_here failed s.rows; number = refl; stack = refl; named = refl;
+      was = k.found;
+      is = row_here failed s.rows;
+      number = refl;
+      stack = refl;
+      named = refl;
       moves = record {
-        stacks = kept; graphs = λ name gr node named n at there ne. graph_same s.graphs name gr node at; were = λ name gr at. (gr, at, refl);
+        stacks = kept;
+        graphs = λ name gr node named n at there ne. graph_same s.graphs name gr node at;
+        were = λ name gr at. (gr, at, refl);
         rows = λ n ne. row_else failed s.rows n (λ i. ne (sym i));
       };
       graphs = λ name gr at. (gr, at, refl);
@@ -358,14 +374,14 @@ module _ (o : Opening) (h : List Entry) (s : StateData) (g : Going s) (a : Agree
 
     same_agrees : Agreed o (h ++ three) (failed_to s.stacks)
     same_agrees = failed_agrees [] (rows_mail e (Set failed ∷ []) (Ended e ∷ []) [] none) s.stacks (stack_same s.stacks) (λ name st at. (st, at, refl))
-      (stored-append o h three) (λ name. newest-append o h three name ∙ a.newest_is name) (λ name. mark-append o h three name ∙ a.marks_are name)
+        (stored-append o h three) (λ name. newest-append o h three name ∙ a.newest_is name) (λ name. mark-append o h three name ∙ a.marks_are name)
 
     same_follows : Going (failed_to s.stacks) → Follows o h [] three
     same_follows gt = follow_rows o h s g a e stage k asked given failed (Ended e ∷ []) (failed_to s.stacks) gt same_agrees
 
     abbrev Goal : Stack → Type 0
     Goal st = Going (applied (failed_changes e st k.row) s)
-      → Agreed o (h ++ failed_entries e st k.row asked given reason) (applied (failed_changes e st k.row) s) × Follows o h [] (failed_entries e st k.row asked given reason)
+        → Agreed o (h ++ failed_entries e st k.row asked given reason) (applied (failed_changes e st k.row) s) × Follows o h [] (failed_entries e st k.row asked given reason)
 
     module _ (name : List ℕ) (number trav : ℕ) (act : Act) (plan : Option PlanData) (at : stack_at s.stacks k.row.stack ≡ Some (stack_of name number trav act InProgress plan)) where
       abbrev old : Stack
@@ -385,12 +401,12 @@ module _ (o : Opening) (h : List Entry) (s : StateData) (g : Going s) (a : Agree
 
       agrees : Agreed o (h ++ four) (failed_to (put_stack (stack_of name number trav act Failed plan) s.stacks))
       agrees = failed_agrees (last ∷ []) (rows_mail e (Set failed ∷ []) (Ended e ∷ []) (last ∷ []) (alone (Engine e) (what.Mark name trav act (Some (cause_at k.row reason))) tt))
-        (put_stack (stack_of name number trav act Failed plan) s.stacks)
-        (stack_marked old (stack_of name number trav act Failed plan) s.stacks there refl refl)
-        (stack_back old (stack_of name number trav act Failed plan) s.stacks there refl)
-        (stored-append o h four)
-        (λ x. newest-append o h four x ∙ (a.newest_is x ∙ latest_put old (stack_of name number trav act Failed plan) s.stacks there refl x))
-        (λ x. mark-append o h four x ∙ (ap (λ (y : Option Status). if bytes_eq name x then Some Failed else y) (a.marks_are x) ∙ mark_put (stack_of name number trav act Failed plan) s.stacks x))
+          (put_stack (stack_of name number trav act Failed plan) s.stacks)
+          (stack_marked old (stack_of name number trav act Failed plan) s.stacks there refl refl)
+          (stack_back old (stack_of name number trav act Failed plan) s.stacks there refl)
+          (stored-append o h four)
+          (λ x. newest-append o h four x ∙ (a.newest_is x ∙ latest_put old (stack_of name number trav act Failed plan) s.stacks there refl x))
+          (λ x. mark-append o h four x ∙ (ap (λ (y : Option Status). if bytes_eq name x then Some Failed else y) (a.marks_are x) ∙ mark_put (stack_of name number trav act Failed plan) s.stacks x))
 
       newest_one : IsOfNewest o (h ++ three) name trav
       newest_one = record {
@@ -402,9 +418,10 @@ module _ (o : Opening) (h : List Entry) (s : StateData) (g : Going s) (a : Agree
 
       caused : IsCaused o (h ++ three) (Engine e) name (cause_at k.row reason)
       caused = inl (record {
-        request = asked; given = given;
+        request = asked;
+        given = given;
         call = subst (λ (x : List ℕ). EndsWithCall (Engine e) (h ++ three) (token_at x k.row.name k.row.no) asked given) (sym its_name)
-          (record { earlier = h; rows = Set failed ∷ []; mail = Ended e ∷ []; entries = refl });
+            (record { earlier = h; rows = Set failed ∷ []; mail = Ended e ∷ []; entries = refl });
         row = failed;
         found = subst (λ (rows : List Row). row_at rows k.row.no ≡ Some failed) (sym (stored-append o h three)) (row_here failed (stored o h));
         blames = subst (λ (x : Act). Blames x given reason) (sym k.act_is) (blamed k.row asked given reason failure);

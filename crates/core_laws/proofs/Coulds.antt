@@ -1,6 +1,6 @@
 -- What entries leave of the states in which a token may be.
-use Rattle.std.proofs.Common.{◌≡◌, ◌≢◌, ◌⊎◌, inl, inr, ℕ, Bool, true, false, cond, not, List, [], ◌∷◌, ◌++◌, Option, Some, None, refl, sym, ap, ◌∙◌, subst}
-use Rattle.std.specs.Prelude.{All, Contains, IsSome, filter, flat_map, if◌then◌else◌}
+use Rattle.std.proofs.Common.{◌≡◌, ◌≢◌, ◌⊎◌, inl, inr, ℕ, Bool, true, false, not, List, [], ◌∷◌, ◌++◌, Some, None, refl, sym, ap, ◌∙◌, subst}
+use Rattle.std.specs.Prelude.{Contains, IsSome, if◌then◌else◌}
 use Rattle.heat_value.specs.Data.{Members}
 use Rattle.heat_plan.specs.declared.token.Token.{Token}
 use Rattle.heat_plan.specs.declared.calls.Request.{Request}
@@ -13,12 +13,10 @@ use Rattle.core_state.specs.declared.entry.What.{What}
 use Rattle.core_state.specs.declared.entry.What.TheVariants as what
 use Rattle.provider.specs.Same.{same_token}
 use Rattle.provider.specs.Table.{TokenState, after, after_each, once, same_state}
-use Rattle.provider.specs.Cloud.{Cloud, state_of}
-use Rattle.provider.specs.Moves.{Answers, Rests}
+use Rattle.provider.specs.Cloud.{state_of}
 use Rattle.provider.proofs.Sames.{same_token-same, same_token-true}
 use Rattle.provider.proofs.States.{fold-keeps}
 use Rattle.core_laws.specs.Could.{could_by, could_from, could, AllAlive}
-use Rattle.core_laws.specs.Shown.{Agrees}
 use Rattle.core_laws.specs.Asked.{IsNoCall, HasNoCall}
 use Rattle.core_laws.specs.Laws.{CallAgrees, SilenceAgrees}
 use Rattle.core_laws.proofs.Lists.{All-none, All-more, All-first, All-rest, All-sifted, All-flat}
@@ -55,9 +53,9 @@ pub could-called : (first : Token → TokenState) (h after : List Entry) (by : A
 could-called first h after by t request given none =
     could_from-append t (first t ∷ []) h (record { by = by; what = what.Call t request given } ∷ after)
     ∙ (ap (λ (x : List TokenState). could_from t x after) (by_same (same_token t t) (same_token-same t)) ∙ could_from-silent t (after_each request given (could first h t)) after none) where
-  by_same : (b : Bool) → b ≡ true → (if b then after_each request given (could first h t) else could first h t) ≡ after_each request given (could first h t)
-  by_same true e = refl
-  by_same false e = cc
+      by_same : (b : Bool) → b ≡ true → (if b then after_each request given (could first h t) else could first h t) ≡ after_each request given (could first h t)
+      by_same true e = refl
+      by_same false e = cc
 
 -- a call to another token
 pub could-other : (first : Token → TokenState) (h after : List Entry) (by : Actor) (t token : Token) (request : Request) (given : Answered) → token ≢ t → HasNoCall after
@@ -65,9 +63,9 @@ pub could-other : (first : Token → TokenState) (h after : List Entry) (by : Ac
 could-other first h after by t token request given ne none =
     could_from-append t (first t ∷ []) h (record { by = by; what = what.Call token request given } ∷ after)
     ∙ (ap (λ (x : List TokenState). could_from t x after) (by_same (same_token token t) refl) ∙ could_from-silent t (could first h t) after none) where
-  by_same : (b : Bool) → same_token token t ≡ b → (if b then after_each request given (could first h t) else could first h t) ≡ could first h t
-  by_same true e = absurd (ne (same_token-true token t e))
-  by_same false e = refl
+      by_same : (b : Bool) → same_token token t ≡ b → (if b then after_each request given (could first h t) else could first h t) ≡ could first h t
+      by_same true e = absurd (ne (same_token-true token t e))
+      by_same false e = refl
 
 -- ---- what the cloud shows
 

@@ -1,6 +1,6 @@
 -- A create is told.
-use Rattle.std.proofs.Common.{◌≡◌, ◌≢◌, ◌⊎◌, inl, inr, ℕ, ◌<◌, ◌+◌, Bool, true, false, List, [], ◌∷◌, ◌++◌, map, length, Option, Some, None, refl, sym, ap, ◌∙◌, subst, arith}
-use Rattle.std.specs.Prelude.{All, Contains, option_map, slice_get, fold, if◌then◌else◌}
+use Rattle.std.proofs.Common.{◌≡◌, ◌≢◌, ◌⊎◌, inl, inr, ℕ, Bool, true, false, List, [], ◌∷◌, ◌++◌, map, Option, Some, None, refl, sym, ap, ◌∙◌, subst, arith}
+use Rattle.std.specs.Prelude.{slice_get, fold, if◌then◌else◌}
 use Rattle.std.specs.Str.{bytes_eq}
 use Rattle.std.proofs.lemmas.Slice.Eq.{bytes_eq-Decides}
 use Rattle.std.proofs.lemmas.Grind.{fold-append}
@@ -8,27 +8,23 @@ use Rattle.std.proofs.lemmas.List.{append_assoc}
 use Rattle.heat_plan.specs.Plans.{PlanData}
 use Rattle.heat_plan.specs.declared.item.Item.{Item}
 use Rattle.heat_plan.specs.declared.token.Token.{Token}
-use Rattle.heat_plan.specs.declared.phase.Act.TheVariants.{Init, Create}
+use Rattle.heat_plan.specs.declared.phase.Act.TheVariants.{Create}
 use Rattle.heat_plan.specs.declared.phase.Status.{Status}
-use Rattle.heat_plan.specs.declared.phase.Status.TheVariants.{Complete, InProgress, Failed}
+use Rattle.heat_plan.specs.declared.phase.Status.TheVariants.{Complete, InProgress}
 use Rattle.traversal_graph.specs.declared.shape.Node.{Node}
 use Rattle.traversal_graph.specs.declared.shape.Node.TheVariants.{U}
 use Rattle.traversal_graph.specs.Nodes.{update_nodes}
 use Rattle.core_state.specs.declared.stack.Stack.{Stack}
 use Rattle.core_state.specs.declared.row.Row.{Row}
-use Rattle.core_state.specs.declared.graph.Graph.{Graph}
-use Rattle.core_state.specs.declared.graph.Point.{Point}
 use Rattle.core_state.specs.declared.mail.Letter.{Letter}
-use Rattle.core_state.specs.declared.mail.Job.{Job}
 use Rattle.core_state.specs.declared.entry.Actor.{Actor}
 use Rattle.core_state.specs.declared.entry.Actor.TheVariants.{Main}
 use Rattle.core_state.specs.declared.entry.Entry.{Entry}
 use Rattle.core_state.specs.declared.entry.MailWrite.TheVariants.{Sent}
 use Rattle.core_state.specs.declared.entry.RowWrite.TheVariants.{Set}
 use Rattle.core_state.specs.declared.entry.What.TheVariants as what
-use Rattle.core_state.specs.Changes.{applied}
-use Rattle.core_state.specs.Commands.{Creates, created_changes, created_entries, new_row, new_rows, row_numbers, letters_to, first_status, set_entry, sent_entry, complete_entry}
-use Rattle.core_state.specs.State.{StateData, stack_at, graph_at, row_at, job_at, put_row, put_stack}
+use Rattle.core_state.specs.Commands.{Creates, created_entries, new_row, new_rows, row_numbers, letters_to, first_status, set_entry, sent_entry, complete_entry}
+use Rattle.core_state.specs.State.{StateData, stack_at, row_at, put_row}
 use Rattle.core_state.specs.Turns.{token_of}
 use Rattle.provider.specs.Table.{TokenState}
 use Rattle.core_laws.specs.Asked.{HasNoCall}
@@ -39,8 +35,7 @@ use Rattle.core_laws.specs.Newest.{Latest, latest_of, newest}
 use Rattle.core_laws.specs.Marked.{mark_of}
 use Rattle.core_laws.specs.Stored.{written, stored}
 use Rattle.core_laws.specs.Tokens.{IsNamed}
-use Rattle.core_laws.specs.Headline.{AtPrefix, IsOfNewest, FitsIn}
-use Rattle.core_laws.proofs.Tables.{cases}
+use Rattle.core_laws.specs.Headline.{AtPrefix}
 use Rattle.core_laws.proofs.Rows.{same_some, text_or_not, stack_put, stack_here, stack_else, graph_here, graph_else}
 use Rattle.core_laws.proofs.Coulds.{could-silent}
 use Rattle.core_laws.proofs.Tells.{alone, created-silent}
@@ -48,8 +43,8 @@ use Rattle.core_laws.proofs.Folds.{newest_on, mark_on, stored_on, newest-append,
 use Rattle.core_laws.proofs.Going.{Going}
 use Rattle.core_laws.proofs.Drawn.{put_rows, rows-old, rows-new, IsMade, rows-found, points-new, nodes-new}
 use Rattle.core_laws.proofs.Apart.{nodes_are}
-use Rattle.core_laws.proofs.Created.{made_graph, made_stack, created_to, created_is}
-use Rattle.core_laws.proofs.Agreed.{StateFits, AskFits, NodeRow, RowItem, PlanOf, Agreed}
+use Rattle.core_laws.proofs.Created.{made_graph, made_stack, created_to}
+use Rattle.core_laws.proofs.Agreed.{StateFits, AskFits, PlanOf, Agreed}
 use Rattle.core_laws.proofs.Boundary.{at_boundary}
 use Rattle.core_laws.proofs.Says.{fits_in, complete_kept, named_same, mark_put, newest_put}
 use Rattle.core_laws.proofs.Told.{Follows}
@@ -125,29 +120,29 @@ module _ (o : Opening) (h : List Entry) (s : StateData) (g : Going s) (a : Agree
 
   rows_are : stored o (h ++ es) ≡ put_rows rows (stored o h)
   rows_are = stored-append o h es
-    ∙ (fold-append _ (stored o h) (set_entry Main rows) (sent_entry Main letters ++ ends)
-    ∙ (ap (λ (x : List Row). stored_on x (sent_entry Main letters ++ ends)) (set-stored Main rows (stored o h))
-    ∙ (fold-append _ (put_rows rows (stored o h)) (sent_entry Main letters) ends
-    ∙ (ap (λ (x : List Row). stored_on x ends) (sent-stored Main letters (put_rows rows (stored o h)))
-    ∙ complete-stored Main name s.next.trav plan.items (put_rows rows (stored o h))))))
+      ∙ (fold-append _ (stored o h) (set_entry Main rows) (sent_entry Main letters ++ ends)
+      ∙ (ap (λ (x : List Row). stored_on x (sent_entry Main letters ++ ends)) (set-stored Main rows (stored o h))
+      ∙ (fold-append _ (put_rows rows (stored o h)) (sent_entry Main letters) ends
+      ∙ (ap (λ (x : List Row). stored_on x ends) (sent-stored Main letters (put_rows rows (stored o h)))
+      ∙ complete-stored Main name s.next.trav plan.items (put_rows rows (stored o h))))))
 
   newest_are : (other : List ℕ) → newest o (h ++ es) other ≡ (if bytes_eq name other then Some (latest_of (made_stack s name plan k)) else newest o h other)
   newest_are other = let x : Option Latest = if bytes_eq name other then Some (latest_of (made_stack s name plan k)) else newest o h other in
-    newest-append o h es other
-    ∙ (fold-append _ x (set_entry Main rows) (sent_entry Main letters ++ ends)
-    ∙ (ap (λ (y : Option Latest). newest_on other y (sent_entry Main letters ++ ends)) (set-newest Main rows other x)
-    ∙ (fold-append _ x (sent_entry Main letters) ends
-    ∙ (ap (λ (y : Option Latest). newest_on other y ends) (sent-newest Main letters other x)
-    ∙ complete-newest Main name s.next.trav plan.items other x))))
+      newest-append o h es other
+      ∙ (fold-append _ x (set_entry Main rows) (sent_entry Main letters ++ ends)
+      ∙ (ap (λ (y : Option Latest). newest_on other y (sent_entry Main letters ++ ends)) (set-newest Main rows other x)
+      ∙ (fold-append _ x (sent_entry Main letters) ends
+      ∙ (ap (λ (y : Option Latest). newest_on other y ends) (sent-newest Main letters other x)
+      ∙ complete-newest Main name s.next.trav plan.items other x))))
 
   marks_are : (other : List ℕ) → mark_of o (h ++ es) other ≡ (if bytes_eq name other then Some (first_status plan.items) else mark_of o h other)
   marks_are other = let x : Option Status = if bytes_eq name other then Some InProgress else mark_of o h other in
-    mark-append o h es other
-    ∙ (fold-append _ x (set_entry Main rows) (sent_entry Main letters ++ ends)
-    ∙ (ap (λ (y : Option Status). mark_on other y (sent_entry Main letters ++ ends)) (set-mark Main rows other x)
-    ∙ (fold-append _ x (sent_entry Main letters) ends
-    ∙ (ap (λ (y : Option Status). mark_on other y ends) (sent-mark Main letters other x)
-    ∙ complete-mark Main name s.next.trav plan.items other (mark_of o h other)))))
+      mark-append o h es other
+      ∙ (fold-append _ x (set_entry Main rows) (sent_entry Main letters ++ ends)
+      ∙ (ap (λ (y : Option Status). mark_on other y (sent_entry Main letters ++ ends)) (set-mark Main rows other x)
+      ∙ (fold-append _ x (sent_entry Main letters) ends
+      ∙ (ap (λ (y : Option Status). mark_on other y ends) (sent-mark Main letters other x)
+      ∙ complete-mark Main name s.next.trav plan.items other (mark_of o h other)))))
 
   -- ---- the state behind it
 
@@ -165,12 +160,20 @@ module _ (o : Opening) (h : List Entry) (s : StateData) (g : Going s) (a : Agree
 
   new_plan : PlanOf t name (made_stack s name plan k)
   new_plan = record {
-    plan = plan; first = s.next.row; graph = made_graph s name plan k; planned = refl; proper = apart; its_graph = graph_here (made_graph s name plan k) s.graphs;
+    plan = plan;
+    first = s.next.row;
+    graph = made_graph s name plan k;
+    planned = refl;
+    proper = apart;
+    its_graph = graph_here (made_graph s name plan k) s.graphs;
     nodes = nodes;
     node_row = λ place n item there is. record {
-      row = new_row name s.next.trav n item; point = record { stack = name; node = place; inputs = []; done = false };
+      row = new_row name s.next.trav n item;
+      point = record { stack = name; node = place; inputs = []; done = false };
       found = rows-new name s.next.trav plan.items s.next.row place n item s.rows there is;
-      stack = refl; named = refl; begun = λ act. cc;
+      stack = refl;
+      named = refl;
+      begun = λ act. cc;
       its_point = points-new name k.graph.nodes 0 place place (U item.name n) (subst (λ (ns : List Node). slice_get ns place ≡ Some (U item.name n)) (sym nodes) (nodes-new plan.items s.next.row place n item there is)) (omega arith);
       ends = λ done. cc;
     };
@@ -184,10 +187,22 @@ module _ (o : Opening) (h : List Entry) (s : StateData) (g : Going s) (a : Agree
 
   old_plan : (other : List ℕ) (st : Stack) → name ≢ other → PlanOf s other st → PlanOf t other st
   old_plan other st ne p = record {
-    plan = p.plan; first = p.first; graph = p.graph; planned = p.planned; proper = p.proper;
-    its_graph = graph_else (made_graph s name plan k) s.graphs other ne ∙ p.its_graph; nodes = p.nodes;
+    plan = p.plan;
+    first = p.first;
+    graph = p.graph;
+    planned = p.planned;
+    proper = p.proper;
+    its_graph = graph_else (made_graph s name plan k) s.graphs other ne ∙ p.its_graph;
+    nodes = p.nodes;
     node_row = λ place n item there is. let x = p.node_row place n item there is in record {
-      row = x.row; point = x.point; found = row_old n x.row x.found; stack = x.stack; named = x.named; begun = x.begun; its_point = x.its_point; ends = x.ends;
+      row = x.row;
+      point = x.point;
+      found = row_old n x.row x.found;
+      stack = x.stack;
+      named = x.named;
+      begun = x.begun;
+      its_point = x.its_point;
+      ends = x.ends;
     };
     row_item = λ n r at its. elim (rows_found n r at) [
       | inl old ↦ p.row_item n r old its
@@ -211,17 +226,19 @@ module _ (o : Opening) (h : List Entry) (s : StateData) (g : Going s) (a : Agree
     states = λ n r at. elim (rows_found n r at) [
       | inl old ↦ subst (λ (x : List TokenState). StateFits r x) (sym (could-silent (first_of o) h es (token_of r) silent)) (a.states n r old)
       | inr m ↦ subst (λ (x : Row). StateFits x (could (first_of o) (h ++ es) (token_of x))) m.it (record {
-          plain = refl; acts = inl refl; ready = λ act. cc;
-          still = λ _. could-silent (first_of o) h es (token_of (new_row name s.next.trav n m.item)) silent
+        plain = refl;
+        acts = inl refl;
+        ready = λ act. cc;
+        still = λ _. could-silent (first_of o) h es (token_of (new_row name s.next.trav n m.item)) silent
             ∙ a.others (token_of (new_row name s.next.trav n m.item)) (λ x found _. let below = g.rows n x found in let is = m.number in omega (arith, below, is));
-        })
+      })
     ];
     others = λ x none. could-silent (first_of o) h es x silent ∙ a.others x (λ y at same. none y (row_old x.row y at) same);
     asked = λ e j r at_e at_r.
-      let it = (g.holds e j at_e).1 in
-      let there : row_at s.rows j.row ≡ Some it.on.row = subst (λ (n : ℕ). row_at s.rows n ≡ Some it.on.row) (sym it.its_row) it.on.found in
-      let same : it.on.row ≡ r = same_some it.on.row r (row_old j.row it.on.row there) at_r in
-      subst (λ (x : List TokenState). AskFits j.stage r x) (sym (could-silent (first_of o) h es (token_of r) silent))
+        let it = (g.holds e j at_e).1 in
+        let there : row_at s.rows j.row ≡ Some it.on.row = subst (λ (n : ℕ). row_at s.rows n ≡ Some it.on.row) (sym it.its_row) it.on.found in
+        let same : it.on.row ≡ r = same_some it.on.row r (row_old j.row it.on.row there) at_r in
+        subst (λ (x : List TokenState). AskFits j.stage r x) (sym (could-silent (first_of o) h es (token_of r) silent))
         (a.asked e j r at_e (subst (λ (x : Row). row_at s.rows j.row ≡ Some x) same there));
   }
 
@@ -306,7 +323,7 @@ module _ (o : Opening) (h : List Entry) (s : StateData) (g : Going s) (a : Agree
         → Follows o h done (complete_entry Main name s.next.trav items)
     mark_follows done n (x ∷ xs) at = tt
     mark_follows done n [] at = next (fits_in o (h ++ done) Main (what.Mark name s.next.trav Create None)
-      (record { it = latest_of (made_stack s name plan k); is_newest = n.newest_own; same = refl; unmarked = n.mark_own })) (at refl) tt
+        (record { it = latest_of (made_stack s name plan k); is_newest = n.newest_own; same = refl; unmarked = n.mark_own })) (at refl) tt
 
     -- the letters
     mail_follows : (done : List Entry) → IsNew (h ++ done) → stored o (h ++ done) ≡ put_rows rows (stored o h) → (ls : List Letter) (items : List Item)
@@ -318,7 +335,7 @@ module _ (o : Opening) (h : List Entry) (s : StateData) (g : Going s) (a : Agree
         let more : IsNew (h ++ snoc done e) = subst (λ (x : List Entry). IsNew x) (joined done e) (with_mail (h ++ done) n (map Sent (l ∷ ls))) in
         let rows_same : stored o (h ++ snoc done e) ≡ put_rows rows (stored o h) = ap (λ (x : List Entry). stored o x) (sym (joined done e)) ∙ (stored-append o (h ++ done) (e ∷ []) ∙ stored_is) in
         next (fits_in o (h ++ done) Main (what.Mail (map Sent (l ∷ ls))) tt) (at_new (h ++ snoc done e) more (named_end (h ++ snoc done e) more rows_same))
-          (mark_follows (snoc done e) more items (λ empty. subst (λ (x : List Entry). AtPrefix o (h ++ x)) (sym (append_assoc done (e ∷ []) (record { by = Main; what = what.Mark name s.next.trav Create None } ∷ []))) (at empty)))
+        (mark_follows (snoc done e) more items (λ empty. subst (λ (x : List Entry). AtPrefix o (h ++ x)) (sym (append_assoc done (e ∷ []) (record { by = Main; what = what.Mark name s.next.trav Create None } ∷ []))) (at empty)))
 
     -- the rows
     rows_follow : (rs : List Row) → put_rows rows (stored o h) ≡ put_rows rs (stored o h) → (ls : List Letter) (items : List Item)
@@ -330,11 +347,11 @@ module _ (o : Opening) (h : List Entry) (s : StateData) (g : Going s) (a : Agree
         let more : IsNew (h ++ command ∷ e ∷ []) = subst (λ (x : List Entry). IsNew x) (joined (command ∷ []) e) (with_rows (h ++ command ∷ []) commanded (map Set (r ∷ rs))) in
         let rows_same : stored o (h ++ command ∷ e ∷ []) ≡ put_rows rows (stored o h) = stored-append o h (command ∷ e ∷ []) ∙ (written-rows (r ∷ rs) (stored o h) ∙ sym same) in
         next (fits_in o (h ++ command ∷ []) Main (what.Rows (map Set (r ∷ rs))) tt) (at_new (h ++ command ∷ e ∷ []) more (named_end (h ++ command ∷ e ∷ []) more rows_same))
-          (mail_follows (command ∷ e ∷ []) more rows_same ls items at)
+        (mail_follows (command ∷ e ∷ []) more rows_same ls items at)
 
     pub create_follows : Follows o h [] es
     create_follows = next (fits_in o (h ++ []) Main (what.Command name s.next.trav Create (Some plan)) tt)
-      (at_new (h ++ command ∷ []) commanded (named_same o h (h ++ command ∷ []) commanded.could_same (stored-append o h (command ∷ [])) (at_boundary o h s g a).named))
-      (rows_follow rows refl letters plan.items (λ empty. subst (λ (x : List Entry). AtPrefix o (h ++ (command ∷ (set_entry Main rows ++ (sent_entry Main letters ++ x))))) (ended empty) end)) where
-      ended : plan.items ≡ [] → ends ≡ record { by = Main; what = what.Mark name s.next.trav Create None } ∷ []
-      ended empty = ap (λ (items : List Item). complete_entry Main name s.next.trav items) empty
+        (at_new (h ++ command ∷ []) commanded (named_same o h (h ++ command ∷ []) commanded.could_same (stored-append o h (command ∷ [])) (at_boundary o h s g a).named))
+        (rows_follow rows refl letters plan.items (λ empty. subst (λ (x : List Entry). AtPrefix o (h ++ (command ∷ (set_entry Main rows ++ (sent_entry Main letters ++ x))))) (ended empty) end)) where
+          ended : plan.items ≡ [] → ends ≡ record { by = Main; what = what.Mark name s.next.trav Create None } ∷ []
+          ended empty = ap (λ (items : List Item). complete_entry Main name s.next.trav items) empty

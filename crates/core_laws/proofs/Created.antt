@@ -1,13 +1,12 @@
 -- A create keeps what holds of a state.
-use Rattle.std.proofs.Common.{◌≡◌, ◌≢◌, ◌⊎◌, inl, inr, ℕ, ◌<◌, ◌≤◌, ◌+◌, zero, suc, true, false, List, [], ◌∷◌, ◌++◌, map, length, Option, Some, None, refl, sym, ap, ◌∙◌, subst, arith}
+use Rattle.std.proofs.Common.{◌≡◌, ◌≢◌, ◌⊎◌, inl, inr, ℕ, ◌<◌, ◌+◌, true, false, List, [], ◌∷◌, map, length, Some, None, refl, sym, ap, ◌∙◌, subst, arith}
 use Rattle.std.specs.Prelude.{All, Contains, slice_get}
 use Rattle.std.specs.Str.{bytes_eq}
 use Rattle.std.proofs.lemmas.Slice.Eq.{bytes_eq-Decides}
 use Rattle.std.proofs.lemmas.Option.{slice_get_within}
 use Rattle.heat_plan.specs.Plans.{PlanData}
 use Rattle.heat_plan.specs.declared.item.Item.{Item}
-use Rattle.heat_plan.specs.declared.phase.Status.{Status}
-use Rattle.heat_plan.specs.declared.phase.Status.TheVariants.{Complete, InProgress, Failed}
+use Rattle.heat_plan.specs.declared.phase.Status.TheVariants.{Complete, Failed}
 use Rattle.traversal_graph.specs.declared.shape.Node.{Node}
 use Rattle.traversal_graph.specs.declared.shape.Node.TheVariants.{U}
 use Rattle.traversal_graph.specs.Nodes.{update_nodes}
@@ -18,20 +17,18 @@ use Rattle.core_state.specs.declared.graph.Point.{Point}
 use Rattle.core_state.specs.declared.mail.Letter.{Letter}
 use Rattle.core_state.specs.declared.mail.Job.{Job}
 use Rattle.core_state.specs.declared.change.Change.{Change}
-use Rattle.core_state.specs.declared.change.Change.TheVariants.{PutStack, PutRow, PutGraph, Send, SetNumbers}
+use Rattle.core_state.specs.declared.change.Change.TheVariants.{PutRow, PutGraph, Send}
 use Rattle.core_state.specs.Changes.{apply, applied}
 use Rattle.core_state.specs.Commands.{Creates, created_changes, drawn, new_stack, new_row, new_rows, row_numbers, letters_to, first_status}
 use Rattle.core_state.specs.Graphs.{fresh_points}
-use Rattle.core_state.specs.Reads.{item_at}
-use Rattle.core_state.specs.State.{StateData, stack_at, graph_at, row_at, letter_at, job_at, put_stack, put_graph}
-use Rattle.core_state.specs.Turns.{AllDone}
+use Rattle.core_state.specs.State.{StateData, stack_at, graph_at, letter_at, put_stack, put_graph}
 use Rattle.core_laws.specs.Runs.{HasNoNeeds}
 use Rattle.core_laws.proofs.Tables.{at-some}
-use Rattle.core_laws.proofs.Rows.{same_some, same_or_not, text_or_not, stack_put, stack_here, stack_else, graph_here, graph_else, letter-key}
+use Rattle.core_laws.proofs.Rows.{same_some, stack_put, stack_here, stack_else, graph_here, graph_else}
 use Rattle.core_laws.proofs.Lists.{All-none}
 use Rattle.core_laws.proofs.Going.{OnNode, Waits, StageFits, Holds, Aims, HasFailed, Settled, Going}
 use Rattle.core_laws.proofs.NextFits.{same_number}
-use Rattle.core_laws.proofs.Moves.{StackOn, GraphOn, on_again, aims_of}
+use Rattle.core_laws.proofs.Moves.{on_again}
 use Rattle.core_laws.proofs.Drawn.{applied-append, put_rows, put_letters, applied-rows, applied-letters, rows-old, rows-below, rows-new, IsSent, letters-found, to, IsOfItem, nodes-found, points-new}
 use Rattle.core_laws.proofs.Apart.{nodes_are, edges_none, there_at, contains_at, place_once}
 
@@ -85,13 +82,13 @@ module _ (s : StateData) (name : List ℕ) (plan : PlanData) (k : Creates s name
     old_on l o =
         let ne : name ≢ l.stack = other_name l.stack o.stack o.names.in_table in
         on_again s created_to l o
-          (record { stack = o.stack; found = stack_else made_stack s.stacks l.stack ne ∙ o.names.in_table; trav = refl; plan = refl })
-          (record { graph = o.graph; found = graph_else made_graph s.graphs l.stack ne ∙ o.names.its_graph; shape = refl; stack = refl; point = refl })
-          o.row (rows-old name s.next.trav plan.items s.next.row o.row.no s.rows (g.rows o.row.no o.row o.found) ∙ o.found) refl refl refl refl
+        (record { stack = o.stack; found = stack_else made_stack s.stacks l.stack ne ∙ o.names.in_table; trav = refl; plan = refl })
+        (record { graph = o.graph; found = graph_else made_graph s.graphs l.stack ne ∙ o.names.its_graph; shape = refl; stack = refl; point = refl })
+        o.row (rows-old name s.next.trav plan.items s.next.row o.row.no s.rows (g.rows o.row.no o.row o.found) ∙ o.found) refl refl refl refl
 
     old_waits : (l : Letter) → Waits s l → Waits created_to l
     old_waits l w = let (n, same) = old_on l w.on in
-      record { on = n; init = ap (λ (r : Row). r.act) same ∙ w.init; free = ap (λ (r : Row). r.engine) same ∙ w.free }
+        record { on = n; init = ap (λ (r : Row). r.act) same ∙ w.init; free = ap (λ (r : Row). r.engine) same ∙ w.free }
 
     old_holds : (e : ℕ) (j : Job) → Holds s e j → Holds created_to e j
     old_holds e j h = let (n, same) = old_on j.letter h.on in record {
@@ -103,11 +100,18 @@ module _ (s : StateData) (name : List ℕ) (plan : PlanData) (k : Creates s name
 
     old_failed : (other : List ℕ) → name ≢ other → HasFailed s other → HasFailed created_to other
     old_failed other ne f = record {
-      graph = f.graph; node = f.node; named = f.named; row = f.row; point = f.point;
+      graph = f.graph;
+      node = f.node;
+      named = f.named;
+      row = f.row;
+      point = f.point;
       its_graph = graph_else made_graph s.graphs other ne ∙ f.its_graph;
       its_node = f.its_node;
       found = rows-old name s.next.trav plan.items s.next.row f.row.no s.rows (g.rows f.row.no f.row f.found) ∙ f.found;
-      act = f.act; status = f.status; its_point = f.its_point; open_ = f.open_;
+      act = f.act;
+      status = f.status;
+      its_point = f.its_point;
+      open_ = f.open_;
     }
 
     -- ---- what is new
@@ -146,20 +150,30 @@ module _ (s : StateData) (name : List ℕ) (plan : PlanData) (k : Creates s name
           let (item, asked) = at-some bytes_eq bytes_eq-Decides (λ (i : Item). i.name) plan.items node o.item o.there in
           record {
             on = record {
-              stack = made_stack; graph = made_graph; row = new_row name s.next.trav o.row o.item;
+              stack = made_stack;
+              graph = made_graph;
+              row = new_row name s.next.trav o.row o.item;
               point = record { stack = name; node = node; inputs = []; done = false };
-              plan = plan; item = item;
+              plan = plan;
+              item = item;
               names = record {
-                in_table = stack_here made_stack s.stacks; newest = refl; its_graph = graph_here made_graph s.graphs;
+                in_table = stack_here made_stack s.stacks;
+                newest = refl;
+                its_graph = graph_here made_graph s.graphs;
                 its_node = at ∙ ap Some o.it;
               };
               found = rows-new name s.next.trav plan.items s.next.row node o.row o.item s.rows o.there o.number;
-              owner = refl; last = refl;
+              owner = refl;
+              last = refl;
               its_point = points-new name k.graph.nodes 0 node node it at (omega arith);
-              placed = (refl, refl); open_ = refl; planned = refl; asked = asked;
+              placed = (refl, refl);
+              open_ = refl;
+              planned = refl;
+              asked = asked;
               edgeless = edges_none plan.items (row_numbers s.next.row plan.items) k.graph k.built apart.needless;
             };
-            init = refl; free = refl;
+            init = refl;
+            free = refl;
           }
 
     -- a letter that is sent goes to one of the leaves
@@ -215,18 +229,20 @@ module _ (s : StateData) (name : List ℕ) (plan : PlanData) (k : Creates s name
     settled : (other : List ℕ) (st : Stack) → stack_at created_to.stacks other ≡ Some st → Settled created_to other st
     settled other st at = elim (stack_put made_stack s.stacks at) [
       | inl new ↦ record {
-          graph = made_graph;
-          its_graph = subst (λ (x : List ℕ). graph_at created_to.graphs x ≡ Some made_graph) new.0 (graph_here made_graph s.graphs);
-          complete = λ is.
-              let empty : plan.items ≡ [] = first-complete plan.items (ap (λ (x : Stack). x.status) new.1 ∙ is) in
-              let nodes : k.graph.nodes ≡ [] = nodes_are plan.items (row_numbers s.next.row plan.items) k.graph k.built ∙ ap (λ (items : List Item). update_nodes items (row_numbers s.next.row items)) empty in
-              subst (λ (ns : List Node). All (λ (p : Point). p.done ≡ true) (fresh_points name 0 ns)) (sym nodes) (All-none (λ (p : Point). p.done ≡ true));
-          failed = λ is. absurd (first-not_failed plan.items (ap (λ (x : Stack). x.status) new.1 ∙ is));
-        }
+        graph = made_graph;
+        its_graph = subst (λ (x : List ℕ). graph_at created_to.graphs x ≡ Some made_graph) new.0 (graph_here made_graph s.graphs);
+        complete = λ is.
+            let empty : plan.items ≡ [] = first-complete plan.items (ap (λ (x : Stack). x.status) new.1 ∙ is) in
+            let nodes : k.graph.nodes ≡ [] = nodes_are plan.items (row_numbers s.next.row plan.items) k.graph k.built ∙ ap (λ (items : List Item). update_nodes items (row_numbers s.next.row items)) empty in
+            subst (λ (ns : List Node). All (λ (p : Point). p.done ≡ true) (fresh_points name 0 ns)) (sym nodes) (All-none (λ (p : Point). p.done ≡ true));
+        failed = λ is. absurd (first-not_failed plan.items (ap (λ (x : Stack). x.status) new.1 ∙ is));
+      }
       | inr was ↦ let it = g.settled other st was.1 in record {
-          graph = it.graph; its_graph = graph_else made_graph s.graphs other was.0 ∙ it.its_graph; complete = it.complete;
-          failed = λ is. old_failed other was.0 (it.failed is);
-        }
+        graph = it.graph;
+        its_graph = graph_else made_graph s.graphs other was.0 ∙ it.its_graph;
+        complete = it.complete;
+        failed = λ is. old_failed other was.0 (it.failed is);
+      }
     ]
 
     letters_below : (n : ℕ) (l : Letter) → letter_at created_to.letters n ≡ Some l → n < created_to.next.letter

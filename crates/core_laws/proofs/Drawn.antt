@@ -1,12 +1,11 @@
 -- What new rows and new letters leave of their tables, by their places.
-use Rattle.std.proofs.Common.{◌≡◌, ◌≢◌, ◌⊎◌, inl, inr, ℕ, ◌<◌, ◌≤◌, ◌+◌, zero, suc, false, List, [], ◌∷◌, ◌++◌, map, length, Option, Some, None, refl, sym, ap, ◌∙◌, subst, arith}
+use Rattle.std.proofs.Common.{◌≡◌, ◌⊎◌, inl, inr, ℕ, ◌<◌, ◌+◌, zero, suc, false, List, [], ◌∷◌, ◌++◌, map, length, Some, refl, ap, ◌∙◌, subst, arith}
 use Rattle.std.specs.Prelude.{slice_get}
 use Rattle.heat_plan.specs.declared.item.Item.{Item}
 use Rattle.traversal_graph.specs.declared.shape.Node.{Node}
 use Rattle.traversal_graph.specs.declared.shape.Node.TheVariants.{U}
 use Rattle.traversal_graph.specs.Nodes.{update_nodes}
 use Rattle.core_state.specs.declared.row.Row.{Row}
-use Rattle.core_state.specs.declared.graph.Point.{Point}
 use Rattle.core_state.specs.declared.mail.Letter.{Letter}
 use Rattle.core_state.specs.declared.change.Change.{Change}
 use Rattle.core_state.specs.declared.change.Change.TheVariants.{PutRow, Send}
@@ -53,11 +52,11 @@ module _ (stack : List ℕ) (trav : ℕ) where
   rows-below [] first table below n r at = let lt = below n r at in omega (arith, lt)
   rows-below (item ∷ items) first table below n r at =
       let lt = rows-below items (first + 1) (put_row (new_row stack trav first item) table) step n r at in omega (arith, lt) where
-    step : (m : ℕ) (q : Row) → row_at (put_row (new_row stack trav first item) table) m ≡ Some q → m < first + 1
-    step m q found = elim (row_put (new_row stack trav first item) table found) [
-      | inl new ↦ let same : first ≡ m = new.0 in omega (arith, same)
-      | inr was ↦ let lt = below m q was.1 in omega (arith, lt)
-    ]
+        step : (m : ℕ) (q : Row) → row_at (put_row (new_row stack trav first item) table) m ≡ Some q → m < first + 1
+        step m q found = elim (row_put (new_row stack trav first item) table found) [
+          | inl new ↦ let same : first ≡ m = new.0 in omega (arith, same)
+          | inr was ↦ let lt = below m q was.1 in omega (arith, lt)
+        ]
 
   pub rows-new : (items : List Item) (first i n : ℕ) (item : Item) (table : List Row) → slice_get items i ≡ Some item → n ≡ first + i
       → row_at (put_rows (new_rows stack trav first items) table) n ≡ Some (new_row stack trav n item)
@@ -67,7 +66,7 @@ module _ (stack : List ℕ) (trav : ℕ) where
       let number : first ≡ n = omega (arith, is) in
       rows-old items (first + 1) n (put_row (new_row stack trav first x) table) (omega (arith, is))
       ∙ subst (λ (k : ℕ). row_at (put_row (new_row stack trav first x) table) k ≡ Some (new_row stack trav k item)) number
-        (subst (λ (y : Item). row_at (put_row (new_row stack trav first x) table) first ≡ Some (new_row stack trav first y)) same (row_here (new_row stack trav first x) table))
+      (subst (λ (y : Item). row_at (put_row (new_row stack trav first x) table) first ≡ Some (new_row stack trav first y)) same (row_here (new_row stack trav first x) table))
   rows-new (x ∷ items) first (suc i) n item table at is = rows-new items (first + 1) i n item (put_row (new_row stack trav first x) table) at (omega (arith, is))
 
   -- a row is the one for the item at the place i
@@ -112,14 +111,21 @@ module _ (stack : List ℕ) (trav : ℕ) where
       | inl new ↦
           let number : first ≡ n = new.0 in
           inr (record {
-            place = 0; node = node; there = refl; number = omega (arith, number);
+            place = 0;
+            node = node;
+            there = refl;
+            number = omega (arith, number);
             it = subst (λ (k : ℕ). to k node ≡ l) number new.1;
           })
       | inr old ↦ inl old.1
     ]
     | inr sent ↦ inr (record {
-        place = suc sent.place; node = sent.node; there = sent.there; number = (let e = sent.number in omega (arith, e)); it = sent.it;
-      })
+      place = suc sent.place;
+      node = sent.node;
+      there = sent.there;
+      number = (let e = sent.number in omega (arith, e));
+      it = sent.it;
+    })
   ]
 
   pub letters-old : (nodes : List ℕ) (first n : ℕ) (table : List Letter) → n < first → letter_at (put_letters (letters_to stack trav first nodes) table) n ≡ letter_at table n
@@ -136,8 +142,8 @@ module _ (stack : List ℕ) (trav : ℕ) where
       let number : first ≡ n = omega (arith, is) in
       letters-old nodes (first + 1) n (put_letter (to first x) table) (omega (arith, is))
       ∙ subst (λ (k : ℕ). letter_at (put_letter (to first x) table) k ≡ Some (to k node)) number
-        (subst (λ (y : ℕ). letter_at (put_letter (to first x) table) first ≡ Some (to first y)) same
-          (letter_here (to first x) table))
+      (subst (λ (y : ℕ). letter_at (put_letter (to first x) table) first ≡ Some (to first y)) same
+      (letter_here (to first x) table))
   letters-new (x ∷ nodes) first (suc i) n node table at is = letters-new nodes (first + 1) i n node (put_letter (to first x) table) at (omega (arith, is))
 
 -- ---- nodes and points

@@ -1,9 +1,9 @@
 -- The turns that end a job keep what holds of a state: a failure and a finish.
-use Rattle.std.proofs.Common.{◌≡◌, ◌≢◌, ◌⊎◌, inl, inr, ℕ, ◌<◌, ◌+◌, true, false, List, [], ◌∷◌, Option, Some, None, refl, sym, ap, ◌∙◌, subst}
-use Rattle.std.specs.Prelude.{Contains, All, slice_get, slice_set}
+use Rattle.std.proofs.Common.{◌≡◌, ◌≢◌, ◌⊎◌, inl, inr, ℕ, true, List, [], ◌∷◌, Option, Some, refl, sym, ap, ◌∙◌, subst}
+use Rattle.std.specs.Prelude.{slice_get}
 use Rattle.heat_plan.specs.Plans.{PlanData}
 use Rattle.heat_plan.specs.declared.phase.Act.{Act}
-use Rattle.heat_plan.specs.declared.phase.Act.TheVariants.{Init, Create}
+use Rattle.heat_plan.specs.declared.phase.Act.TheVariants.{Create}
 use Rattle.heat_plan.specs.declared.phase.Status.{Status}
 use Rattle.heat_plan.specs.declared.phase.Status.TheVariants.{Complete, InProgress, Failed}
 use Rattle.traversal_graph.specs.declared.shape.Node.TheVariants.{U}
@@ -13,15 +13,14 @@ use Rattle.core_state.specs.declared.graph.Graph.{Graph}
 use Rattle.core_state.specs.declared.graph.Point.{Point}
 use Rattle.core_state.specs.declared.mail.Letter.{Letter}
 use Rattle.core_state.specs.declared.mail.Job.{Job}
-use Rattle.core_state.specs.declared.change.Change.{Change}
 use Rattle.core_state.specs.declared.change.Change.TheVariants.{PutStack}
 use Rattle.core_state.specs.Changes.{applied, put_point, with_point}
-use Rattle.core_state.specs.State.{StateData, stack_at, graph_at, row_at, letter_at, job_at, put_row, put_stack, cut_job}
-use Rattle.core_state.specs.Turns.{failed_row, failed_mark, failed_changes, done_point, unlocked, AllDone, completed, finished_changes}
+use Rattle.core_state.specs.State.{StateData, stack_at, graph_at, letter_at, job_at, put_row, put_stack, cut_job}
+use Rattle.core_state.specs.Turns.{failed_row, failed_changes, done_point, unlocked, AllDone, completed, finished_changes}
 use Rattle.core_laws.proofs.Tables.{set_else}
-use Rattle.core_laws.proofs.Rows.{same_some, same_or_not, text_or_not, row_here, row_else, job_cut, graph-key, stack-key, stack_put}
+use Rattle.core_laws.proofs.Rows.{same_some, text_or_not, row_here, row_else, job_cut, graph-key, stack-key, stack_put}
 use Rattle.core_laws.proofs.Points.{point_here, point_else}
-use Rattle.core_laws.proofs.Going.{OnNode, Waits, Holds, HasFailed, Settled, Going}
+use Rattle.core_laws.proofs.Going.{Waits, Holds, HasFailed, Settled, Going}
 use Rattle.core_laws.proofs.NextFits.{All-at, same_number}
 use Rattle.core_laws.proofs.Moves.{StackOn, GraphOn, Moves, stack_same, graph_same, stack_marked, failed_again, moved}
 use Rattle.core_laws.proofs.Turned.{not_that, others_wait, only_its}
@@ -57,27 +56,38 @@ module _ (s : StateData) (g : Going s) (e : ℕ) (j : Job) (at_e : job_at s.jobs
 
     own_failed : (stacks : List Stack) → HasFailed (failed_to stacks) j.letter.stack
     own_failed stacks = record {
-      graph = h.on.graph; node = j.letter.node; named = h.on.row.name; row = failed_row h.on.row; point = h.on.point;
-      its_graph = h.on.names.its_graph; its_node = h.on.names.its_node; found = row_here (failed_row h.on.row) s.rows;
-      act = act; status = refl; its_point = h.on.its_point; open_ = h.on.open_;
+      graph = h.on.graph;
+      node = j.letter.node;
+      named = h.on.row.name;
+      row = failed_row h.on.row;
+      point = h.on.point;
+      its_graph = h.on.names.its_graph;
+      its_node = h.on.names.its_node;
+      found = row_here (failed_row h.on.row) s.rows;
+      act = act;
+      status = refl;
+      its_point = h.on.its_point;
+      open_ = h.on.open_;
     }
 
     failed_with : (stacks : List Stack) → ((name : List ℕ) (st : Stack) → stack_at s.stacks name ≡ Some st → StackOn stacks name st) → IsMarked stacks → Going (failed_to stacks)
     failed_with stacks kept marked = moved s (failed_to stacks) h.on.row.no h.on.row g (moves_failed stacks kept) h.on.found refl refl
         (still_waits (failed_to stacks) refl) (none_held s (failed_to stacks) g e j at_e refl) settled where
-      settled : (name : List ℕ) (st : Stack) → stack_at stacks name ≡ Some st → Settled (failed_to stacks) name st
-      settled name st at = elim (marked name st at) [
-        | inl was ↦ let it = g.settled name st was in record {
-            graph = it.graph; its_graph = it.its_graph; complete = it.complete;
-            failed = λ is. let f = it.failed is in failed_again s (failed_to stacks) h.on.row.no (moves_failed stacks kept) name f (not_that s name h.on.row.no h.on.row h.on.found (λ _ i. cc) f);
-          }
-        | inr new ↦ record {
-            graph = h.on.graph;
-            its_graph = subst (λ (x : List ℕ). graph_at s.graphs x ≡ Some h.on.graph) (sym new.0) h.on.names.its_graph;
-            complete = λ is. let f : st.status ≡ Failed = new.1 in cc;
-            failed = λ _. subst (λ (x : List ℕ). HasFailed (failed_to stacks) x) (sym new.0) (own_failed stacks);
-          }
-      ]
+          settled : (name : List ℕ) (st : Stack) → stack_at stacks name ≡ Some st → Settled (failed_to stacks) name st
+          settled name st at = elim (marked name st at) [
+            | inl was ↦ let it = g.settled name st was in record {
+              graph = it.graph;
+              its_graph = it.its_graph;
+              complete = it.complete;
+              failed = λ is. let f = it.failed is in failed_again s (failed_to stacks) h.on.row.no (moves_failed stacks kept) name f (not_that s name h.on.row.no h.on.row h.on.found (λ _ i. cc) f);
+            }
+            | inr new ↦ record {
+              graph = h.on.graph;
+              its_graph = subst (λ (x : List ℕ). graph_at s.graphs x ≡ Some h.on.graph) (sym new.0) h.on.names.its_graph;
+              complete = λ is. let f : st.status ≡ Failed = new.1 in cc;
+              failed = λ _. subst (λ (x : List ℕ). HasFailed (failed_to stacks) x) (sym new.0) (own_failed stacks);
+            }
+          ]
 
     pub fail_goes : Going (applied (failed_changes e h.on.stack h.on.row) s)
     fail_goes = by h.on.stack.name h.on.stack.no h.on.stack.trav h.on.stack.act h.on.stack.status h.on.stack.plan h.on.names.in_table where
@@ -93,11 +103,11 @@ module _ (s : StateData) (g : Going s) (e : ℕ) (j : Job) (at_e : job_at s.jobs
           let its : name ≡ j.letter.stack = stack-key s.stacks j.letter.stack (stack_of name number trav act InProgress plan) at in
           let there : stack_at s.stacks name ≡ Some (stack_of name number trav act InProgress plan) = subst (λ (x : List ℕ). stack_at s.stacks x ≡ Some (stack_of name number trav act InProgress plan)) (sym its) at in
           failed_with (put_stack (stack_of name number trav act Failed plan) s.stacks)
-            (stack_marked (stack_of name number trav act InProgress plan) (stack_of name number trav act Failed plan) s.stacks there refl refl)
-            (λ other st found. elim (stack_put (stack_of name number trav act Failed plan) s.stacks found) [
-              | inl new ↦ inr (sym new.0 ∙ its, ap (λ (x : Stack). x.status) (sym new.1))
-              | inr was ↦ inl was.1
-            ])
+          (stack_marked (stack_of name number trav act InProgress plan) (stack_of name number trav act Failed plan) s.stacks there refl refl)
+          (λ other st found. elim (stack_put (stack_of name number trav act Failed plan) s.stacks found) [
+            | inl new ↦ inr (sym new.0 ∙ its, ap (λ (x : Stack). x.status) (sym new.1))
+            | inr was ↦ inl was.1
+          ])
 
   -- ---- a finish
   module _ (status : h.on.row.status ≡ Complete) where
@@ -162,35 +172,38 @@ module _ (s : StateData) (g : Going s) (e : ℕ) (j : Job) (at_e : job_at s.jobs
     finished_with : (stacks : List Stack) → ((name : List ℕ) (st : Stack) → stack_at s.stacks name ≡ Some st → StackOn stacks name st) → IsEnded stacks → Going (finished_to stacks)
     finished_with stacks kept marked = moved s (finished_to stacks) h.on.row.no h.on.row g (moves_finished stacks kept) h.on.found refl refl
         (still_waits (finished_to stacks) refl) (none_held s (finished_to stacks) g e j at_e refl) settled where
-      failed : (name : List ℕ) → HasFailed s name → HasFailed (finished_to stacks) name
-      failed name f = failed_again s (finished_to stacks) h.on.row.no (moves_finished stacks kept) name f (not_that s name h.on.row.no h.on.row h.on.found (λ _ i. cc) f)
+          failed : (name : List ℕ) → HasFailed s name → HasFailed (finished_to stacks) name
+          failed name f = failed_again s (finished_to stacks) h.on.row.no (moves_finished stacks kept) name f (not_that s name h.on.row.no h.on.row h.on.found (λ _ i. cc) f)
 
-      was_settled : (name : List ℕ) (st : Stack) → stack_at s.stacks name ≡ Some st → (point.stack ≡ name) ⊎ (point.stack ≢ name) → Settled (finished_to stacks) name st
-      was_settled name st was (inr apart) = let it = g.settled name st was in record {
-        graph = it.graph; its_graph = point_else point s.graphs name apart ∙ it.its_graph; complete = it.complete;
-        failed = λ is. failed name (it.failed is);
-      }
-      was_settled name st was (inl is) = let it = g.settled name st was in record {
-        graph = new_graph; its_graph = at_new name is;
-        complete = λ c.
-            let same : it.graph ≡ h.on.graph = same_some it.graph h.on.graph it.its_graph (subst (λ (x : List ℕ). graph_at s.graphs x ≡ Some h.on.graph) is at_graph) in
-            let all : AllDone h.on.graph = subst (λ (x : Graph). AllDone x) same (it.complete c) in
-            let done : h.on.point.done ≡ true = All-at (λ (p : Point). p.done ≡ true) h.on.graph.points j.letter.node h.on.point all h.on.its_point in
-            let not_done = h.on.open_ in
-            cc;
-        failed = λ f. failed name (it.failed f);
-      }
-
-      settled : (name : List ℕ) (st : Stack) → stack_at stacks name ≡ Some st → Settled (finished_to stacks) name st
-      settled name st at = elim (marked name st at) [
-        | inl was ↦ was_settled name st was (text_or_not point.stack name)
-        | inr new ↦ record {
-            graph = new_graph;
-            its_graph = at_new name (its_stack ∙ sym new.0);
-            complete = λ _. new.1.1;
-            failed = λ is. let c = new.1.0 in cc;
+          was_settled : (name : List ℕ) (st : Stack) → stack_at s.stacks name ≡ Some st → (point.stack ≡ name) ⊎ (point.stack ≢ name) → Settled (finished_to stacks) name st
+          was_settled name st was (inr apart) = let it = g.settled name st was in record {
+            graph = it.graph;
+            its_graph = point_else point s.graphs name apart ∙ it.its_graph;
+            complete = it.complete;
+            failed = λ is. failed name (it.failed is);
           }
-      ]
+          was_settled name st was (inl is) = let it = g.settled name st was in record {
+            graph = new_graph;
+            its_graph = at_new name is;
+            complete = λ c.
+                let same : it.graph ≡ h.on.graph = same_some it.graph h.on.graph it.its_graph (subst (λ (x : List ℕ). graph_at s.graphs x ≡ Some h.on.graph) is at_graph) in
+                let all : AllDone h.on.graph = subst (λ (x : Graph). AllDone x) same (it.complete c) in
+                let done : h.on.point.done ≡ true = All-at (λ (p : Point). p.done ≡ true) h.on.graph.points j.letter.node h.on.point all h.on.its_point in
+                let not_done = h.on.open_ in
+                cc;
+            failed = λ f. failed name (it.failed f);
+          }
+
+          settled : (name : List ℕ) (st : Stack) → stack_at stacks name ≡ Some st → Settled (finished_to stacks) name st
+          settled name st at = elim (marked name st at) [
+            | inl was ↦ was_settled name st was (text_or_not point.stack name)
+            | inr new ↦ record {
+              graph = new_graph;
+              its_graph = at_new name (its_stack ∙ sym new.0);
+              complete = λ _. new.1.1;
+              failed = λ is. let c = new.1.0 in cc;
+            }
+          ]
 
     pub finish_goes : Going (applied (finished_changes e h.on.row h.on.point []) s)
     finish_goes = finished_with s.stacks (stack_same s.stacks) (λ name st at. inl at)
@@ -202,11 +215,11 @@ module _ (s : StateData) (g : Going s) (e : ℕ) (j : Job) (at_e : job_at s.jobs
           | inl new ↦ inr (sym new.0 ∙ its, (ap (λ (x : Stack). x.status) (sym new.1), all))
           | inr was ↦ inl was.1
         ]) where
-      its : h.on.stack.name ≡ j.letter.stack
-      its = stack-key s.stacks j.letter.stack h.on.stack h.on.names.in_table
+          its : h.on.stack.name ≡ j.letter.stack
+          its = stack-key s.stacks j.letter.stack h.on.stack h.on.names.in_table
 
-      there : stack_at s.stacks h.on.stack.name ≡ Some h.on.stack
-      there = subst (λ (x : List ℕ). stack_at s.stacks x ≡ Some h.on.stack) (sym its) h.on.names.in_table
+          there : stack_at s.stacks h.on.stack.name ≡ Some h.on.stack
+          there = subst (λ (x : List ℕ). stack_at s.stacks x ≡ Some h.on.stack) (sym its) h.on.names.in_table
 
 -- a failure leaves the rows and jobs that it writes, whatever the stack's mark
 module _ (s : StateData) (e : ℕ) (r : Row) where

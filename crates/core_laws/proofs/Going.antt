@@ -1,5 +1,5 @@
 -- What holds of a state after every step of a run: where letters and jobs stand.
-use Rattle.std.specs.Prelude.{◌≡◌, ◌≢◌, ◌<◌, ℕ, true, false, List, [], ◌∷◌, Option, Some, None, Contains, slice_get}
+use Rattle.std.specs.Prelude.{◌≡◌, ◌<◌, ℕ, false, List, [], ◌∷◌, Some, None, slice_get}
 use Rattle.heat_plan.specs.Plans.{PlanData}
 use Rattle.heat_plan.specs.declared.item.Item.{Item}
 use Rattle.heat_plan.specs.declared.phase.Act.TheVariants.{Init, Create}

@@ -1,6 +1,6 @@
 -- A plan has one item of each name, at one place.
-use Rattle.std.proofs.Common.{◌≡◌, ◌≢◌, ℕ, zero, suc, Bool, true, false, cond, List, [], ◌∷◌, map, Option, Some, None, refl, sym, ap, ◌∙◌, subst}
-use Rattle.std.specs.Prelude.{slice_get, Decides}
+use Rattle.std.proofs.Common.{◌≡◌, ℕ, zero, suc, List, [], ◌∷◌, Some, refl, sym, ap, ◌∙◌, subst}
+use Rattle.std.specs.Prelude.{slice_get}
 use Rattle.std.specs.Str.{bytes_eq}
 use Rattle.std.proofs.Common.{Ordering, Less, Equal, Greater}
 use Rattle.std.specs.Ordering.{nat_cmp, ordering_reverse}
@@ -13,7 +13,6 @@ use Rattle.heat_plan.specs.Order.{Rising}
 use Rattle.heat_plan.specs.Plans.{names_of}
 use Rattle.heat_plan.specs.declared.item.Item.{Item}
 use Rattle.core_state.specs.Reads.{item_at}
-use Rattle.core_state.specs.Tables.{at}
 use Rattle.core_laws.proofs.Tables.{at-key, at-some, at-place}
 use Rattle.core_laws.proofs.Rows.{same_some}
 

@@ -1,9 +1,9 @@
 -- Each step keeps what holds of a state, so every run has it.
-use Rattle.std.proofs.Common.{◌≡◌, ◌≢◌, ◌⊎◌, inl, inr, ℕ, ◌<◌, ◌+◌, true, false, List, [], ◌∷◌, ◌++◌, Option, Some, None, refl, sym, ap, ◌∙◌, subst}
-use Rattle.std.specs.Prelude.{Contains, All, slice_get}
+use Rattle.std.proofs.Common.{◌≡◌, ℕ, List, [], ◌∷◌, Some, refl, sym, ap, ◌∙◌, subst}
+use Rattle.std.specs.Prelude.{slice_get}
 use Rattle.heat_value.specs.Data.{Members}
 use Rattle.heat_plan.specs.declared.phase.Act.TheVariants.{Init, Create}
-use Rattle.heat_plan.specs.declared.phase.Status.TheVariants.{Complete, InProgress, Failed}
+use Rattle.heat_plan.specs.declared.phase.Status.TheVariants.{Complete, InProgress}
 use Rattle.heat_plan.specs.declared.calls.Answered.{Answered}
 use Rattle.traversal_graph.specs.declared.shape.Node.TheVariants.{U}
 use Rattle.core_state.specs.declared.stack.Stack.{Stack}
@@ -13,20 +13,19 @@ use Rattle.core_state.specs.declared.graph.Point.{Point}
 use Rattle.core_state.specs.declared.mail.Letter.{Letter}
 use Rattle.core_state.specs.declared.mail.Job.{Job}
 use Rattle.core_state.specs.declared.mail.Stage.{Stage}
-use Rattle.core_state.specs.declared.mail.Stage.TheVariants.{Taken, Asking, Polling, Ending}
+use Rattle.core_state.specs.declared.mail.Stage.TheVariants.{Asking, Polling, Ending}
 use Rattle.core_state.specs.declared.change.Change.{Change}
 use Rattle.core_state.specs.declared.entry.Entry.{Entry}
 use Rattle.core_state.specs.Changes.{applied, with_point}
-use Rattle.core_state.specs.Commands.{created_changes}
-use Rattle.core_state.specs.Reads.{Names, Works}
-use Rattle.core_state.specs.State.{StateData, stack_at, graph_at, row_at, letter_at, job_at}
-use Rattle.core_state.specs.Steps.{CommandStep, create, QuietTurn, take, begin, finish, finish_last, AskingTurn, begun, refused, PollingTurn, waits, ready, broken, UnstoredTurn, unstored as unstored_turn, Step, command, quiet, asking, polling, unstored, note}
+use Rattle.core_state.specs.Reads.{Names}
+use Rattle.core_state.specs.State.{StateData, row_at, job_at}
+use Rattle.core_state.specs.Steps.{create, QuietTurn, take, begin, finish, finish_last, AskingTurn, begun, refused, PollingTurn, waits, ready, broken, UnstoredTurn, unstored as unstored_turn, Step, command, quiet, asking, polling, unstored, note}
 use Rattle.core_state.specs.Turns.{Takes, taken_changes, Begins, begun_row, begun_changes, Creating, asked_changes, ready_row, ready_changes, failed_changes, Finishes, done_point, AllDone, finished_changes, completed}
 use Rattle.core_state.specs.declared.change.Change.TheVariants.{PutStack}
 use Rattle.core_laws.specs.Opening.{opened}
 use Rattle.core_laws.specs.Runs.{Run, begins, goes_on, IsFree}
 use Rattle.core_laws.proofs.Rows.{same_some, job-key}
-use Rattle.core_laws.proofs.Going.{OnNode, Waits, StageFits, Holds, Going}
+use Rattle.core_laws.proofs.Going.{OnNode, StageFits, Holds, Going}
 use Rattle.core_laws.proofs.NextFits.{only_one, same_number}
 use Rattle.core_laws.proofs.Turned.{take_goes, job_goes, asked_goes}
 use Rattle.core_laws.proofs.Ended.{fail_goes, finish_goes, finish_last_goes}
@@ -55,15 +54,15 @@ module _ (s : StateData) (g : Going s) (e : ℕ) where
       let w = g.waits k.letter.no k.letter k.next.first.waits in
       let row : w.on.row ≡ k.row = one_row s k.letter w.on k.stack k.graph k.row k.names k.found in
       subst (λ (r : Row). Going (applied (taken_changes e k.letter r) s)) row
-        (take_goes s g e (only_one s.live e g.live k.next.live) k.letter w k.next.first.waits k.next.jobless)
+      (take_goes s g e (only_one s.live e g.live k.next.live) k.letter w k.next.first.waits k.next.jobless)
 
   begun_to : (k : Begins s e) (props : Members) → Going (applied (begun_changes k.job (begun_row k.row k.item k.stack.trav props)) s)
   begun_to k props =
       let h = held k.job k.works.its in
       let row : k.row ≡ h.on.row = sym (one_row s k.job.letter h.on k.stack k.graph k.row k.names k.found) in
       job_goes s g e (one k.job k.works.its) k.job k.works.its h Asking (begun_row k.row k.item k.stack.trav props)
-        (ap (λ (r : Row). r.no) row) (ap (λ (r : Row). r.name) row) (ap (λ (r : Row). r.stack) row) (ap (λ (r : Row). r.replaced_by) row) (ap (λ (r : Row). r.engine) row)
-        (refl, refl) (λ act _. let init : h.on.row.act ≡ Init = ap (λ (r : Row). r.act) (sym row) ∙ k.init in cc) (job-key s.jobs e k.job k.works.its)
+      (ap (λ (r : Row). r.no) row) (ap (λ (r : Row). r.name) row) (ap (λ (r : Row). r.stack) row) (ap (λ (r : Row). r.replaced_by) row) (ap (λ (r : Row). r.engine) row)
+      (refl, refl) (λ act _. let init : h.on.row.act ≡ Init = ap (λ (r : Row). r.act) (sym row) ∙ k.init in cc) (job-key s.jobs e k.job k.works.its)
 
   module _ (stage : Stage) (k : Creating s e stage) where
     h : Holds s e k.job
@@ -85,14 +84,14 @@ module _ (s : StateData) (g : Going s) (e : ℕ) where
     failed_to =
         let stack : h.on.stack ≡ k.stack = same_some h.on.stack k.stack h.on.names.in_table k.names.in_table in
         subst (λ (st : Stack). Going (applied (failed_changes e st k.row) s)) stack
-          (subst (λ (r : Row). Going (applied (failed_changes e h.on.stack r) s)) row (fail_goes s g e k.job k.works.its h act status))
+        (subst (λ (r : Row). Going (applied (failed_changes e h.on.stack r) s)) row (fail_goes s g e k.job k.works.its h act status))
 
     ready_to : (facts : _) → Going (applied (ready_changes k.job k.row facts) s)
     ready_to facts =
         let back : k.row ≡ h.on.row = sym row in
         job_goes s g e (one k.job k.works.its) k.job k.works.its h Ending (ready_row k.row facts)
-          (ap (λ (r : Row). r.no) back) (ap (λ (r : Row). r.name) back) (ap (λ (r : Row). r.stack) back) (ap (λ (r : Row). r.replaced_by) back) (ap (λ (r : Row). r.engine) back)
-          (k.act_is, refl) (λ _ failed. let is = status in cc) (job-key s.jobs e k.job k.works.its)
+        (ap (λ (r : Row). r.no) back) (ap (λ (r : Row). r.name) back) (ap (λ (r : Row). r.stack) back) (ap (λ (r : Row). r.replaced_by) back) (ap (λ (r : Row). r.engine) back)
+        (k.act_is, refl) (λ _ failed. let is = status in cc) (job-key s.jobs e k.job k.works.its)
 
   module _ (k : Finishes s e) where
     its : Holds s e k.job
@@ -113,16 +112,16 @@ module _ (s : StateData) (g : Going s) (e : ℕ) where
     finished_to : Going (applied (finished_changes e k.row k.point []) s)
     finished_to =
         subst (λ (p : Point). Going (applied (finished_changes e k.row p []) s)) same_point
-          (subst (λ (r : Row). Going (applied (finished_changes e r its.on.point []) s)) same_row (finish_goes s g e k.job k.works.its its complete))
+        (subst (λ (r : Row). Going (applied (finished_changes e r its.on.point []) s)) same_row (finish_goes s g e k.job k.works.its its complete))
 
     finished_last : AllDone (with_point (done_point k.point) k.graph) → Going (applied (finished_changes e k.row k.point (PutStack (completed k.stack) ∷ [])) s)
     finished_last all =
         let stack : its.on.stack ≡ k.stack = same_some its.on.stack k.stack its.on.names.in_table k.names.in_table in
         let all_ = subst (λ (p : Point). AllDone (with_point (done_point p) its.on.graph)) (sym same_point) (subst (λ (x : Graph). AllDone (with_point (done_point k.point) x)) (sym same_graph) all) in
         subst (λ (st : Stack). Going (applied (finished_changes e k.row k.point (PutStack (completed st) ∷ [])) s)) stack
-          (subst (λ (p : Point). Going (applied (finished_changes e k.row p (PutStack (completed its.on.stack) ∷ [])) s)) same_point
-            (subst (λ (r : Row). Going (applied (finished_changes e r its.on.point (PutStack (completed its.on.stack) ∷ [])) s)) same_row
-              (finish_last_goes s g e k.job k.works.its its complete all_)))
+        (subst (λ (p : Point). Going (applied (finished_changes e k.row p (PutStack (completed its.on.stack) ∷ [])) s)) same_point
+        (subst (λ (r : Row). Going (applied (finished_changes e r its.on.point (PutStack (completed its.on.stack) ∷ [])) s)) same_row
+        (finish_last_goes s g e k.job k.works.its its complete all_)))
 
   quiet_goes : (cs : List Change) (es : List Entry) → QuietTurn s e cs es → Going (applied cs s)
   quiet_goes cs es (take k key is made) = by_changes s cs _ is (taken k)

@@ -24,3 +24,5 @@ pub mod Says
 pub mod QuietTold
 pub mod CallTold
 pub mod CreateTold
+pub mod Stirs
+pub mod RunTold

@@ -1,9 +1,6 @@
 -- A step on one row leaves what stands on every other.
-use Rattle.std.proofs.Common.{◌≡◌, ◌≢◌, ◌⊎◌, inl, inr, ℕ, ◌<◌, true, false, List, [], ◌∷◌, Option, Some, None, refl, sym, ap, ◌∙◌, subst}
-use Rattle.std.specs.Prelude.{Contains, All, slice_get}
-use Rattle.heat_plan.specs.Plans.{PlanData}
-use Rattle.heat_plan.specs.declared.phase.Act.TheVariants.{Init, Create}
-use Rattle.heat_plan.specs.declared.phase.Status.TheVariants.{Complete, InProgress, Failed}
+use Rattle.std.proofs.Common.{◌≡◌, ◌≢◌, inl, inr, ℕ, List, Some, refl, sym, ap, ◌∙◌, subst}
+use Rattle.std.specs.Prelude.{slice_get}
 use Rattle.traversal_graph.specs.declared.shape.Node.TheVariants.{U}
 use Rattle.core_state.specs.declared.stack.Stack.{Stack}
 use Rattle.core_state.specs.declared.row.Row.{Row}
@@ -11,8 +8,8 @@ use Rattle.core_state.specs.declared.graph.Graph.{Graph}
 use Rattle.core_state.specs.declared.mail.Letter.{Letter}
 use Rattle.core_state.specs.declared.mail.Job.{Job}
 use Rattle.core_state.specs.Reads.{Names}
-use Rattle.core_state.specs.State.{StateData, stack_at, graph_at, row_at, letter_at, job_at, put_row, put_stack}
-use Rattle.core_laws.proofs.Rows.{same_some, same_or_not, text_or_not, row_put, row_here, row_else, stack_here, stack_else}
+use Rattle.core_state.specs.State.{StateData, stack_at, graph_at, row_at, letter_at, job_at, put_stack}
+use Rattle.core_laws.proofs.Rows.{same_some, same_or_not, text_or_not, stack_here, stack_else}
 use Rattle.core_laws.proofs.Going.{OnNode, Waits, Holds, Aims, HasFailed, Settled, Going}
 
 -- the stack still stands, of the same traversal and plan
@@ -52,8 +49,10 @@ stack_marked old new stacks was trav plan name st at = elim (text_or_not new.nam
   | inl is ↦
       let same : old ≡ st = same_some old st (subst (λ (x : List ℕ). stack_at stacks x ≡ Some old) is was) at in
       record {
-        stack = new; found = subst (λ (x : List ℕ). stack_at (put_stack new stacks) x ≡ Some new) is (stack_here new stacks);
-        trav = trav ∙ ap (λ (x : Stack). x.trav) same; plan = plan ∙ ap (λ (x : Stack). x.plan) same;
+        stack = new;
+        found = subst (λ (x : List ℕ). stack_at (put_stack new stacks) x ≡ Some new) is (stack_here new stacks);
+        trav = trav ∙ ap (λ (x : Stack). x.trav) same;
+        plan = plan ∙ ap (λ (x : Stack). x.plan) same;
       }
   | inr ne ↦ record { stack = st; found = stack_else new stacks name ne ∙ at; trav = refl; plan = refl }
 ]
@@ -65,24 +64,32 @@ same_node a b n m e f = rw (e, f) refl
 pub on_again : (s t : StateData) (l : Letter) (k : OnNode s l) → StackOn t.stacks l.stack k.stack → GraphOn t.graphs l.stack k.graph l.node
     → (q : Row) → row_at t.rows q.no ≡ Some q → q.no ≡ k.row.no → q.name ≡ k.row.name → q.stack ≡ k.row.stack → q.replaced_by ≡ k.row.replaced_by
     → (k' : OnNode t l) × (k'.row ≡ q)
-on_again s t l k on_stack on_graph q found no_is name_is stack_is last_is = (record {
-  stack = on_stack.stack; graph = on_graph.graph; row = q; point = k.point; plan = k.plan; item = k.item;
-  names = record {
-    in_table = on_stack.found;
-    newest = on_stack.trav ∙ k.names.newest;
-    its_graph = on_graph.found;
-    its_node = ap (λ (x : _). slice_get x.nodes l.node) on_graph.shape ∙ (k.names.its_node ∙ same_node k.row.name q.name k.row.no q.no (sym name_is) (sym no_is));
-  };
-  found = found;
-  owner = stack_is ∙ k.owner;
-  last = last_is ∙ k.last;
-  its_point = on_graph.point ∙ k.its_point;
-  placed = (k.placed.0 ∙ sym on_graph.stack, k.placed.1);
-  open_ = k.open_;
-  planned = on_stack.plan ∙ k.planned;
-  asked = subst (λ (x : List ℕ). Rattle.core_state.specs.Reads.item_at k.plan.items x ≡ Some k.item) (sym name_is) k.asked;
-  edgeless = ap (λ (x : _). x.edges) on_graph.shape ∙ k.edgeless;
-}, refl)
+on_again s t l k on_stack on_graph q found no_is name_is stack_is last_is = (
+  record {
+    stack = on_stack.stack;
+    graph = on_graph.graph;
+    row = q;
+    point = k.point;
+    plan = k.plan;
+    item = k.item;
+    names = record {
+      in_table = on_stack.found;
+      newest = on_stack.trav ∙ k.names.newest;
+      its_graph = on_graph.found;
+      its_node = ap (λ (x : _). slice_get x.nodes l.node) on_graph.shape ∙ (k.names.its_node ∙ same_node k.row.name q.name k.row.no q.no (sym name_is) (sym no_is));
+    };
+    found = found;
+    owner = stack_is ∙ k.owner;
+    last = last_is ∙ k.last;
+    its_point = on_graph.point ∙ k.its_point;
+    placed = (k.placed.0 ∙ sym on_graph.stack, k.placed.1);
+    open_ = k.open_;
+    planned = on_stack.plan ∙ k.planned;
+    asked = subst (λ (x : List ℕ). Rattle.core_state.specs.Reads.item_at k.plan.items x ≡ Some k.item) (sym name_is) k.asked;
+    edgeless = ap (λ (x : _). x.edges) on_graph.shape ∙ k.edgeless;
+  },
+  refl,
+)
 
 pub aims_of : (s : StateData) (l : Letter) (k : OnNode s l) → Aims s.graphs l k.row.no
 aims_of s l k = record { graph = k.graph; name = k.row.name; its_graph = k.names.its_graph; its_node = k.names.its_node }
@@ -90,27 +97,32 @@ aims_of s l k = record { graph = k.graph; name = k.row.name; its_graph = k.names
 module _ (s t : StateData) (a : ℕ) (m : Moves s t a) where
   pub other_on : (l : Letter) (k : OnNode s l) → k.row.no ≢ a → (k' : OnNode t l) × (k'.row ≡ k.row)
   other_on l k ne = on_again s t l k (m.stacks l.stack k.stack k.names.in_table)
-    (m.graphs l.stack k.graph l.node k.row.name k.row.no k.names.its_graph k.names.its_node ne)
-    k.row (m.rows k.row.no ne ∙ k.found) refl refl refl refl
+      (m.graphs l.stack k.graph l.node k.row.name k.row.no k.names.its_graph k.names.its_node ne)
+      k.row (m.rows k.row.no ne ∙ k.found) refl refl refl refl
 
   pub waits_again : (l : Letter) (w : Waits s l) → w.on.row.no ≢ a → Waits t l
   waits_again l w ne = let (k, same) = other_on l w.on ne in
-    record { on = k; init = ap (λ (r : Row). r.act) same ∙ w.init; free = ap (λ (r : Row). r.engine) same ∙ w.free }
+      record { on = k; init = ap (λ (r : Row). r.act) same ∙ w.init; free = ap (λ (r : Row). r.engine) same ∙ w.free }
 
   pub failed_again : (name : List ℕ) (f : HasFailed s name) → f.row.no ≢ a → HasFailed t name
   failed_again name f ne = let o = m.graphs name f.graph f.node f.named f.row.no f.its_graph f.its_node ne in record {
-    graph = o.graph; node = f.node; named = f.named; row = f.row; point = f.point;
+    graph = o.graph;
+    node = f.node;
+    named = f.named;
+    row = f.row;
+    point = f.point;
     its_graph = o.found;
     its_node = ap (λ (x : _). slice_get x.nodes f.node) o.shape ∙ f.its_node;
     found = m.rows f.row.no ne ∙ f.found;
-    act = f.act; status = f.status;
+    act = f.act;
+    status = f.status;
     its_point = o.point ∙ f.its_point;
     open_ = f.open_;
   }
 
   pub aims_back : (l : Letter) (n : ℕ) → Aims t.graphs l n → Aims s.graphs l n
   aims_back l n k = let (o, was, same) = m.were l.stack k.graph k.its_graph in
-    record { graph = o; name = k.name; its_graph = was; its_node = ap (λ (x : _). slice_get x.nodes l.node) same ∙ k.its_node }
+      record { graph = o; name = k.name; its_graph = was; its_node = ap (λ (x : _). slice_get x.nodes l.node) same ∙ k.its_node }
 
 -- the state goes on, where its letters, its jobs and its marks do
 pub moved : (s t : StateData) (a : ℕ) (r : Row) → Going s → Moves s t a → row_at s.rows a ≡ Some r

@@ -1,7 +1,7 @@
 -- Of such a state each engine's next turn finds what it needs.
-use Rattle.std.proofs.Common.{◌≡◌, ◌≢◌, ◌⊎◌, inl, inr, ℕ, ◌<◌, zero, suc, true, false, List, [], ◌∷◌, length, Option, Some, None, refl, sym, ap, ◌∙◌, subst, arith}
+use Rattle.std.proofs.Common.{◌≡◌, ◌≢◌, inl, inr, ℕ, ◌<◌, zero, suc, true, false, List, [], ◌∷◌, Some, None, refl, sym, ap, ◌∙◌, subst, arith}
 use Rattle.std.specs.Prelude.{Contains, All, slice_get, slice_set, slice_index_or}
-use Rattle.heat_plan.specs.declared.phase.Act.TheVariants.{Init, Create}
+use Rattle.heat_plan.specs.declared.phase.Act.TheVariants.{Create}
 use Rattle.heat_plan.specs.declared.phase.Status.{Status}
 use Rattle.heat_plan.specs.declared.phase.Status.TheVariants.{Complete, InProgress, Failed}
 use Rattle.traversal_graph.specs.declared.shape.Node.TheVariants.{U}
@@ -13,14 +13,14 @@ use Rattle.core_state.specs.declared.mail.Job.{Job}
 use Rattle.core_state.specs.declared.mail.Stage.{Stage}
 use Rattle.core_state.specs.declared.mail.Stage.TheVariants.{Taken, Asking, Polling, Ending}
 use Rattle.core_state.specs.Changes.{with_point}
-use Rattle.core_state.specs.Reads.{Names, IsLowest, IsDone, HasNoHolder, TakesNext, Works}
-use Rattle.core_state.specs.State.{StateData, graph_at, row_at, letter_at, job_at}
-use Rattle.core_state.specs.Turns.{Takes, Begins, Creating, Finishes, AllDone, done_point}
+use Rattle.core_state.specs.Reads.{IsLowest, Works}
+use Rattle.core_state.specs.State.{StateData, row_at, job_at}
+use Rattle.core_state.specs.Turns.{Takes, Creating, AllDone, done_point}
 use Rattle.core_laws.specs.Next.{NextFits}
 use Rattle.core_laws.proofs.Tables.{set_else}
 use Rattle.core_laws.proofs.Rows.{same_some, same_or_not}
 use Rattle.core_laws.proofs.Lists.{All-first, All-rest}
-use Rattle.core_laws.proofs.Going.{OnNode, Waits, StageFits, Holds, HasFailed, Settled, Going}
+use Rattle.core_laws.proofs.Going.{Waits, StageFits, Holds, HasFailed, Settled, Going}
 
 pub All-at : {X : Type 0} (P : X → Type 0) (xs : List X) (i : ℕ) (x : X) → All P xs → slice_get xs i ≡ Some x → P x
 All-at P [] i x all h = cc
@@ -65,8 +65,8 @@ module _ (s : StateData) (g : Going s) where
       | inl same ↦
           let one : f.graph ≡ h.on.graph = same_some f.graph h.on.graph f.its_graph h.on.names.its_graph in
           let node : slice_get h.on.graph.graph.nodes j.letter.node ≡ Some (U f.named f.row.no) =
-              subst (λ (i : ℕ). slice_get h.on.graph.graph.nodes i ≡ Some (U f.named f.row.no)) same
-                (subst (λ (x : Graph). slice_get x.graph.nodes f.node ≡ Some (U f.named f.row.no)) one f.its_node) in
+          subst (λ (i : ℕ). slice_get h.on.graph.graph.nodes i ≡ Some (U f.named f.row.no)) same
+          (subst (λ (x : Graph). slice_get x.graph.nodes f.node ≡ Some (U f.named f.row.no)) one f.its_node) in
           let number : f.row.no ≡ h.on.row.no = same_number _ _ _ _ (same_some _ _ node h.on.names.its_node) in
           let row : f.row ≡ h.on.row = same_some f.row h.on.row (subst (λ (n : ℕ). row_at s.rows n ≡ Some f.row) number f.found) h.on.found in
           let status : h.on.row.status ≡ Failed = ap (λ (r : Row). r.status) (sym row) ∙ f.status in
@@ -88,15 +88,22 @@ module _ (s : StateData) (g : Going s) where
 
   module _ (e : ℕ) (live : Contains s.live e) where
     taken : (l : Letter) → job_at s.jobs e ≡ None → IsLowest s.letters l → (k : Takes s e) × (k.letter ≡ l)
-    taken l jobless lowest = (record {
-      letter = l; stack = w.on.stack; graph = w.on.graph; row = w.on.row;
-      next = record { live = live; jobless = jobless; first = lowest };
-      names = w.on.names;
-      open_ = λ d. apart d.point.done d.done (ap (λ (p : Point). p.done) (same_some d.point w.on.point d.there w.on.its_point) ∙ w.on.open_);
-      found = w.on.found; last = w.on.last;
-      free = λ f j at_f on.
-          let none : job_at s.jobs f ≡ None = subst (λ (x : ℕ). job_at s.jobs x ≡ None) (only_one s.live e g.live live ∙ sym (g.holds f j at_f).0) jobless in cc;
-    }, refl) where
+    taken l jobless lowest = (
+      record {
+        letter = l;
+        stack = w.on.stack;
+        graph = w.on.graph;
+        row = w.on.row;
+        next = record { live = live; jobless = jobless; first = lowest };
+        names = w.on.names;
+        open_ = λ d. apart d.point.done d.done (ap (λ (p : Point). p.done) (same_some d.point w.on.point d.there w.on.its_point) ∙ w.on.open_);
+        found = w.on.found;
+        last = w.on.last;
+        free = λ f j at_f on.
+            let none : job_at s.jobs f ≡ None = subst (λ (x : ℕ). job_at s.jobs x ≡ None) (only_one s.live e g.live live ∙ sym (g.holds f j at_f).0) jobless in cc;
+      },
+      refl,
+    ) where
       w : Waits s l
       w = g.waits l.no l lowest.waits
 
@@ -109,24 +116,50 @@ module _ (s : StateData) (g : Going s) where
     creating : (j : Job) (stage : Stage) (at : job_at s.jobs e ≡ Some j) → j.stage ≡ stage
         → ((g.holds e j at).1).on.row.act ≡ Create → ((g.holds e j at).1).on.row.status ≡ InProgress → Creating s e stage
     creating j stage at is act status = let h = (g.holds e j at).1 in record {
-      job = j; stack = h.on.stack; graph = h.on.graph; row = h.on.row; works = works j stage at is; names = h.on.names;
-      its_row = h.its_row; found = h.on.found; act_is = act; status_is = status;
+      job = j;
+      stack = h.on.stack;
+      graph = h.on.graph;
+      row = h.on.row;
+      works = works j stage at is;
+      names = h.on.names;
+      its_row = h.its_row;
+      found = h.on.found;
+      act_is = act;
+      status_is = status;
     }
 
     pub next_fits : NextFits s e
     next_fits = record {
       taken = taken;
       begun = λ j at is. let h = (g.holds e j at).1 in record {
-        job = j; stack = h.on.stack; graph = h.on.graph; row = h.on.row; plan = h.on.plan; item = h.on.item;
-        works = works j Taken at is; names = h.on.names; its_row = h.its_row; found = h.on.found;
-        init = fits j Taken at is; planned = h.on.planned; asked = h.on.asked;
+        job = j;
+        stack = h.on.stack;
+        graph = h.on.graph;
+        row = h.on.row;
+        plan = h.on.plan;
+        item = h.on.item;
+        works = works j Taken at is;
+        names = h.on.names;
+        its_row = h.its_row;
+        found = h.on.found;
+        init = fits j Taken at is;
+        planned = h.on.planned;
+        asked = h.on.asked;
       };
       asked = λ j at is. creating j Asking at is (fits j Asking at is).0 (fits j Asking at is).1;
       polled = λ j at is. creating j Polling at is (fits j Polling at is).0 (fits j Polling at is).1;
       finished = λ j at is. let h = (g.holds e j at).1 in record {
-        job = j; stack = h.on.stack; graph = h.on.graph; row = h.on.row; point = h.on.point;
-        works = works j Ending at is; names = h.on.names; its_row = h.its_row; found = h.on.found;
-        its_point = h.on.its_point; placed = h.on.placed;
+        job = j;
+        stack = h.on.stack;
+        graph = h.on.graph;
+        row = h.on.row;
+        point = h.on.point;
+        works = works j Ending at is;
+        names = h.on.names;
+        its_row = h.its_row;
+        found = h.on.found;
+        its_point = h.on.its_point;
+        placed = h.on.placed;
         alone = λ after c. none_joined h.on.graph.graph.edges j.letter.node after h.on.edgeless c;
         settles = settles e j h (fits j Ending at is).1;
       };

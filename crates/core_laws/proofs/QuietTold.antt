@@ -1,24 +1,21 @@
 -- The turns that ask nobody are told.
-use Rattle.std.proofs.Common.{◌≡◌, ◌≢◌, ◌⊎◌, inl, inr, ℕ, ◌<◌, ◌+◌, true, false, List, [], ◌∷◌, ◌++◌, Option, Some, None, refl, sym, ap, ◌∙◌, subst}
-use Rattle.std.specs.Prelude.{All, Contains, option_map, slice_get, slice_set, if◌then◌else◌}
+use Rattle.std.proofs.Common.{◌≡◌, ◌≢◌, inl, inr, ℕ, List, [], ◌∷◌, ◌++◌, Option, Some, None, refl, sym, ap, ◌∙◌, subst}
+use Rattle.std.specs.Prelude.{option_map, slice_get, if◌then◌else◌}
 use Rattle.std.specs.Str.{bytes_eq}
-use Rattle.heat_value.specs.Data.{Members}
 use Rattle.heat_plan.specs.Plans.{PlanData}
 use Rattle.heat_plan.specs.declared.item.Item.{Item}
-use Rattle.heat_plan.specs.declared.token.Token.{Token}
 use Rattle.heat_plan.specs.declared.phase.Act.{Act}
-use Rattle.heat_plan.specs.declared.phase.Act.TheVariants.{Init, Create}
+use Rattle.heat_plan.specs.declared.phase.Act.TheVariants.{Create}
 use Rattle.heat_plan.specs.declared.phase.Status.{Status}
-use Rattle.heat_plan.specs.declared.phase.Status.TheVariants.{Complete, InProgress, Failed}
+use Rattle.heat_plan.specs.declared.phase.Status.TheVariants.{Complete, InProgress}
 use Rattle.traversal_graph.specs.declared.shape.Node.TheVariants.{U}
 use Rattle.core_state.specs.declared.stack.Stack.{Stack}
 use Rattle.core_state.specs.declared.row.Row.{Row}
 use Rattle.core_state.specs.declared.graph.Graph.{Graph}
 use Rattle.core_state.specs.declared.graph.Point.{Point}
-use Rattle.core_state.specs.declared.mail.Letter.{Letter}
 use Rattle.core_state.specs.declared.mail.Job.{Job}
 use Rattle.core_state.specs.declared.mail.Stage.{Stage}
-use Rattle.core_state.specs.declared.mail.Stage.TheVariants.{Taken, Asking, Polling, Ending}
+use Rattle.core_state.specs.declared.mail.Stage.TheVariants.{Asking, Ending}
 use Rattle.core_state.specs.declared.entry.Actor.TheVariants.{Engine}
 use Rattle.core_state.specs.declared.entry.Entry.{Entry}
 use Rattle.core_state.specs.declared.entry.MailWrite.{MailWrite}
@@ -27,32 +24,32 @@ use Rattle.core_state.specs.declared.entry.RowWrite.TheVariants.{Set}
 use Rattle.core_state.specs.declared.entry.What.TheVariants as what
 use Rattle.core_state.specs.Changes.{applied, with_point, put_point}
 use Rattle.core_state.specs.Reads.{item_at}
-use Rattle.core_state.specs.State.{StateData, stack_at, graph_at, row_at, letter_at, job_at, put_row, put_job, put_stack, cut_job, cut_letter}
+use Rattle.core_state.specs.State.{StateData, stack_at, graph_at, row_at, job_at, put_row, put_job, put_stack, cut_job, cut_letter}
 use Rattle.core_state.specs.declared.change.Change.TheVariants.{PutStack}
-use Rattle.core_state.specs.Turns.{token_of, by_engine, Takes, locked, new_job, taken_changes, taken_entries, Begins, begun_row, begun_changes, begun_entries, with_stage, Finishes, unlocked, done_point, AllDone, completed, finished_changes, finished_entries, complete_mark_entry}
+use Rattle.core_state.specs.Turns.{token_of, by_engine, Takes, locked, new_job, taken_changes, taken_entries, Begins, begun_row, begun_changes, begun_entries, with_stage, Finishes, unlocked, done_point, completed, finished_changes, finished_entries, complete_mark_entry}
 use Rattle.provider.specs.Table.{TokenState}
 use Rattle.core_laws.specs.Asked.{HasNoCall}
 use Rattle.core_laws.specs.Opening.{Opening, first_of}
 use Rattle.core_laws.specs.Could.{could}
-use Rattle.core_laws.specs.Newest.{Latest, latest_of, newest}
+use Rattle.core_laws.specs.Newest.{latest_of, newest}
 use Rattle.core_laws.specs.Marked.{mark_of}
 use Rattle.core_laws.specs.Stored.{stored}
 use Rattle.core_laws.specs.Tokens.{IsNamed}
-use Rattle.core_laws.specs.Headline.{AtPrefix, IsOfNewest, FitsIn}
-use Rattle.core_laws.proofs.Rows.{same_some, same_or_not, text_or_not, row-key, row_put, row_here, row_else, job-key, job_put, job_cut, stack-key, graph-key}
+use Rattle.core_laws.specs.Headline.{AtPrefix, IsOfNewest}
+use Rattle.core_laws.proofs.Rows.{same_some, same_or_not, text_or_not, row_here, row_else, job-key, job_put, job_cut, stack-key, graph-key}
 use Rattle.core_laws.proofs.Tables.{set_else, set_here}
 use Rattle.core_laws.proofs.Points.{point_here, point_else}
 use Rattle.core_laws.proofs.Coulds.{could-silent}
-use Rattle.core_laws.proofs.Tells.{none, alone, rows_mail, mail_alone}
+use Rattle.core_laws.proofs.Tells.{none, alone, rows_mail}
 use Rattle.core_laws.proofs.Folds.{newest-append, mark-append, stored-append}
 use Rattle.core_laws.proofs.Going.{StageFits, Going}
-use Rattle.core_laws.proofs.NextFits.{only_one, same_number, All-at}
-use Rattle.core_laws.proofs.Moves.{StackOn, GraphOn, Moves, stack_same, graph_same, stack_marked}
+use Rattle.core_laws.proofs.NextFits.{only_one, same_number}
+use Rattle.core_laws.proofs.Moves.{StackOn, GraphOn, stack_same, stack_marked}
 use Rattle.core_laws.proofs.Turned.{with_row, moves_row}
-use Rattle.core_laws.proofs.Agreed.{StateFits, AskFits, IsBegun, living, Agreed}
+use Rattle.core_laws.proofs.Agreed.{StateFits, AskFits, Agreed}
 use Rattle.core_laws.proofs.AgreedTurns.{OwnPoint, TurnsOn, turned}
 use Rattle.core_laws.proofs.Boundary.{at_boundary}
-use Rattle.core_laws.proofs.Says.{Says, fits_in, Completes, complete_kept, named_same, mark_put, latest_put, stack_back}
+use Rattle.core_laws.proofs.Says.{fits_in, complete_kept, named_same, mark_put, latest_put, stack_back}
 use Rattle.core_laws.proofs.Kept.{one_row}
 use Rattle.core_laws.proofs.Told.{Follows}
 
@@ -83,9 +80,9 @@ module _ (o : Opening) (h : List Entry) (s : StateData) (g : Going s) (a : Agree
   follow_quiet t gt b =
       let end = at_boundary o (h ++ rows ∷ mail ∷ []) t gt b in
       next (fits_in o (h ++ []) (Engine e) (what.Rows (Set q ∷ [])) tt)
-        (between (rows ∷ []) silent_one (λ name. newest-append o h (rows ∷ []) name) (λ name. mark-append o h (rows ∷ []) name)
-          (rows ∷ mail ∷ []) (rows_mail e (Set q ∷ []) ms [] none) (stored-append o h (rows ∷ []) ∙ sym (stored-append o h (rows ∷ mail ∷ []))) end.named)
-        (next (fits_in o (h ++ rows ∷ []) (Engine e) (what.Mail ms) tt) end tt)
+      (between (rows ∷ []) silent_one (λ name. newest-append o h (rows ∷ []) name) (λ name. mark-append o h (rows ∷ []) name)
+      (rows ∷ mail ∷ []) (rows_mail e (Set q ∷ []) ms [] none) (stored-append o h (rows ∷ []) ∙ sym (stored-append o h (rows ∷ mail ∷ []))) end.named)
+      (next (fits_in o (h ++ rows ∷ []) (Engine e) (what.Mail ms) tt) end tt)
 
   module _ (stack : List ℕ) (trav : ℕ) (act : Act) where
     abbrev mark : Entry
@@ -96,12 +93,12 @@ module _ (o : Opening) (h : List Entry) (s : StateData) (g : Going s) (a : Agree
         let end = at_boundary o (h ++ rows ∷ mail ∷ mark ∷ []) t gt b in
         let quiet : HasNoCall (rows ∷ mail ∷ mark ∷ []) = rows_mail e (Set q ∷ []) ms (mark ∷ []) (alone (Engine e) (what.Mark stack trav act None) tt) in
         next (fits_in o (h ++ []) (Engine e) (what.Rows (Set q ∷ [])) tt)
-          (between (rows ∷ []) silent_one (λ name. newest-append o h (rows ∷ []) name) (λ name. mark-append o h (rows ∷ []) name)
-            (rows ∷ mail ∷ mark ∷ []) quiet (stored-append o h (rows ∷ []) ∙ sym (stored-append o h (rows ∷ mail ∷ mark ∷ []))) end.named)
-          (next (fits_in o (h ++ rows ∷ []) (Engine e) (what.Mail ms) tt)
-            (between (rows ∷ mail ∷ []) (rows_mail e (Set q ∷ []) ms [] none) (λ name. newest-append o h (rows ∷ mail ∷ []) name) (λ name. mark-append o h (rows ∷ mail ∷ []) name)
-              (rows ∷ mail ∷ mark ∷ []) quiet (stored-append o h (rows ∷ mail ∷ []) ∙ sym (stored-append o h (rows ∷ mail ∷ mark ∷ []))) end.named)
-            (next (fits_in o (h ++ rows ∷ mail ∷ []) (Engine e) (what.Mark stack trav act None) is_newest) end tt))
+        (between (rows ∷ []) silent_one (λ name. newest-append o h (rows ∷ []) name) (λ name. mark-append o h (rows ∷ []) name)
+        (rows ∷ mail ∷ mark ∷ []) quiet (stored-append o h (rows ∷ []) ∙ sym (stored-append o h (rows ∷ mail ∷ mark ∷ []))) end.named)
+        (next (fits_in o (h ++ rows ∷ []) (Engine e) (what.Mail ms) tt)
+        (between (rows ∷ mail ∷ []) (rows_mail e (Set q ∷ []) ms [] none) (λ name. newest-append o h (rows ∷ mail ∷ []) name) (λ name. mark-append o h (rows ∷ mail ∷ []) name)
+        (rows ∷ mail ∷ mark ∷ []) quiet (stored-append o h (rows ∷ mail ∷ []) ∙ sym (stored-append o h (rows ∷ mail ∷ mark ∷ []))) end.named)
+        (next (fits_in o (h ++ rows ∷ mail ∷ []) (Engine e) (what.Mark stack trav act None) is_newest) end tt))
 
 -- ---- points and stacks that stay
 
@@ -140,7 +137,11 @@ module _ (o : Opening) (h : List Entry) (s : StateData) (g : Going s) (a : Agree
 
     pub take_turns : TurnsOn o h (h ++ taken_entries e k.letter k.row) s taken_to k.row (locked e k.row)
     take_turns = record {
-      was = k.found; is = row_here (locked e k.row) s.rows; number = refl; stack = refl; named = refl;
+      was = k.found;
+      is = row_here (locked e k.row) s.rows;
+      number = refl;
+      stack = refl;
+      named = refl;
       moves = moves_row s (locked e k.row) (cut_letter k.letter.no s.letters) (put_job (new_job e k.letter k.row) s.jobs);
       graphs = λ name gr at. (gr, at, refl);
       own = λ name gr node p named at its there. own_stays s.graphs name gr node p k.row (locked e k.row) at there (λ act status. (act, status));
@@ -151,7 +152,7 @@ module _ (o : Opening) (h : List Entry) (s : StateData) (g : Going s) (a : Agree
       marks_are = λ name. mark-append o h (taken_entries e k.letter k.row) name ∙ a.marks_are name;
       could_else = λ x ne. could-silent (first_of o) h (taken_entries e k.letter k.row) x take_silent;
       state = λ f. subst (λ (x : List TokenState). StateFits (locked e k.row) x) (sym (could-silent (first_of o) h (taken_entries e k.letter k.row) (token_of k.row) take_silent))
-        (record { plain = f.plain; acts = f.acts; still = f.still; ready = f.ready });
+          (record { plain = f.plain; acts = f.acts; still = f.still; ready = f.ready });
       asked = asked_put (new_job e k.letter k.row) [] taken_to k.row (locked e k.row) (λ x. could (first_of o) (h ++ taken_entries e k.letter k.row) (token_of x)) (only_one s.live e g.live k.next.live) refl refl refl (row_here (locked e k.row) s.rows) tt;
     }
 
@@ -180,24 +181,28 @@ module _ (o : Opening) (h : List Entry) (s : StateData) (g : Going s) (a : Agree
 
     pub begin_turns : TurnsOn o h (h ++ begun_entries e k.job new) s begun_to k.row new
     begin_turns = record {
-      was = k.found; is = row_here new s.rows; number = refl; stack = refl; named = refl;
+      was = k.found;
+      is = row_here new s.rows;
+      number = refl;
+      stack = refl;
+      named = refl;
       moves = moves_row s new s.letters (put_job (with_stage Asking k.job) s.jobs);
       graphs = λ name gr at. (gr, at, refl);
       own = λ name gr node p named at its there. own_stays s.graphs name gr node p k.row new at there (λ act status. let init = k.init in cc);
       stacks_were = λ name st at. (st, at, refl);
       begun = λ st plan item at planned asked begun act.
-        let stacks : st ≡ k.stack = same_some st k.stack at in_stack in
-        let plans : plan ≡ k.plan = same_some plan k.plan (sym (ap (λ (x : Stack). x.plan) stacks) ∙ planned) k.planned in
-        let items : item ≡ k.item = same_some item k.item (subst (λ (x : PlanData). item_at x.items k.row.name ≡ Some item) plans asked) k.asked in
-        (ap (λ (x : Item). x.kind) (sym items), ap (λ (x : Item). x.props) (sym items));
+          let stacks : st ≡ k.stack = same_some st k.stack at in_stack in
+          let plans : plan ≡ k.plan = same_some plan k.plan (sym (ap (λ (x : Stack). x.plan) stacks) ∙ planned) k.planned in
+          let items : item ≡ k.item = same_some item k.item (subst (λ (x : PlanData). item_at x.items k.row.name ≡ Some item) plans asked) k.asked in
+          (ap (λ (x : Item). x.kind) (sym items), ap (λ (x : Item). x.props) (sym items));
       stored_is = stored-append o h (begun_entries e k.job new) ∙ ap (put_row new) a.stored_is;
       newest_is = λ name. newest-append o h (begun_entries e k.job new) name ∙ a.newest_is name;
       marks_are = λ name. mark-append o h (begun_entries e k.job new) name ∙ a.marks_are name;
       could_else = λ x ne. could-silent (first_of o) h (begun_entries e k.job new) x begin_silent;
       state = λ f. record { plain = f.plain; acts = inr refl; still = λ init. cc; ready = λ act status. cc };
       asked = asked_put (with_stage Asking k.job) [] begun_to k.row new (λ x. could (first_of o) (h ++ begun_entries e k.job new) (token_of x)) (g.holds e k.job k.works.its).0
-        (job-key s.jobs e k.job k.works.its) refl k.its_row (row_here new s.rows)
-        (could-silent (first_of o) h (begun_entries e k.job new) (token_of k.row) begin_silent ∙ absent);
+          (job-key s.jobs e k.job k.works.its) refl k.its_row (row_here new s.rows)
+          (could-silent (first_of o) h (begun_entries e k.job new) (token_of k.row) begin_silent ∙ absent);
     }
 
     pub begin_agrees : Agreed o (h ++ begun_entries e k.job new) (applied (begun_changes k.job new) s)
@@ -234,7 +239,10 @@ module _ (o : Opening) (h : List Entry) (s : StateData) (g : Going s) (a : Agree
       | inl is ↦
           let same : k.graph ≡ gr = at_old name gr at is in
           record {
-            graph = new_graph; found = at_new name is; shape = ap (λ (x : Graph). x.graph) same; stack = ap (λ (x : Graph). x.stack) same;
+            graph = new_graph;
+            found = at_new name is;
+            shape = ap (λ (x : Graph). x.graph) same;
+            stack = ap (λ (x : Graph). x.stack) same;
             point = set_else k.graph.points k.point.node point node (other same) ∙ ap (λ (x : Graph). slice_get x.points node) same;
           }
     ] where
@@ -276,15 +284,21 @@ module _ (o : Opening) (h : List Entry) (s : StateData) (g : Going s) (a : Agree
           let old : slice_get k.graph.points node ≡ Some p = subst (λ (x : Graph). slice_get x.points node ≡ Some p) (sym same) there in
           elim (same_or_not node k.point.node) [
             | inl here ↦ record {
-                graph = new_graph; point = point; found = at_new name is; shape = ap (λ (x : Graph). x.graph) same;
-                its_point = subst (λ (i : ℕ). slice_get new_graph.points i ≡ Some point) (sym here) (set_here k.graph.points k.point.node point p (subst (λ (i : ℕ). slice_get k.graph.points i ≡ Some p) here old));
-                ends = λ was done. made_row;
-              }
+              graph = new_graph;
+              point = point;
+              found = at_new name is;
+              shape = ap (λ (x : Graph). x.graph) same;
+              its_point = subst (λ (i : ℕ). slice_get new_graph.points i ≡ Some point) (sym here) (set_here k.graph.points k.point.node point p (subst (λ (i : ℕ). slice_get k.graph.points i ≡ Some p) here old));
+              ends = λ was done. made_row;
+            }
             | inr ne ↦ record {
-                graph = new_graph; point = p; found = at_new name is; shape = ap (λ (x : Graph). x.graph) same;
-                its_point = set_else k.graph.points k.point.node point node ne ∙ old;
-                ends = λ was done. made_row;
-              }
+              graph = new_graph;
+              point = p;
+              found = at_new name is;
+              shape = ap (λ (x : Graph). x.graph) same;
+              its_point = set_else k.graph.points k.point.node point node ne ∙ old;
+              ends = λ was done. made_row;
+            }
           ]
     ]
 
@@ -297,7 +311,11 @@ module _ (o : Opening) (h : List Entry) (s : StateData) (g : Going s) (a : Agree
         (marks_are : (name : List ℕ) → mark_of o (h ++ finished_entries e k.row marks) name ≡ option_map (λ (st : Stack). st.status) (stack_at stacks name)) where
       finish_turns : TurnsOn o h (h ++ finished_entries e k.row marks) s (finished_to stacks) k.row (unlocked k.row)
       finish_turns = record {
-        was = k.found; is = row_here (unlocked k.row) s.rows; number = refl; stack = refl; named = refl;
+        was = k.found;
+        is = row_here (unlocked k.row) s.rows;
+        number = refl;
+        stack = refl;
+        named = refl;
         moves = record { stacks = kept; graphs = elsewhere; were = graphs_were; rows = λ n ne. row_else (unlocked k.row) s.rows n (λ i. ne (sym i)) };
         graphs = graphs_are;
         own = own_point;
@@ -308,7 +326,7 @@ module _ (o : Opening) (h : List Entry) (s : StateData) (g : Going s) (a : Agree
         marks_are = marks_are;
         could_else = λ x ne. could-silent (first_of o) h (finished_entries e k.row marks) x quiet;
         state = λ f. subst (λ (x : List TokenState). StateFits (unlocked k.row) x) (sym (could-silent (first_of o) h (finished_entries e k.row marks) (token_of k.row) quiet))
-          (record { plain = f.plain; acts = f.acts; still = f.still; ready = f.ready });
+            (record { plain = f.plain; acts = f.acts; still = f.still; ready = f.ready });
         asked = asked_cut (finished_to stacks) (λ x. could (first_of o) (h ++ finished_entries e k.row marks) (token_of x)) (g.holds e k.job k.works.its).0 refl;
       }
 
@@ -317,9 +335,9 @@ module _ (o : Opening) (h : List Entry) (s : StateData) (g : Going s) (a : Agree
 
     pub finish_agrees : Agreed o (h ++ finished_entries e k.row []) (applied (finished_changes e k.row k.point []) s)
     finish_agrees = finished_agrees [] (rows_mail e (Set (unlocked k.row) ∷ []) (Ended e ∷ []) [] none) s.stacks (stack_same s.stacks) (λ name st at. (st, at, refl))
-      (stored-append o h (finished_entries e k.row []))
-      (λ name. newest-append o h (finished_entries e k.row []) name ∙ a.newest_is name)
-      (λ name. mark-append o h (finished_entries e k.row []) name ∙ a.marks_are name)
+        (stored-append o h (finished_entries e k.row []))
+        (λ name. newest-append o h (finished_entries e k.row []) name ∙ a.newest_is name)
+        (λ name. mark-append o h (finished_entries e k.row []) name ∙ a.marks_are name)
 
     its_name : k.stack.name ≡ k.job.letter.stack
     its_name = stack-key s.stacks k.job.letter.stack k.stack k.names.in_table
@@ -332,12 +350,12 @@ module _ (o : Opening) (h : List Entry) (s : StateData) (g : Going s) (a : Agree
 
     pub finish_last_agrees : Agreed o (h ++ finished_entries e k.row last_marks) (applied (finished_changes e k.row k.point (PutStack (completed k.stack) ∷ [])) s)
     finish_last_agrees = finished_agrees last_marks (rows_mail e (Set (unlocked k.row) ∷ []) (Ended e ∷ []) last_marks (alone (Engine e) (what.Mark k.stack.name k.stack.trav k.stack.act None) tt))
-      (put_stack (completed k.stack) s.stacks)
-      (stack_marked k.stack (completed k.stack) s.stacks in_table refl refl)
-      (stack_back k.stack (completed k.stack) s.stacks in_table refl)
-      (stored-append o h (finished_entries e k.row last_marks))
-      (λ name. newest-append o h (finished_entries e k.row last_marks) name ∙ (a.newest_is name ∙ latest_put k.stack (completed k.stack) s.stacks in_table refl name))
-      (λ name. mark-append o h (finished_entries e k.row last_marks) name
+        (put_stack (completed k.stack) s.stacks)
+        (stack_marked k.stack (completed k.stack) s.stacks in_table refl refl)
+        (stack_back k.stack (completed k.stack) s.stacks in_table refl)
+        (stored-append o h (finished_entries e k.row last_marks))
+        (λ name. newest-append o h (finished_entries e k.row last_marks) name ∙ (a.newest_is name ∙ latest_put k.stack (completed k.stack) s.stacks in_table refl name))
+        (λ name. mark-append o h (finished_entries e k.row last_marks) name
         ∙ (ap (λ (x : Option Status). if bytes_eq k.stack.name name then Some Complete else x) (a.marks_are name) ∙ mark_put (completed k.stack) s.stacks name))
 
     -- the mark is of the newest traversal, which has none

@@ -1,6 +1,6 @@
 -- The tables of a state: what a write leaves in each.
-use Rattle.std.proofs.Common.{◌≡◌, ◌≢◌, ◌⊎◌, inl, inr, ℕ, List, Option, Some, None, sym, ◌∙◌, subst}
-use Rattle.std.specs.Prelude.{nat_eq, Decides}
+use Rattle.std.proofs.Common.{◌≡◌, ◌≢◌, ◌⊎◌, inl, inr, ℕ, List, Option, Some, sym, subst}
+use Rattle.std.specs.Prelude.{nat_eq}
 use Rattle.std.specs.Str.{bytes_eq}
 use Rattle.std.proofs.lemmas.Bool.Decides.{Decides-eqb, eqb_tells}
 use Rattle.std.proofs.lemmas.Slice.Eq.{bytes_eq-Decides}
@@ -10,7 +10,7 @@ use Rattle.core_state.specs.declared.graph.Graph.{Graph}
 use Rattle.core_state.specs.declared.mail.Letter.{Letter}
 use Rattle.core_state.specs.declared.mail.Job.{Job}
 use Rattle.core_state.specs.State.{stack_key, graph_key, row_key, letter_key, job_key, row_at, job_at, letter_at, stack_at, graph_at, put_stack, put_graph, put_row, put_job, cut_job, put_letter, cut_letter}
-use Rattle.core_laws.proofs.Tables.{cases, at-key, at-put_same, at-put_other, at-cut_same, at-cut_other, put_found, cut_found}
+use Rattle.core_laws.proofs.Tables.{cases, at-key, at-put_same, at-put_other, at-cut_other, put_found, cut_found}
 
 pub same_some : {A : Type 0} (x y : A) {o : Option A} → o ≡ Some x → o ≡ Some y → x ≡ y
 same_some x y h i = cc

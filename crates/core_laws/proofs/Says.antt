@@ -1,6 +1,6 @@
 -- What an entry says where it stands, and what the prefixes inside a step keep.
-use Rattle.std.proofs.Common.{◌≡◌, ◌≢◌, ◌⊎◌, inl, inr, ℕ, Bool, true, false, cond, List, [], ◌∷◌, ◌++◌, Option, Some, None, refl, sym, ap, ◌∙◌, subst}
-use Rattle.std.specs.Prelude.{All, Contains, option_map, slice_get, if◌then◌else◌}
+use Rattle.std.proofs.Common.{◌≡◌, ◌≢◌, inl, inr, ℕ, List, [], ◌∷◌, Option, Some, None, refl, sym, ap, ◌∙◌, subst}
+use Rattle.std.specs.Prelude.{option_map, if◌then◌else◌}
 use Rattle.std.specs.List.{AllZip}
 use Rattle.std.specs.Str.{bytes_eq}
 use Rattle.std.proofs.lemmas.Slice.Eq.{bytes_eq-Decides}
@@ -8,12 +8,9 @@ use Rattle.heat_plan.specs.Plans.{PlanData}
 use Rattle.heat_plan.specs.declared.facts.KnownFacts.{KnownFacts}
 use Rattle.heat_plan.specs.declared.item.Item.{Item}
 use Rattle.heat_plan.specs.declared.token.Token.{Token}
-use Rattle.heat_plan.specs.declared.calls.Request.{Request}
-use Rattle.heat_plan.specs.declared.calls.Answered.{Answered}
 use Rattle.heat_plan.specs.declared.phase.Act.{Act}
 use Rattle.heat_plan.specs.declared.phase.Act.TheVariants.{Init}
-use Rattle.heat_plan.specs.declared.phase.Status.{Status}
-use Rattle.heat_plan.specs.declared.phase.Status.TheVariants.{Complete, InProgress}
+use Rattle.heat_plan.specs.declared.phase.Status.TheVariants.{Complete}
 use Rattle.core_state.specs.declared.stack.Stack.{Stack}
 use Rattle.core_state.specs.declared.row.Row.{Row}
 use Rattle.core_state.specs.declared.entry.Actor.{Actor}
@@ -29,15 +26,15 @@ use Rattle.core_laws.specs.Could.{could}
 use Rattle.core_laws.specs.Newest.{Latest, latest_of, newest}
 use Rattle.core_laws.specs.Marked.{mark_of}
 use Rattle.core_laws.specs.Stored.{stored}
-use Rattle.core_laws.specs.Tokens.{token_at, IsAlive, IsCertain, tokens_of, HasRow, IsNamed}
+use Rattle.core_laws.specs.Tokens.{token_at, IsAlive, IsNamed}
 use Rattle.core_laws.specs.Fits.{plan_of, IsFactOf, HasExactly, Fits}
 use Rattle.core_laws.specs.Caused.{IsCaused}
-use Rattle.core_laws.specs.Headline.{AtPrefix, IsOfNewest, FitsIn}
+use Rattle.core_laws.specs.Headline.{IsOfNewest, FitsIn}
 use Rattle.core_laws.proofs.Tables.{cases}
 use Rattle.core_laws.proofs.Rows.{same_some, text_or_not, stack_here, stack_else}
 use Rattle.core_laws.proofs.Coulds.{token_or_not}
 use Rattle.core_laws.proofs.Lists.{All-from}
-use Rattle.core_laws.proofs.Boundary.{contained_at}
+use Rattle.core_laws.proofs.Apart.{contained}
 use Rattle.core_laws.proofs.NextFits.{All-at}
 
 -- what an entry says, by its sort
@@ -76,7 +73,7 @@ module _ (o : Opening) (h g : List Entry) where
   fits_same : (stack : List ℕ) (plan : PlanData) → ((t : Token) → t.stack ≡ stack → later t ≡ now t) → Fits o h stack plan → Fits o g stack plan
   fits_same stack plan same fits = record {
     certain = λ t its. let c = fits.certain t its in record { state = c.state; alone = same t its ∙ c.alone };
-    each = All-from (HasExactly o g stack plan) plan.items (λ item among. let (i, at) = contained_at plan.items item among in exactly item (All-at (HasExactly o h stack plan) plan.items i item fits.each at));
+    each = All-from (HasExactly o g stack plan) plan.items (λ item among. let (i, at) = contained plan.items item among in exactly item (All-at (HasExactly o h stack plan) plan.items i item fits.each at));
     no_other = λ t (its, alive). fits.no_other t (its, back t its alive);
   } where
     back : (t : Token) → t.stack ≡ stack → IsAlive (later t) → IsAlive (now t)
@@ -90,8 +87,15 @@ module _ (o : Opening) (h g : List Entry) where
 
     exactly : (item : Item) → HasExactly o h stack plan item → HasExactly o g stack plan item
     exactly item e = record {
-      row = e.row; it = e.it; state = same (token_at stack item.name e.row) refl ∙ e.state;
-      kind = e.kind; ready = e.ready; stays = e.stays; known = e.known; needs_are = facts item.needs e.known e.needs_are; props = e.props;
+      row = e.row;
+      it = e.it;
+      state = same (token_at stack item.name e.row) refl ∙ e.state;
+      kind = e.kind;
+      ready = e.ready;
+      stays = e.stays;
+      known = e.known;
+      needs_are = facts item.needs e.known e.needs_are;
+      props = e.props;
       only = λ other (its, alive). e.only other (its, back (token_at stack item.name other) its alive);
     }
 

@@ -1,9 +1,7 @@
 -- Which steps tell of a call.
-use Rattle.std.proofs.Common.{◌≡◌, ◌≢◌, ℕ, ◌<◌, ◌+◌, List, [], ◌∷◌, ◌++◌, map, Option, Some, None, refl, sym, ap, ◌∙◌, subst}
-use Rattle.std.specs.Prelude.{Contains, All}
+use Rattle.std.proofs.Common.{◌≡◌, ℕ, List, [], ◌∷◌, map, Option, Some, None, refl, sym, ap, ◌∙◌, subst}
 use Rattle.heat_plan.specs.Plans.{PlanData}
 use Rattle.heat_plan.specs.declared.item.Item.{Item}
-use Rattle.heat_plan.specs.declared.token.Token.{Token}
 use Rattle.heat_plan.specs.declared.calls.Request.{Request}
 use Rattle.heat_plan.specs.declared.calls.Request.TheVariants as request
 use Rattle.heat_plan.specs.declared.calls.Answered.{Answered}
@@ -29,7 +27,7 @@ use Rattle.core_state.specs.declared.entry.RowWrite.TheVariants.{Set}
 use Rattle.core_state.specs.declared.entry.MailWrite.{MailWrite}
 use Rattle.core_state.specs.declared.entry.MailWrite.TheVariants.{Sent}
 use Rattle.core_state.specs.Commands.{Creates, created_entries, set_entry, sent_entry, complete_entry, new_rows, letters_to}
-use Rattle.core_state.specs.State.{StateData, row_at, job_at}
+use Rattle.core_state.specs.State.{StateData, row_at}
 use Rattle.core_state.specs.Steps.{CommandStep, create, QuietTurn, take, begin, finish, finish_last, AskingTurn, begun, refused, PollingTurn, waits, ready, broken, UnstoredTurn, unstored as unstored_turn, IsNote, shows, notes, ran, turned}
 use Rattle.core_state.specs.Turns.{Creating, token_of, created_with, by_engine, failed_mark_entry, complete_mark_entry}
 use Rattle.core_laws.specs.Asked.{IsNoCall, HasNoCall, CallsOnce}
@@ -87,7 +85,7 @@ complete-silent by stack trav (x ∷ xs) = none
 
 pub created-silent : (s : StateData) (name : List ℕ) (plan : PlanData) (k : Creates s name plan) → HasNoCall (created_entries s name plan k)
 created-silent s name plan k = more Main (what.Command name s.next.trav Create (Some plan)) _ tt
-  (All-both IsNoCall (set_entry Main (new_rows name s.next.trav s.next.row plan.items)) _ (set-silent Main _)
+    (All-both IsNoCall (set_entry Main (new_rows name s.next.trav s.next.row plan.items)) _ (set-silent Main _)
     (All-both IsNoCall (sent_entry Main (letters_to name s.next.trav s.next.letter k.leaves)) _ (sent-silent Main _) (complete-silent Main name s.next.trav plan.items)))
 
 -- an engine's job has one row

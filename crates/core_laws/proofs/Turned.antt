@@ -1,24 +1,19 @@
 -- The turns of an engine that leave its row's node open keep what holds of a state.
-use Rattle.std.proofs.Common.{◌≡◌, ◌≢◌, ◌⊎◌, inl, inr, ℕ, ◌<◌, ◌+◌, true, false, List, [], ◌∷◌, Option, Some, None, refl, sym, ap, ◌∙◌, subst}
-use Rattle.std.specs.Prelude.{Contains, All, slice_get}
-use Rattle.heat_value.specs.Data.{Members}
-use Rattle.heat_plan.specs.declared.facts.Facts.{Facts}
-use Rattle.heat_plan.specs.declared.item.Item.{Item}
-use Rattle.heat_plan.specs.declared.phase.Act.TheVariants.{Init, Create}
-use Rattle.heat_plan.specs.declared.phase.Status.TheVariants.{Complete, InProgress, Failed}
+use Rattle.std.proofs.Common.{◌≡◌, ◌≢◌, inl, inr, ℕ, List, Some, None, refl, sym, ap, ◌∙◌, subst}
+use Rattle.heat_plan.specs.declared.phase.Act.TheVariants.{Create}
+use Rattle.heat_plan.specs.declared.phase.Status.TheVariants.{InProgress, Failed}
 use Rattle.core_state.specs.declared.stack.Stack.{Stack}
 use Rattle.core_state.specs.declared.row.Row.{Row}
-use Rattle.core_state.specs.declared.graph.Graph.{Graph}
 use Rattle.core_state.specs.declared.mail.Letter.{Letter}
 use Rattle.core_state.specs.declared.mail.Job.{Job}
 use Rattle.core_state.specs.declared.mail.Stage.{Stage}
-use Rattle.core_state.specs.declared.mail.Stage.TheVariants.{Taken, Asking, Polling, Ending}
+use Rattle.core_state.specs.declared.mail.Stage.TheVariants.{Polling}
 use Rattle.core_state.specs.Changes.{applied}
-use Rattle.core_state.specs.State.{StateData, stack_at, graph_at, row_at, letter_at, job_at, put_row, put_job, cut_letter}
-use Rattle.core_state.specs.Turns.{locked, new_job, taken_changes, with_stage, begun_row, begun_changes, asked_changes, ready_row, ready_changes}
-use Rattle.core_laws.proofs.Rows.{same_some, same_or_not, row_put, row_here, row_else, job_put, job_here, letter_cut, letter-key}
+use Rattle.core_state.specs.State.{StateData, stack_at, row_at, letter_at, job_at, put_row, put_job, cut_letter}
+use Rattle.core_state.specs.Turns.{locked, new_job, taken_changes, with_stage, asked_changes}
+use Rattle.core_laws.proofs.Rows.{same_some, row_here, row_else, job_put, letter_cut}
 use Rattle.core_laws.proofs.Going.{OnNode, Waits, StageFits, Holds, Aims, HasFailed, Settled, Going}
-use Rattle.core_laws.proofs.Moves.{StackOn, GraphOn, Moves, stack_same, graph_same, on_again, aims_of, failed_again, moved}
+use Rattle.core_laws.proofs.Moves.{Moves, stack_same, graph_same, on_again, aims_of, failed_again, moved}
 
 -- one row is written, and letters and jobs
 abbrev pub with_row : StateData → Row → List Letter → List Job → StateData
@@ -41,7 +36,9 @@ not_that s name a r at no_fail f is =
 settled_row : (s : StateData) (g : Going s) (q r : Row) (letters : List Letter) (jobs : List Job) → row_at s.rows q.no ≡ Some r → (r.act ≡ Create → r.status ≡ Failed → ⊥)
     → (name : List ℕ) (st : Stack) → stack_at s.stacks name ≡ Some st → Settled (with_row s q letters jobs) name st
 settled_row s g q r letters jobs at no_fail name st found = let it = g.settled name st found in record {
-  graph = it.graph; its_graph = it.its_graph; complete = it.complete;
+  graph = it.graph;
+  its_graph = it.its_graph;
+  complete = it.complete;
   failed = λ is. let f = it.failed is in failed_again s (with_row s q letters jobs) q.no (moves_row s q letters jobs) name f (not_that s name q.no r at no_fail f);
 }
 
@@ -72,20 +69,23 @@ module _ (s : StateData) (g : Going s) (e : ℕ) (is_one : e ≡ 1) where
     pub take_goes : Going (applied (taken_changes e l w.on.row) s)
     take_goes = moved s taken_to q.no w.on.row g (moves_row s q _ _) w.on.found refl refl letters holds
         (settled_row s g q w.on.row _ _ w.on.found (λ act _. let i = w.init in cc)) where
-      letters : (n : ℕ) (k : Letter) → letter_at (cut_letter l.no s.letters) n ≡ Some k → (letter_at s.letters n ≡ Some k) × ((v : Waits s k) → v.on.row.no ≢ q.no)
-      letters n k at_n = let was = letter_cut l.no s.letters at_n in
-          (was.1, λ v same. was.0 (g.apart l.no n w.on.row.no l k at_l was.1 (aims_of s l w.on) (subst (λ (x : ℕ). Aims s.graphs k x) same (aims_of s k v.on))))
+          letters : (n : ℕ) (k : Letter) → letter_at (cut_letter l.no s.letters) n ≡ Some k → (letter_at s.letters n ≡ Some k) × ((v : Waits s k) → v.on.row.no ≢ q.no)
+          letters n k at_n = let was = letter_cut l.no s.letters at_n in
+              (was.1, λ v same. was.0 (g.apart l.no n w.on.row.no l k at_l was.1 (aims_of s l w.on) (subst (λ (x : ℕ). Aims s.graphs k x) same (aims_of s k v.on))))
 
-      made : (j : Job) → new_job e l w.on.row ≡ j → Holds taken_to e j
-      made j is = subst (λ (x : Job). Holds taken_to e x) is (record {
-        on = own.0; its_row = ap (λ (x : Row). x.no) (sym own.1); locked = ap (λ (x : Row). x.engine) own.1; stage = ap (λ (x : Row). x.act) own.1 ∙ w.init;
-      })
+          made : (j : Job) → new_job e l w.on.row ≡ j → Holds taken_to e j
+          made j is = subst (λ (x : Job). Holds taken_to e x) is (record {
+            on = own.0;
+            its_row = ap (λ (x : Row). x.no) (sym own.1);
+            locked = ap (λ (x : Row). x.engine) own.1;
+            stage = ap (λ (x : Row). x.act) own.1 ∙ w.init;
+          })
 
-      holds : (f : ℕ) (j : Job) → job_at (put_job (new_job e l w.on.row) s.jobs) f ≡ Some j → (f ≡ 1) × Holds taken_to f j
-      holds f j at_f = elim (job_put (new_job e l w.on.row) s.jobs at_f) [
-        | inl new ↦ (sym new.0 ∙ is_one, subst (λ (x : ℕ). Holds taken_to x j) new.0 (made j new.1))
-        | inr was ↦ absurd (was.0 (is_one ∙ sym (g.holds f j was.1).0))
-      ]
+          holds : (f : ℕ) (j : Job) → job_at (put_job (new_job e l w.on.row) s.jobs) f ≡ Some j → (f ≡ 1) × Holds taken_to f j
+          holds f j at_f = elim (job_put (new_job e l w.on.row) s.jobs at_f) [
+            | inl new ↦ (sym new.0 ∙ is_one, subst (λ (x : ℕ). Holds taken_to x j) new.0 (made j new.1))
+            | inr was ↦ absurd (was.0 (is_one ∙ sym (g.holds f j was.1).0))
+          ]
 
   -- ---- the turns of a job that goes on with its row
   module _ (j : Job) (at_e : job_at s.jobs e ≡ Some j) (h : Holds s e j) (stage : Stage) (q : Row)
@@ -104,22 +104,22 @@ module _ (s : StateData) (g : Going s) (e : ℕ) (is_one : e ≡ 1) where
     pub job_goes : Going gone_to
     job_goes = moved s gone_to q.no h.on.row g (moves_row s q _ _) at_q refl refl letters holds
         (settled_row s g q h.on.row _ _ at_q no_fail) where
-      letters : (n : ℕ) (k : Letter) → letter_at s.letters n ≡ Some k → (letter_at s.letters n ≡ Some k) × ((v : Waits s k) → v.on.row.no ≢ q.no)
-      letters n k at_n = (at_n, λ v same. others_wait s e h.on.row h.on.found h.locked k v (same ∙ no_is))
+          letters : (n : ℕ) (k : Letter) → letter_at s.letters n ≡ Some k → (letter_at s.letters n ≡ Some k) × ((v : Waits s k) → v.on.row.no ≢ q.no)
+          letters n k at_n = (at_n, λ v same. others_wait s e h.on.row h.on.found h.locked k v (same ∙ no_is))
 
-      made : Holds gone_to e (with_stage stage j)
-      made = record {
-        on = own_again.0;
-        its_row = h.its_row ∙ (sym no_is ∙ ap (λ (x : Row). x.no) (sym own_again.1));
-        locked = ap (λ (x : Row). x.engine) own_again.1 ∙ (engine_is ∙ h.locked);
-        stage = subst (λ (x : Row). StageFits stage x) (sym own_again.1) fits;
-      }
+          made : Holds gone_to e (with_stage stage j)
+          made = record {
+            on = own_again.0;
+            its_row = h.its_row ∙ (sym no_is ∙ ap (λ (x : Row). x.no) (sym own_again.1));
+            locked = ap (λ (x : Row). x.engine) own_again.1 ∙ (engine_is ∙ h.locked);
+            stage = subst (λ (x : Row). StageFits stage x) (sym own_again.1) fits;
+          }
 
-      holds : (f : ℕ) (k : Job) → job_at (put_job (with_stage stage j) s.jobs) f ≡ Some k → (f ≡ 1) × Holds gone_to f k
-      holds f k at_f = elim (job_put (with_stage stage j) s.jobs at_f) [
-        | inl new ↦ (sym new.0 ∙ (key ∙ is_one), subst (λ (x : ℕ). Holds gone_to x k) (sym key ∙ new.0) (subst (λ (x : Job). Holds gone_to e x) new.1 made))
-        | inr was ↦ absurd (was.0 (key ∙ only_its s g e f j k at_e was.1))
-      ]
+          holds : (f : ℕ) (k : Job) → job_at (put_job (with_stage stage j) s.jobs) f ≡ Some k → (f ≡ 1) × Holds gone_to f k
+          holds f k at_f = elim (job_put (with_stage stage j) s.jobs at_f) [
+            | inl new ↦ (sym new.0 ∙ (key ∙ is_one), subst (λ (x : ℕ). Holds gone_to x k) (sym key ∙ new.0) (subst (λ (x : Job). Holds gone_to e x) new.1 made))
+            | inr was ↦ absurd (was.0 (key ∙ only_its s g e f j k at_e was.1))
+          ]
 
   -- ---- a begun create
   module _ (j : Job) (at_e : job_at s.jobs e ≡ Some j) (h : Holds s e j) (act : h.on.row.act ≡ Create) (status : h.on.row.status ≡ InProgress) (key : j.engine ≡ e) where
@@ -159,6 +159,8 @@ module _ (s : StateData) (g : Going s) (e : ℕ) (is_one : e ≡ 1) where
 
       settled : (name : List ℕ) (st : Stack) → stack_at s.stacks name ≡ Some st → Settled asked_to name st
       settled name st at = let it = g.settled name st at in record {
-        graph = it.graph; its_graph = it.its_graph; complete = it.complete;
+        graph = it.graph;
+        its_graph = it.its_graph;
+        complete = it.complete;
         failed = λ is. let f = it.failed is in failed_again s asked_to h.on.row.no moves_none name f (not_that s name h.on.row.no h.on.row h.on.found (λ _ i. cc) f);
       }

@@ -1,5 +1,5 @@
 -- The states in which a token may be, by the history alone.
-use Rattle.std.specs.Prelude.{◌≡◌, List, [], ◌∷◌, All, IsSome, if◌then◌else◌}
+use Rattle.std.specs.Prelude.{List, [], ◌∷◌, All, IsSome, if◌then◌else◌}
 use Rattle.heat_plan.specs.declared.token.Token.{Token}
 use Rattle.core_state.specs.declared.entry.Entry.{Entry}
 use Rattle.core_state.specs.declared.entry.What.{What}

@@ -1,5 +1,5 @@
 -- The laws of runs.
-use Rattle.std.specs.Prelude.{◌≡◌, ℕ, List, [], ◌∷◌, ◌++◌, Contains}
+use Rattle.std.specs.Prelude.{◌≡◌, ℕ, Bool, List, [], ◌∷◌, ◌++◌, Contains}
 use Rattle.heat_plan.specs.declared.token.Token.{Token}
 use Rattle.heat_plan.specs.declared.calls.Request.{Request}
 use Rattle.heat_plan.specs.declared.calls.Request.TheVariants as request
@@ -16,12 +16,13 @@ use Rattle.core_state.specs.Turns.{Creating, token_of, created_with}
 use Rattle.provider.specs.Table.{TokenState}
 use Rattle.provider.specs.Cloud.{Cloud, state_of}
 use Rattle.provider.specs.Moves.{Answers, Rests}
-use Rattle.core_laws.specs.Opening.{opened}
+use Rattle.core_laws.specs.Opening.{opened, empty_opening}
 use Rattle.core_laws.specs.Runs.{Run}
 use Rattle.core_laws.specs.Next.{NextFits}
 use Rattle.core_laws.specs.Could.{could, AllAlive}
 use Rattle.core_laws.specs.Shown.{Agrees}
 use Rattle.core_laws.specs.Asked.{HasNoCall, CallsOnce}
+use Rattle.core_laws.specs.Headline.{Headline}
 
 -- the engine 1 is the only one, and lives
 abbrev pub OneLives : Type 0
@@ -63,3 +64,7 @@ pub record StepsTell (s : StateData) (cs : List Change) (es : List Entry) : Type
   pub unstored : (e : ℕ) (given : Answered) → UnstoredTurn s e given cs es
       → (k : Creating s e Polling) → CallsOnce e k.row request.Poll given es
   pub note : (by : Actor) (it : What) → IsNote it → HasNoCall (record { by = by; what = it } ∷ [])
+
+-- every run from an empty opening has the headline
+abbrev pub RunsHaveHeadline : Type 0
+RunsHaveHeadline = (leaving : Token → Bool) (s : StateData) (h : List Entry) → Run opened s h → Headline (empty_opening leaving) h s

@@ -1,5 +1,5 @@
 -- Something in a stack's graph is still on its way.
-use Rattle.std.specs.Prelude.{◌≡◌, ℕ, List, Some, slice_get}
+use Rattle.std.specs.Prelude.{◌≡◌, ℕ, Some, slice_get}
 use Rattle.traversal_graph.specs.declared.shape.Node.{Node}
 use Rattle.core_state.specs.declared.stack.Stack.{Stack}
 use Rattle.core_state.specs.declared.graph.Graph.{Graph}

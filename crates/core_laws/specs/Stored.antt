@@ -1,5 +1,5 @@
 -- The rows that are stored, by the row writes alone.
-use Rattle.std.specs.Prelude.{ℕ, List, nat_eq, fold}
+use Rattle.std.specs.Prelude.{List, nat_eq, fold}
 use Rattle.core_state.specs.declared.row.Row.{Row}
 use Rattle.core_state.specs.declared.entry.RowWrite.{RowWrite}
 use Rattle.core_state.specs.declared.entry.RowWrite.TheVariants.{Set, Purge}

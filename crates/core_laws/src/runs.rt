@@ -1,5 +1,5 @@
 //! What holds after every step of a run.
-ghost use Rattle.core_laws.specs.Laws.{OneLives, NextIsThere, PolledIsAlive};
+ghost use Rattle.core_laws.specs.Laws.{OneLives, NextIsThere, PolledIsAlive, RunsHaveHeadline};
 
 /// The engine 1 is live in every run, and no other.
 pub fn one_lives()
@@ -14,4 +14,10 @@ pub fn next_is_there()
 /// A resource that is polled is alive in each state in which it may be.
 pub fn polled_is_alive()
     ensures { PolledIsAlive }
+{}
+
+/// Every run from an empty opening has the headline: marked Complete is only what fits, every alive
+/// resource is named, each mark with a cause is caused, and a stack without a mark still stirs.
+pub fn runs_have_headline()
+    ensures { RunsHaveHeadline }
 {}
