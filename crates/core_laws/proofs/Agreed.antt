@@ -35,7 +35,7 @@ pub record StateFits (r : Row) (states : List TokenState) : Type 0 where
   pub plain : r.target ≡ None
   pub acts : (r.act ≡ Init) ⊎ (r.act ≡ Create)
   pub still : r.act ≡ Init → states ≡ None ∷ []
-  pub ready : r.act ≡ Create → r.status ≡ Complete → (facts : Facts) × (states ≡ Some (living r (Some facts)) ∷ [])
+  pub ready : r.act ≡ Create → r.status ≡ Complete → (facts : Facts) × (r.facts ≡ Some facts) × (states ≡ Some (living r (Some facts)) ∷ [])
 
 -- the states of a job's row's token, by the job's stage
 abbrev pub AskFits : Stage → Row → List TokenState → Type 0

@@ -43,7 +43,7 @@ never_alive states is alive = one (subst (λ (x : List TokenState). Contains x (
   one : Contains (None ∷ []) (Some alive.it) → ⊥
   one c = at c.0 c.1 c.2
 
-map_at : (items : List Item) (i : ℕ) (item : Item) → slice_get items i ≡ Some item → slice_get (names_of items) i ≡ Some item.name
+pub map_at : (items : List Item) (i : ℕ) (item : Item) → slice_get items i ≡ Some item → slice_get (names_of items) i ≡ Some item.name
 map_at [] i item h = cc
 map_at (x ∷ xs) zero item h = let is : x ≡ item = cc in ap (λ (y : Item). Some y.name) is
 map_at (x ∷ xs) (suc i) item h = map_at xs i item h
@@ -96,7 +96,7 @@ module _ (o : Opening) (h : List Entry) (s : StateData) (g : Going s) (a : Agree
         let done = k.ends (All-at (λ (q : Point). q.done ≡ true) p.graph.points place k.point all_done k.its_point) in
         let begun = k.begun done.0 in
         let ready = (a.states (p.first + place) k.row k.found).ready done.0 done.1 in
-        (k.row, k.found, token_is k.row name item.name (p.first + place) k.stack k.named (row-key s.rows (p.first + place) k.row k.found), begun.0, begun.1, ready.0, ready.1) where
+        (k.row, k.found, token_is k.row name item.name (p.first + place) k.stack k.named (row-key s.rows (p.first + place) k.row k.found), begun.0, begun.1, ready.0, ready.2) where
           token_is : (r : Row) (x y : List ℕ) (n : ℕ) → r.stack ≡ x → r.name ≡ y → r.no ≡ n → token_of r ≡ token_at x y n
           token_is r x y n e f u = rw (← e, ← f, ← u) refl
 

@@ -322,7 +322,7 @@ module _ (o : Opening) (h : List Entry) (s : StateData) (g : Going s) (a : Agree
         newest_is = λ name. newest-append o h (ready_entries e k.job k.row f) name ∙ a.newest_is name;
         marks_are = λ name. mark-append o h (ready_entries e k.job k.row f) name ∙ a.marks_are name;
         could_else = could_else o h s g a e Polling k request.Poll (answer.Ready f) rest silent_rest;
-        state = λ old. record { plain = refl; acts = inr k.act_is; still = λ init. let is = k.act_is in cc; ready = λ act status. (f, told) };
+        state = λ old. record { plain = refl; acts = inr k.act_is; still = λ init. let is = k.act_is in cc; ready = λ act status. (f, refl, told) };
         asked = asked_put o h s g a e (with_stage Ending k.job) [] ready_to k.row new (λ x. could (first_of o) (h ++ ready_entries e k.job k.row f) (token_of x))
             (is_one o h s g a e Polling k) (job-key s.jobs e k.job k.works.its) refl k.its_row (row_here new s.rows) tt;
       })

@@ -26,3 +26,6 @@ pub mod CallTold
 pub mod CreateTold
 pub mod Stirs
 pub mod RunTold
+pub mod Further
+pub mod Staying
+pub mod Sounds

@@ -40,13 +40,13 @@ use Rattle.core_laws.proofs.Created.{made_graph, made_stack, created_to, created
 use Rattle.core_laws.proofs.Kept.{run_goes}
 
 -- a letter waits for the node, or an engine has it
-data IsHeld (s : StateData) (st : Stack) (node : ℕ) : Type 0 where
+pub data IsHeld (s : StateData) (st : Stack) (node : ℕ) : Type 0 where
   letter : (n : ℕ) (l : Letter) → letter_at s.letters n ≡ Some l → IsTo st node l → IsHeld s st node
   job : (e : ℕ) (j : Job) → job_at s.jobs e ≡ Some j → IsTo st node j.letter → IsHeld s st node
 
 -- a stack without a mark has a node that isn't done, and each such is held
-record Covers (s : StateData) : Type 0 where
-  held : (name : List ℕ) (st : Stack) (g : Graph) (i : ℕ) (p : Point) → stack_at s.stacks name ≡ Some st → st.status ≡ InProgress → graph_at s.graphs name ≡ Some g
+pub record Covers (s : StateData) : Type 0 where
+  pub held : (name : List ℕ) (st : Stack) (g : Graph) (i : ℕ) (p : Point) → stack_at s.stacks name ≡ Some st → st.status ≡ InProgress → graph_at s.graphs name ≡ Some g
       → slice_get g.points i ≡ Some p → p.done ≡ false → IsHeld s st i
   some : (name : List ℕ) (st : Stack) (g : Graph) → stack_at s.stacks name ≡ Some st → st.status ≡ InProgress → graph_at s.graphs name ≡ Some g
       → (i : ℕ) × (p : Point) × (slice_get g.points i ≡ Some p) × (p.done ≡ false)
@@ -292,7 +292,7 @@ opened_covers : Covers opened
 unfolding Rattle.core_state.specs.Tables.at
 opened_covers = record { held = λ name st g i p at on at_g there open_. cc; some = λ name st g at on at_g. cc }
 
-run_covers : (s : StateData) (h : List Entry) → Run opened s h → Covers s
+pub run_covers : (s : StateData) (h : List Entry) → Run opened s h → Covers s
 run_covers s h (begins last all is none) = subst (λ (x : StateData). Covers x) (sym is) opened_covers
 run_covers s h (goes_on mid last cs before after all run step free is made) = subst (λ (x : StateData). Covers x) (sym is) (steps mid (run_goes mid before run) (run_covers mid before run) cs after step free)
 

@@ -23,6 +23,7 @@ use Rattle.core_laws.specs.Could.{could, AllAlive}
 use Rattle.core_laws.specs.Shown.{Agrees}
 use Rattle.core_laws.specs.Asked.{HasNoCall, CallsOnce}
 use Rattle.core_laws.specs.Headline.{Headline}
+use Rattle.core_laws.specs.Sound.{Sound}
 
 -- the engine 1 is the only one, and lives
 abbrev pub OneLives : Type 0
@@ -68,3 +69,7 @@ pub record StepsTell (s : StateData) (cs : List Change) (es : List Entry) : Type
 -- every run from an empty opening has the headline
 abbrev pub RunsHaveHeadline : Type 0
 RunsHaveHeadline = (leaving : Token → Bool) (s : StateData) (h : List Entry) → Run opened s h → Headline (empty_opening leaving) h s
+
+-- every run from an empty opening is sound
+abbrev pub RunsAreSound : Type 0
+RunsAreSound = (leaving : Token → Bool) (s : StateData) (h : List Entry) → Run opened s h → Sound (empty_opening leaving) h s

@@ -12,4 +12,12 @@ pub mod Fits
 pub mod Caused
 pub mod Stir
 pub mod Headline
+pub mod Numbered
+pub mod Linked
+pub mod GraphFits
+pub mod RowsFit
+pub mod MailFits
+pub mod MarkFits
+pub mod RowsAgree
+pub mod Sound
 pub mod Laws

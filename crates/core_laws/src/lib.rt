@@ -5,5 +5,5 @@
 mod runs;
 mod shown;
 
-pub use runs::{next_is_there, one_lives, polled_is_alive, runs_have_headline};
+pub use runs::{next_is_there, one_lives, polled_is_alive, runs_are_sound, runs_have_headline};
 pub use shown::{calls_agree, steps_tell};

@@ -1,5 +1,5 @@
 //! What holds after every step of a run.
-ghost use Rattle.core_laws.specs.Laws.{OneLives, NextIsThere, PolledIsAlive, RunsHaveHeadline};
+ghost use Rattle.core_laws.specs.Laws.{OneLives, NextIsThere, PolledIsAlive, RunsAreSound, RunsHaveHeadline};
 
 /// The engine 1 is live in every run, and no other.
 pub fn one_lives()
@@ -20,4 +20,10 @@ pub fn polled_is_alive()
 /// resource is named, each mark with a cause is caused, and a stack without a mark still stirs.
 pub fn runs_have_headline()
     ensures { RunsHaveHeadline }
+{}
+
+/// Every run from an empty opening is sound: its numbers, rows, locks, graphs, letters, jobs and marks
+/// fit, and so does what may be alive.
+pub fn runs_are_sound()
+    ensures { RunsAreSound }
 {}
