@@ -1,6 +1,6 @@
 -- What else holds of a state after every step of a run: traversals, graphs without inputs, and rows that replace none.
-use Rattle.std.proofs.Common.{◌≡◌, ◌≢◌, ◌⊎◌, inl, inr, ℕ, ◌<◌, ◌+◌, zero, suc, Bool, true, false, List, [], ◌∷◌, ◌++◌, length, Option, Some, None, refl, sym, ap, ◌∙◌, subst, arith}
-use Rattle.std.specs.Prelude.{Contains, IsSome, slice_get, slice_set}
+use Rattle.std.proofs.Common.{◌≡◌, ◌≢◌, ◌⊎◌, inl, inr, ℕ, ◌<◌, ◌+◌, zero, suc, false, List, [], ◌∷◌, Option, Some, None, refl, sym, ap, ◌∙◌, subst, arith}
+use Rattle.std.specs.Prelude.{IsSome, slice_get, slice_set}
 use Rattle.heat_value.specs.Data.{Members}
 use Rattle.heat_plan.specs.Plans.{PlanData}
 use Rattle.heat_plan.specs.declared.item.Item.{Item}
@@ -8,38 +8,34 @@ use Rattle.heat_plan.specs.declared.phase.Act.{Act}
 use Rattle.heat_plan.specs.declared.phase.Act.TheVariants.{Init, Create}
 use Rattle.heat_plan.specs.declared.phase.Status.{Status}
 use Rattle.heat_plan.specs.declared.phase.Status.TheVariants.{Complete, InProgress, Failed}
-use Rattle.heat_plan.specs.declared.calls.Answered.{Answered}
 use Rattle.traversal_graph.specs.declared.shape.Node.{Node}
 use Rattle.core_state.specs.declared.stack.Stack.{Stack}
 use Rattle.core_state.specs.declared.row.Row.{Row}
 use Rattle.core_state.specs.declared.graph.Graph.{Graph}
 use Rattle.core_state.specs.declared.graph.Point.{Point}
-use Rattle.core_state.specs.declared.mail.Letter.{Letter}
 use Rattle.core_state.specs.declared.mail.Job.{Job}
 use Rattle.core_state.specs.declared.mail.Stage.{Stage}
-use Rattle.core_state.specs.declared.mail.Stage.TheVariants.{Taken, Asking, Polling, Ending}
+use Rattle.core_state.specs.declared.mail.Stage.TheVariants.{Asking, Polling, Ending}
 use Rattle.core_state.specs.declared.change.Change.{Change}
-use Rattle.core_state.specs.declared.change.Change.TheVariants.{PutStack}
 use Rattle.core_state.specs.declared.entry.Entry.{Entry}
 use Rattle.core_state.specs.declared.numbers.Numbers.{Numbers}
 use Rattle.core_state.specs.Changes.{applied, with_point, put_point}
 use Rattle.core_state.specs.Commands.{Creates, created_changes, new_row, row_numbers}
 use Rattle.core_state.specs.Graphs.{fresh_points}
-use Rattle.core_state.specs.State.{StateData, stack_at, graph_at, row_at, letter_at, job_at, put_job, put_stack, put_row, cut_job, cut_letter}
-use Rattle.core_state.specs.Steps.{CommandStep, create, QuietTurn, take, begin, finish, finish_last, AskingTurn, begun, refused, PollingTurn, waits, ready, broken, UnstoredTurn, unstored as unstored_turn, Step, command, quiet, asking, polling, unstored, note}
-use Rattle.core_state.specs.Turns.{Takes, locked, new_job, with_stage, Begins, begun_row, Creating, ready_row, failed_row, failed_changes, Finishes, unlocked, done_point, completed, AllDone}
-use Rattle.core_laws.specs.Opening.{opened}
-use Rattle.core_laws.specs.Runs.{HasNoNeeds, Run, begins, goes_on, IsFree}
+use Rattle.core_state.specs.State.{StateData, stack_at, graph_at, row_at, job_at, put_job, put_stack, put_row, cut_job, cut_letter}
+use Rattle.core_state.specs.Steps.{create, QuietTurn, take, begin, finish, finish_last, begun, refused, waits, ready, broken, unstored as unstored_turn, Step, command, quiet, asking, polling, unstored, note}
+use Rattle.core_state.specs.Turns.{Takes, locked, new_job, with_stage, Begins, begun_row, Creating, ready_row, failed_row, failed_changes, Finishes, unlocked, done_point, completed}
+use Rattle.core_laws.specs.Runs.{HasNoNeeds, IsFree}
 use Rattle.core_laws.proofs.Tables.{set_found, set_here, set_else}
-use Rattle.core_laws.proofs.Rows.{same_some, same_or_not, text_or_not, row-key, row_here, row_else, job-key, job_put, job_cut, job_here, stack-key, graph-key, stack_put, stack_here, stack_else, graph_put}
+use Rattle.core_laws.proofs.Rows.{same_some, same_or_not, text_or_not, row_here, row_else, job-key, job_put, job_cut, job_here, stack-key, graph-key, stack_put, stack_here, stack_else, graph_put}
 use Rattle.core_laws.proofs.Points.{point_here, point_else}
-use Rattle.core_laws.proofs.Going.{Waits, StageFits, Holds, Going}
+use Rattle.core_laws.proofs.Going.{StageFits, Going}
 use Rattle.core_laws.proofs.NextFits.{only_one, never_complete}
-use Rattle.core_laws.proofs.Moves.{StackOn, stack_same, stack_marked}
-use Rattle.core_laws.proofs.Drawn.{rows-old, IsMade, rows-found, points-new}
+use Rattle.core_laws.proofs.Moves.{stack_marked}
+use Rattle.core_laws.proofs.Drawn.{IsMade, rows-found, points-new}
 use Rattle.core_laws.proofs.Apart.{edges_none}
 use Rattle.core_laws.proofs.Created.{made_graph, made_stack, created_to, created_is}
-use Rattle.core_laws.proofs.Kept.{one_row, run_goes}
+use Rattle.core_laws.proofs.Kept.{one_row}
 
 pub record RowPlain (r : Row) : Type 0 where
   pub requires_ : r.requires_ ≡ []
@@ -94,10 +90,13 @@ marked_was : (old new : Stack) (stacks : List Stack) → stack_at stacks new.nam
     → (name : List ℕ) (st : Stack) → stack_at (put_stack new stacks) name ≡ Some st → StackWas stacks name st
 marked_was old new stacks was no_is trav act open_ name st at = elim (stack_put new stacks at) [
   | inl is ↦ record {
-      old = old; was = subst (λ (x : List ℕ). stack_at stacks x ≡ Some old) is.0 was;
-      no = ap (λ (x : Stack). x.no) (sym is.1) ∙ no_is; trav = ap (λ (x : Stack). x.trav) (sym is.1) ∙ trav; act = ap (λ (x : Stack). x.act) (sym is.1) ∙ act;
-      failed = λ failed. (let other = open_ in cc);
-    }
+    old = old;
+    was = subst (λ (x : List ℕ). stack_at stacks x ≡ Some old) is.0 was;
+    no = ap (λ (x : Stack). x.no) (sym is.1) ∙ no_is;
+    trav = ap (λ (x : Stack). x.trav) (sym is.1) ∙ trav;
+    act = ap (λ (x : Stack). x.act) (sym is.1) ∙ act;
+    failed = λ failed. (let other = open_ in cc);
+  }
   | inr other ↦ stack_was stacks name st other.1
 ]
 
@@ -121,7 +120,9 @@ module _ (s t : StateData) (f : Further s) (r q : Row) (was : row_at s.rows r.no
   further_row = record {
     engine = ap (λ (x : Numbers). x.engine) next ∙ f.engine;
     stacks = λ name st at. let w = were name st at in let o = f.stacks name w.old w.was in record {
-      no = rw (next, w.no) o.no; trav = rw (next, w.trav) o.trav; act = w.act ∙ o.act;
+      no = rw (next, w.no) o.no;
+      trav = rw (next, w.trav) o.trav;
+      act = w.act ∙ o.act;
     };
     plain = λ n x at. elim (row_was n x at) [
       | inl own_ ↦ subst (λ (y : Row). RowPlain y) (sym own_.1) (plain (f.plain r.no r was))
@@ -166,13 +167,13 @@ module _ (s : StateData) (g : Going s) (f : Further s) (e : ℕ) where
   -- ---- take
   taken : (k : Takes s e) → Further (record s { rows = put_row (locked e k.row) s.rows; letters = cut_letter k.letter.no s.letters; jobs = put_job (new_job e k.letter k.row) s.jobs })
   taken k = further_row s (record s { rows = put_row (locked e k.row) s.rows; letters = cut_letter k.letter.no s.letters; jobs = put_job (new_job e k.letter k.row) s.jobs }) f k.row (locked e k.row) k.found (row_here (locked e k.row) s.rows)
-    (λ n ne. row_else (locked e k.row) s.rows n (λ i. ne (sym i))) refl refl
-    (λ p. record { requires_ = p.requires_; replaces = p.replaces; replaced_by = p.replaced_by; target = p.target; init = p.init; facts = p.facts; acts = p.acts; under_way = λ act status. refl })
-    (stack_was s.stacks)
-    (λ st at old. let o = old st at in record { trav = o.trav; failed = o.failed })
-    (λ n x y ne at held. no_engine k.next.jobless (only_one s.live e g.live k.next.live) n x y at held)
-    (λ x held. let same : e ≡ x = cc in (new_job e k.letter k.row, subst (λ (z : ℕ). job_at (put_job (new_job e k.letter k.row) s.jobs) z ≡ Some (new_job e k.letter k.row)) same (job_here (new_job e k.letter k.row) s.jobs), refl))
-    f.graphs f.in_table (put_letters (new_job e k.letter k.row) (g.letters k.letter.no k.letter k.next.first.waits))
+      (λ n ne. row_else (locked e k.row) s.rows n (λ i. ne (sym i))) refl refl
+      (λ p. record { requires_ = p.requires_; replaces = p.replaces; replaced_by = p.replaced_by; target = p.target; init = p.init; facts = p.facts; acts = p.acts; under_way = λ act status. refl })
+      (stack_was s.stacks)
+      (λ st at old. let o = old st at in record { trav = o.trav; failed = o.failed })
+      (λ n x y ne at held. no_engine k.next.jobless (only_one s.live e g.live k.next.live) n x y at held)
+      (λ x held. let same : e ≡ x = cc in (new_job e k.letter k.row, subst (λ (z : ℕ). job_at (put_job (new_job e k.letter k.row) s.jobs) z ≡ Some (new_job e k.letter k.row)) same (job_here (new_job e k.letter k.row) s.jobs), refl))
+      f.graphs f.in_table (put_letters (new_job e k.letter k.row) (g.letters k.letter.no k.letter k.next.first.waits))
 
   -- ---- a job goes on
   module _ (j : Job) (at_e : job_at s.jobs e ≡ Some j) (r : Row) (found : row_at s.rows r.no ≡ Some r) (on : j.row ≡ r.no) where
@@ -182,19 +183,22 @@ module _ (s : StateData) (g : Going s) (f : Further s) (e : ℕ) where
         (g.holds x k at_k).0 ∙ sym (g.holds e j at_e).0
 
     next_job : (stage : Stage) (x : ℕ) → r.engine ≡ Some x → (k : Job) × (job_at (put_job (with_stage stage j) s.jobs) x ≡ Some k) × (k.row ≡ r.no)
-    next_job stage x held = (with_stage stage j,
-      subst (λ (z : ℕ). job_at (put_job (with_stage stage j) s.jobs) z ≡ Some (with_stage stage j)) (job-key s.jobs e j at_e ∙ sym (held_by x held)) (job_here (with_stage stage j) s.jobs), on)
+    next_job stage x held = (
+      with_stage stage j,
+      subst (λ (z : ℕ). job_at (put_job (with_stage stage j) s.jobs) z ≡ Some (with_stage stage j)) (job-key s.jobs e j at_e ∙ sym (held_by x held)) (job_here (with_stage stage j) s.jobs),
+      on,
+    )
 
     goes_on_row : (stage : Stage) (q : Row) → q.no ≡ r.no → q.stack ≡ r.stack → q.engine ≡ r.engine → (RowPlain r → RowPlain q)
         → ((st : Stack) → stack_at s.stacks r.stack ≡ Some st → RowOf r st → RowOf q st)
         → Further (record s { rows = put_row q s.rows; jobs = put_job (with_stage stage j) s.jobs })
     goes_on_row stage q number stack engine plain own = further_row s (record s { rows = put_row q s.rows; jobs = put_job (with_stage stage j) s.jobs }) f r q found
-      (subst (λ (n : ℕ). row_at (put_row q s.rows) n ≡ Some q) number (row_here q s.rows)) (λ n ne. row_else q s.rows n (λ i. ne (sym i ∙ number))) refl stack plain
-      (stack_was s.stacks) (λ st at old. own st at (old st at)) (only_row j r at_e on) (λ x held. next_job stage x (sym engine ∙ held)) f.graphs f.in_table (put_letters (with_stage stage j) (f.letters e j at_e))
+        (subst (λ (n : ℕ). row_at (put_row q s.rows) n ≡ Some q) number (row_here q s.rows)) (λ n ne. row_else q s.rows n (λ i. ne (sym i ∙ number))) refl stack plain
+        (stack_was s.stacks) (λ st at old. own st at (old st at)) (only_row j r at_e on) (λ x held. next_job stage x (sym engine ∙ held)) f.graphs f.in_table (put_letters (with_stage stage j) (f.letters e j at_e))
 
     stage_only : (stage : Stage) → Further (record s { jobs = put_job (with_stage stage j) s.jobs })
     stage_only stage = further_row s (record s { jobs = put_job (with_stage stage j) s.jobs }) f r r found found (λ n ne. refl) refl refl (λ p. p)
-      (stack_was s.stacks) (λ st at old. old st at) (only_row j r at_e on) (next_job stage) f.graphs f.in_table (put_letters (with_stage stage j) (f.letters e j at_e))
+        (stack_was s.stacks) (λ st at old. old st at) (only_row j r at_e on) (next_job stage) f.graphs f.in_table (put_letters (with_stage stage j) (f.letters e j at_e))
 
     -- ---- a job ends
     ends_row : (q : Row) (stacks : List Stack) (graphs : List Graph) → q.no ≡ r.no → q.stack ≡ r.stack → q.engine ≡ None → (RowPlain r → RowPlain q)
@@ -204,8 +208,8 @@ module _ (s : StateData) (g : Going s) (f : Further s) (e : ℕ) where
         → ((name : List ℕ) (gr : Graph) → graph_at graphs name ≡ Some gr → (st : Stack) × (stack_at stacks name ≡ Some st))
         → Further (record s { stacks = stacks; graphs = graphs; rows = put_row q s.rows; jobs = cut_job e s.jobs })
     ends_row q stacks graphs number stack none plain were own gs in_table = further_row s (record s { stacks = stacks; graphs = graphs; rows = put_row q s.rows; jobs = cut_job e s.jobs }) f r q found
-      (subst (λ (n : ℕ). row_at (put_row q s.rows) n ≡ Some q) number (row_here q s.rows)) (λ n ne. row_else q s.rows n (λ i. ne (sym i ∙ number))) refl stack plain
-      were own (only_row j r at_e on) (λ x held. (let both : None ≡ Some x = sym none ∙ held in cc)) gs in_table cut_letters
+        (subst (λ (n : ℕ). row_at (put_row q s.rows) n ≡ Some q) number (row_here q s.rows)) (λ n ne. row_else q s.rows n (λ i. ne (sym i ∙ number))) refl stack plain
+        were own (only_row j r at_e on) (λ x held. (let both : None ≡ Some x = sym none ∙ held in cc)) gs in_table cut_letters
 
   -- ---- begin
   owner : (j : Job) (at_e : job_at s.jobs e ≡ Some j) (r : Row) → ((g.holds e j at_e).1).on.row ≡ r → r.stack ≡ j.letter.stack
@@ -216,9 +220,17 @@ module _ (s : StateData) (g : Going s) (f : Further s) (e : ℕ) where
       let row = one_row s k.job.letter ((g.holds e k.job k.works.its).1).on k.stack k.graph k.row k.names k.found in
       let in_stack : stack_at s.stacks k.row.stack ≡ Some k.stack = subst (λ (x : List ℕ). stack_at s.stacks x ≡ Some k.stack) (sym (owner k.job k.works.its k.row row)) k.names.in_table in
       goes_on_row k.job k.works.its k.row k.found k.its_row Asking (begun_row k.row k.item k.stack.trav props) refl refl refl
-        (λ p. record { requires_ = refl; replaces = p.replaces; replaced_by = p.replaced_by; target = p.target; init = λ init. cc; facts = λ act status. cc; acts = inr refl;
-          under_way = λ act status. subst (λ (x : Option ℕ). IsSome x) (sym ((g.holds e k.job k.works.its).1).locked ∙ ap (λ (r : Row). r.engine) row) refl })
-        (λ st at old. record { trav = ap (λ (x : Stack). x.trav) (same_some k.stack st in_stack at); failed = λ failed. cc })
+      (λ p. record {
+        requires_ = refl;
+        replaces = p.replaces;
+        replaced_by = p.replaced_by;
+        target = p.target;
+        init = λ init. cc;
+        facts = λ act status. cc;
+        acts = inr refl;
+        under_way = λ act status. subst (λ (x : Option ℕ). IsSome x) (sym ((g.holds e k.job k.works.its).1).locked ∙ ap (λ (r : Row). r.engine) row) refl;
+      })
+      (λ st at old. record { trav = ap (λ (x : Stack). x.trav) (same_some k.stack st in_stack at); failed = λ failed. cc })
 
   module _ (stage : Stage) (k : Creating s e stage) where
     row : ((g.holds e k.job k.works.its).1).on.row ≡ k.row
@@ -232,17 +244,17 @@ module _ (s : StateData) (g : Going s) (f : Further s) (e : ℕ) where
 
     ready_to : (facts : _) → Further (record s { rows = put_row (ready_row k.row facts) s.rows; jobs = put_job (with_stage Ending k.job) s.jobs })
     ready_to facts = goes_on_row k.job k.works.its k.row k.found k.its_row Ending (ready_row k.row facts) refl refl refl
-      (λ p. record { requires_ = p.requires_; replaces = p.replaces; replaced_by = p.replaced_by; target = refl; init = λ init. refl; facts = λ act status. refl; acts = p.acts; under_way = λ act status. cc })
-      (λ st at old. record { trav = old.trav; failed = λ failed. cc })
+        (λ p. record { requires_ = p.requires_; replaces = p.replaces; replaced_by = p.replaced_by; target = refl; init = λ init. refl; facts = λ act status. refl; acts = p.acts; under_way = λ act status. cc })
+        (λ st at old. record { trav = old.trav; failed = λ failed. cc })
 
     failed_with : (stacks : List Stack) → ((name : List ℕ) (st : Stack) → stack_at stacks name ≡ Some st → StackWas s.stacks name st)
         → ((st : Stack) → stack_at stacks k.row.stack ≡ Some st → st.status ≡ Failed)
         → ((name : List ℕ) (st : Stack) → stack_at s.stacks name ≡ Some st → (new : Stack) × (stack_at stacks name ≡ Some new))
         → Further (record s { stacks = stacks; rows = put_row (failed_row k.row) s.rows; jobs = cut_job e s.jobs })
     failed_with stacks were marked kept = ends_row k.job k.works.its k.row k.found k.its_row (failed_row k.row) stacks s.graphs refl refl refl
-      (λ p. record { requires_ = p.requires_; replaces = p.replaces; replaced_by = p.replaced_by; target = p.target; init = λ init. (let act = k.act_is in cc); facts = λ act status. cc; acts = p.acts; under_way = λ act status. cc })
-      were (λ st at old. let w = were k.row.stack st at in record { trav = (old w.old w.was).trav ∙ sym w.trav; failed = λ _. marked st at }) f.graphs
-      (λ name gr at. let (st, found) = f.in_table name gr at in kept name st found)
+        (λ p. record { requires_ = p.requires_; replaces = p.replaces; replaced_by = p.replaced_by; target = p.target; init = λ init. (let act = k.act_is in cc); facts = λ act status. cc; acts = p.acts; under_way = λ act status. cc })
+        were (λ st at old. let w = were k.row.stack st at in record { trav = (old w.old w.was).trav ∙ sym w.trav; failed = λ _. marked st at }) f.graphs
+        (λ name gr at. let (st, found) = f.in_table name gr at in kept name st found)
 
     abbrev stack_of : List ℕ → ℕ → ℕ → Act → Status → Option PlanData → Stack
     stack_of name number trav act status plan = record { name = name; no = number; trav = trav; act = act; status = status; plan = plan }
@@ -256,12 +268,12 @@ module _ (s : StateData) (g : Going s) (f : Further s) (e : ℕ) where
         let there : stack_at s.stacks name ≡ Some (stack_of name number trav act InProgress plan) = subst (λ (x : List ℕ). stack_at s.stacks x ≡ Some (stack_of name number trav act InProgress plan)) (sym its) at in
         let new : Stack = stack_of name number trav act Failed plan in
         failed_with (put_stack new s.stacks) (marked_was (stack_of name number trav act InProgress plan) new s.stacks there refl refl refl refl)
-          (λ st found. ap (λ (x : Stack). x.status) (same_some st new found (subst (λ (x : List ℕ). stack_at (put_stack new s.stacks) x ≡ Some new) its (stack_here new s.stacks))))
-          (λ x st found. let o = stack_marked (stack_of name number trav act InProgress plan) new s.stacks there refl refl x st found in (o.stack, o.found))
+        (λ st found. ap (λ (x : Stack). x.status) (same_some st new found (subst (λ (x : List ℕ). stack_at (put_stack new s.stacks) x ≡ Some new) its (stack_here new s.stacks))))
+        (λ x st found. let o = stack_marked (stack_of name number trav act InProgress plan) new s.stacks there refl refl x st found in (o.stack, o.found))
 
     failed_to : Further (applied (failed_changes e k.stack k.row) s)
     failed_to = by_fields k.stack.name k.stack.no k.stack.trav k.stack.act k.stack.status k.stack.plan in_stack
-      (λ is. let h = (g.holds e k.job k.works.its).1 in
+        (λ is. let h = (g.holds e k.job k.works.its).1 in
         never_complete s g e k.job h (ap (λ (st : Stack). st.status) (same_some h.on.stack k.stack h.on.names.in_table k.names.in_table) ∙ is))
 
   -- ---- finish
@@ -292,8 +304,13 @@ module _ (s : StateData) (g : Going s) (f : Further s) (e : ℕ) where
           | inr old ↦ m.inputs i p old
         ];
         points = λ i node at_node. let (p, there, stack, number) = m.points i node at_node in elim (same_or_not i k.point.node) [
-          | inl here ↦ (point, subst (λ (x : ℕ). slice_get (slice_set k.graph.points k.point.node point) x ≡ Some point) (sym here)
-              (set_here k.graph.points k.point.node point k.point (subst (λ (x : ℕ). slice_get k.graph.points x ≡ Some k.point) (sym k.placed.1) k.its_point)), is, sym here)
+          | inl here ↦ (
+            point,
+            subst (λ (x : ℕ). slice_get (slice_set k.graph.points k.point.node point) x ≡ Some point) (sym here)
+                (set_here k.graph.points k.point.node point k.point (subst (λ (x : ℕ). slice_get k.graph.points x ≡ Some k.point) (sym k.placed.1) k.its_point)),
+            is,
+            sym here,
+          )
           | inr apart ↦ (p, set_else k.graph.points k.point.node point i apart ∙ there, stack, number)
         ];
       }
@@ -308,16 +325,16 @@ module _ (s : StateData) (g : Going s) (f : Further s) (e : ℕ) where
         → ((name : List ℕ) (st : Stack) → stack_at s.stacks name ≡ Some st → (new : Stack) × (stack_at stacks name ≡ Some new))
         → Further (record s { stacks = stacks; graphs = put_point point s.graphs; rows = put_row (unlocked k.row) s.rows; jobs = cut_job e s.jobs })
     finished_with stacks were kept = ends_row k.job k.works.its k.row k.found k.its_row (unlocked k.row) stacks (put_point point s.graphs) refl refl refl
-      (λ p. record { requires_ = p.requires_; replaces = p.replaces; replaced_by = p.replaced_by; target = p.target; init = p.init; facts = p.facts; acts = p.acts; under_way = λ act status. (let is = complete in cc) })
-      were (λ st at old. let w = were k.row.stack st at in record { trav = (old w.old w.was).trav ∙ sym w.trav; failed = λ failed. (let is = complete in cc) }) graphs_more
-      (λ name gr at. let (o, found) = graph_was name gr at in let (st, there) = f.in_table name o found in kept name st there)
+        (λ p. record { requires_ = p.requires_; replaces = p.replaces; replaced_by = p.replaced_by; target = p.target; init = p.init; facts = p.facts; acts = p.acts; under_way = λ act status. (let is = complete in cc) })
+        were (λ st at old. let w = were k.row.stack st at in record { trav = (old w.old w.was).trav ∙ sym w.trav; failed = λ failed. (let is = complete in cc) }) graphs_more
+        (λ name gr at. let (o, found) = graph_was name gr at in let (st, there) = f.in_table name o found in kept name st there)
 
     in_table : stack_at s.stacks k.stack.name ≡ Some k.stack
     in_table = subst (λ (x : List ℕ). stack_at s.stacks x ≡ Some k.stack) (sym (stack-key s.stacks k.job.letter.stack k.stack k.names.in_table)) k.names.in_table
 
     finished_last : k.stack.status ≡ InProgress → Further (record s { stacks = put_stack (completed k.stack) s.stacks; graphs = put_point point s.graphs; rows = put_row (unlocked k.row) s.rows; jobs = cut_job e s.jobs })
     finished_last open_ = finished_with (put_stack (completed k.stack) s.stacks) (marked_was k.stack (completed k.stack) s.stacks in_table refl refl refl open_)
-      (λ x st found. let o = stack_marked k.stack (completed k.stack) s.stacks in_table refl refl x st found in (o.stack, o.found))
+        (λ x st found. let o = stack_marked k.stack (completed k.stack) s.stacks in_table refl refl x st found in (o.stack, o.found))
 
 -- ---- a create
 module _ (s : StateData) (g : Going s) (f : Further s) (owned : (n : ℕ) (r : Row) → row_at s.rows n ≡ Some r → (st : Stack) × (stack_at s.stacks r.stack ≡ Some st))
@@ -365,10 +382,10 @@ module _ (s : StateData) (g : Going s) (f : Further s) (owned : (n : ℕ) (r : R
     ];
     graphs = λ other gr at. elim (graph_put (made_graph s name plan k) s.graphs at) [
       | inl new ↦ subst (λ (x : List ℕ). GraphMore x gr) new.0 (subst (λ (x : Graph). GraphMore name x) new.1 (record {
-          edges = edges_none plan.items (row_numbers s.next.row plan.items) k.graph k.built apart.needless;
-          inputs = fresh-inputs k.graph.nodes 0;
-          points = λ i node at_node. (record { stack = name; node = i; inputs = []; done = false }, points-new name k.graph.nodes 0 i i node at_node (omega arith), refl, refl);
-        }))
+        edges = edges_none plan.items (row_numbers s.next.row plan.items) k.graph k.built apart.needless;
+        inputs = fresh-inputs k.graph.nodes 0;
+        points = λ i node at_node. (record { stack = name; node = i; inputs = []; done = false }, points-new name k.graph.nodes 0 i i node at_node (omega arith), refl, refl);
+      }))
       | inr was ↦ f.graphs other gr was.1
     ];
     in_table = λ other gr at. elim (graph_put (made_graph s name plan k) s.graphs at) [

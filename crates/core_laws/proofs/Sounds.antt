@@ -1,14 +1,13 @@
 -- Every run from an empty opening is sound.
-use Rattle.std.proofs.Common.{◌≡◌, ◌≢◌, ◌⊎◌, inl, inr, ℕ, ◌<◌, ◌≤◌, ◌+◌, zero, suc, Bool, true, false, List, [], ◌∷◌, ◌++◌, length, Option, Some, None, refl, sym, ap, ◌∙◌, subst, arith}
-use Rattle.std.specs.Prelude.{All, AllPairs, Contains, IsSome, IfSome, option_map, slice_get, slice_index_or, unwrap_or}
+use Rattle.std.proofs.Common.{◌≡◌, ◌≢◌, ◌⊎◌, inl, inr, ℕ, ◌<◌, ◌+◌, zero, suc, Bool, true, false, List, [], ◌∷◌, length, Option, Some, None, refl, sym, ap, ◌∙◌, subst, arith}
+use Rattle.std.specs.Prelude.{All, AllPairs, Contains, IsSome, IfSome, slice_get, slice_index_or, unwrap_or}
 use Rattle.std.specs.Str.{bytes_eq}
-use Rattle.dep_graph.specs.Paths.{IsAcyclic, IsCycle, Leads as LeadsOn}
+use Rattle.dep_graph.specs.Paths.{IsAcyclic}
 use Rattle.heat_value.specs.Data.{Members}
 use Rattle.heat_plan.specs.Plans.{PlanData, names_of}
 use Rattle.heat_plan.specs.declared.facts.Facts.{Facts}
 use Rattle.heat_plan.specs.declared.item.Item.{Item}
 use Rattle.heat_plan.specs.declared.token.Token.{Token}
-use Rattle.heat_plan.specs.declared.phase.Act.{Act}
 use Rattle.heat_plan.specs.declared.phase.Act.TheVariants.{Init, Create, Update, Delete}
 use Rattle.heat_plan.specs.declared.phase.Status.{Status}
 use Rattle.heat_plan.specs.declared.phase.Status.TheVariants.{Complete, InProgress, Failed}
@@ -25,37 +24,37 @@ use Rattle.core_state.specs.declared.mail.Job.{Job}
 use Rattle.core_state.specs.declared.mail.Stage.{Stage}
 use Rattle.core_state.specs.declared.mail.Stage.TheVariants.{Taken, Asking, Polling, Ending}
 use Rattle.core_state.specs.declared.entry.Entry.{Entry}
-use Rattle.core_state.specs.Reads.{item_at, IsCurrent, IsLast, Leads, ends, goes, IsTarget, of_c, of_u, renewed, IsReady, IsDone, Names}
+use Rattle.core_state.specs.Reads.{item_at, Leads, ends, goes, IsTarget, of_u, renewed, IsReady, IsDone, Names}
 use Rattle.core_state.specs.Resolve.{Props}
-use Rattle.core_state.specs.State.{StateData, stack_at, graph_at, row_at, letter_at, job_at}
+use Rattle.core_state.specs.State.{StateData, stack_at, graph_at, row_at, job_at}
 use Rattle.core_state.specs.Turns.{token_of, AllDone}
 use Rattle.provider.specs.Table.{Living, TokenState}
 use Rattle.core_laws.specs.Opening.{Opening, first_of, opened, empty_opening}
 use Rattle.core_laws.specs.Runs.{Run, begins, goes_on}
 use Rattle.core_laws.specs.Could.{could}
 use Rattle.core_laws.specs.Fits.{plan_of}
-use Rattle.core_laws.specs.Stir.{Stir, IsTo, IsCovered, waits as by_letter, works as by_job}
-use Rattle.core_laws.specs.Numbered.{RowBelow, GraphBelow, JobBelow, LetterBelow, row_of, Numbered}
+use Rattle.core_laws.specs.Stir.{Stir, IsCovered, waits as by_letter, works as by_job}
+use Rattle.core_laws.specs.Numbered.{RowBelow, row_of, Numbered}
 use Rattle.core_laws.specs.Linked.{OneCurrent, Chained, IsOf, by_row, by_node, by_job as by_held, Locked}
-use Rattle.core_laws.specs.GraphFits.{graph_or, IsNode, HasTarget, HasPoint, NodesFit, EdgesFit, TargetsFit, InputsFit, GraphFits}
-use Rattle.core_laws.specs.RowsFit.{RowFits, known_of, Resolves, IsBegun, IsMade, IsWanted, RowsFit}
-use Rattle.core_laws.specs.MailFits.{IsUnderWay, HasMade, JobFits, JobsFit, LettersFit, Covered}
+use Rattle.core_laws.specs.GraphFits.{graph_or, IsNode, HasTarget, NodesFit, EdgesFit, TargetsFit, InputsFit}
+use Rattle.core_laws.specs.RowsFit.{RowFits, RowsFit}
+use Rattle.core_laws.specs.MailFits.{IsUnderWay, JobFits, JobsFit, LettersFit, Covered}
 use Rattle.core_laws.specs.MarkFits.{by_row as by_failed_row, HasFailure, MarkFits}
-use Rattle.core_laws.specs.RowsAgree.{IsAliveAs, IsReadyAs, StateFits, IsSentAway, RowsAgree}
+use Rattle.core_laws.specs.RowsAgree.{IsAliveAs, RowsAgree}
 use Rattle.core_laws.specs.Sound.{StackFits, Sound}
 use Rattle.core_laws.proofs.Tables.{at-place}
-use Rattle.core_laws.proofs.Rows.{same_some, same_or_not, row-key, row_self, letter-key, job-key, stack-key}
+use Rattle.core_laws.proofs.Rows.{same_some, row-key, row_self, letter-key, job-key, stack-key}
 use Rattle.core_laws.proofs.Lists.{All-none}
 use Rattle.core_laws.proofs.Apart.{contains_at, contained}
 use Rattle.core_laws.proofs.Drawn.{IsOfItem, nodes-found, nodes-new}
 use Rattle.core_laws.proofs.ItemNames.{name_once, item_asked}
-use Rattle.core_laws.proofs.Going.{OnNode, Waits, StageFits, Holds, HasFailed, Settled, Going}
+use Rattle.core_laws.proofs.Going.{OnNode, StageFits, Holds, HasFailed, Going}
 use Rattle.core_laws.proofs.NextFits.{All-at, only_one}
-use Rattle.core_laws.proofs.Agreed.{living, AskFits, NodeRow, RowItem, PlanOf, Agreed}
+use Rattle.core_laws.proofs.Agreed.{living, AskFits, NodeRow, PlanOf, Agreed}
 use Rattle.core_laws.proofs.Boundary.{named_at, map_at}
 use Rattle.core_laws.proofs.Stirs.{IsHeld, letter as held_letter, job as held_job, Covers, run_covers, run_stirs}
-use Rattle.core_laws.proofs.Further.{RowPlain, StackMore, RowOf, GraphMore, Further, step_further}
-use Rattle.core_laws.proofs.Staying.{Stays, absent, alive, run_stays}
+use Rattle.core_laws.proofs.Further.{GraphMore, Further, step_further}
+use Rattle.core_laws.proofs.Staying.{Stays, alive, run_stays}
 use Rattle.core_laws.proofs.Kept.{run_goes}
 use Rattle.core_laws.proofs.RunTold.{run_agreed}
 
@@ -166,17 +165,17 @@ module _ (o : Opening) (h : List Entry) (s : StateData) (g : Going s) (a : Agree
   has_row n stack (by_row r at is) = (r, at, is)
   has_row n stack (by_node gr i node at there is) = let (st, found, r, at_r, in_it) = node_of stack gr i node at there in (r, subst (λ (x : ℕ). row_at s.rows x ≡ Some r) is at_r, in_it)
   has_row n stack (by_held e j at on is) = let k = (g.holds e j at).1 in
-    (k.on.row, subst (λ (x : ℕ). row_at s.rows x ≡ Some k.on.row) (sym k.its_row ∙ on) k.on.found, k.on.owner ∙ is)
+      (k.on.row, subst (λ (x : ℕ). row_at s.rows x ≡ Some k.on.row) (sym k.its_row ∙ on) k.on.found, k.on.owner ∙ is)
 
   locked : Locked s
   locked = record {
     held = λ n e r at by. f.engines n e r at by;
     holds = λ e j r at found. let k = (g.holds e j at).1 in
-      let same : k.on.row ≡ r = same_some k.on.row r (subst (λ (x : ℕ). row_at s.rows x ≡ Some k.on.row) (sym k.its_row) k.on.found) found in
-      ap (λ (x : Row). x.engine) (sym same) ∙ k.locked;
+        let same : k.on.row ≡ r = same_some k.on.row r (subst (λ (x : ℕ). row_at s.rows x ≡ Some k.on.row) (sym k.its_row) k.on.found) found in
+        ap (λ (x : Row). x.engine) (sym same) ∙ k.locked;
     apart = λ e d j k at_e at_d same. (g.holds e j at_e).0 ∙ sym (g.holds d k at_d).0;
     one = λ n x y is_x is_y. let (r, at_r, in_x) = has_row n x is_x in let (q, at_q, in_y) = has_row n y is_y in
-      let same : r ≡ q = same_some r q at_r at_q in sym in_x ∙ (ap (λ (z : Row). z.stack) same ∙ in_y);
+        let same : r ≡ q = same_some r q at_r at_q in sym in_x ∙ (ap (λ (z : Row). z.stack) same ∙ in_y);
   }
 
   row_fits : (n : ℕ) (r : Row) → row_at s.rows n ≡ Some r → RowFits r
@@ -244,7 +243,8 @@ module _ (o : Opening) (h : List Entry) (s : StateData) (g : Going s) (a : Agree
           row = k.row.row;
           is = subst (λ (x : ℕ). IsTarget s.rows st.name (U name n) x) (sym no_is) (is_target name n k.row.row k.row.found);
           found = row_self s.rows n k.row.row k.row.found;
-          stack = k.row.stack; named = k.row.named ∙ sym k.named;
+          stack = k.row.stack;
+          named = k.row.named ∙ sym k.named;
           current = record { kept = not_delete n k.row.row k.row.found; last = (f.plain n k.row.row k.row.found).replaced_by };
           from = λ r at. inl (ap (λ (x : Row). x.no) (same_some r k.row.row at k.row.found));
           alone = λ t is. target_is name n t k.row.row k.row.found is ∙ sym no_is;
@@ -261,13 +261,13 @@ module _ (o : Opening) (h : List Entry) (s : StateData) (g : Going s) (a : Agree
     nodes_fit = record {
       acyclic = no_cycle;
       items = λ item among.
-        let (i, at) = contained p.plan.items item (subst (λ (x : PlanData). Contains x.items item) plan_is among) in
-        (i, p.first + i, subst (λ (ns : List Node). slice_get ns i ≡ Some (U item.name (p.first + i))) (sym p.nodes) (nodes-new p.plan.items p.first i (p.first + i) item at refl));
+          let (i, at) = contained p.plan.items item (subst (λ (x : PlanData). Contains x.items item) plan_is among) in
+          (i, p.first + i, subst (λ (ns : List Node). slice_get ns i ≡ Some (U item.name (p.first + i))) (sym p.nodes) (nodes-new p.plan.items p.first i (p.first + i) item at refl));
       only_items = λ i n name there. let k = row_at_node i n name there in
-        subst (λ (x : PlanData). Contains (names_of x.items) name) (sym plan_is)
+          subst (λ (x : PlanData). Contains (names_of x.items) name) (sym plan_is)
           (subst (λ (x : List ℕ). Contains (names_of p.plan.items) x) (sym k.named) (contains_at (names_of p.plan.items) i k.item.name (map_at p.plan.items i k.item k.there)));
       one_update = λ i k n m name at_i at_k. let x = row_at_node i n name at_i in let y = row_at_node k m name at_k in
-        name_once p.plan.items p.proper.proper.rising i k x.item y.item x.there y.there (sym x.named ∙ y.named);
+          name_once p.plan.items p.proper.proper.rising i k x.item y.item x.there y.there (sym x.named ∙ y.named);
       one_cleanup = λ i k n at_i at_k. absurd (no_cleanup i n at_i);
       points = λ i node there. let (q, at, stack, number) = more.points i node there in record { point = q; there = at; stack = stack; node = number };
     } where
@@ -278,8 +278,10 @@ module _ (o : Opening) (h : List Entry) (s : StateData) (g : Going s) (a : Agree
 
     edges_fit : EdgesFit s st gr
     edges_fit = record {
-      into = λ i k n name item there asked. (λ joins. absurd (nothing_in gr.graph.edges (i, k) more.edges joins),
-        λ needs. absurd (no_need name item asked needs.0 needs.3));
+      into = λ i k n name item there asked. (
+        λ joins. absurd (nothing_in gr.graph.edges (i, k) more.edges joins),
+        λ needs. absurd (no_need name item asked needs.0 needs.3),
+      );
       behind = λ i k n m r at_i at_k found. absurd (no_cleanup k m at_k);
     } where
       no_need : (name : List ℕ) (item : Item) → item_at (plan_of st.plan).items name ≡ Some item → (need : List ℕ) → Contains item.needs need → ⊥
@@ -292,8 +294,13 @@ module _ (o : Opening) (h : List Entry) (s : StateData) (g : Going s) (a : Agree
       updates = target;
       cleanups = λ i n r there found. absurd (no_cleanup i n there);
       rows = λ n r at its. let i = p.row_item n r at its in
-        inl (i.place, n, i.item.name, subst (λ (ns : List Node). slice_get ns i.place ≡ Some (U i.item.name n)) (sym p.nodes) (nodes-new p.plan.items p.first i.place n i.item i.there i.number),
-          is_target i.item.name n r at);
+          inl (
+            i.place,
+            n,
+            i.item.name,
+            subst (λ (ns : List Node). slice_get ns i.place ≡ Some (U i.item.name n)) (sym p.nodes) (nodes-new p.plan.items p.first i.place n i.item i.there i.number),
+            is_target i.item.name n r at,
+          );
       old = λ n r at its ne _. absurd (ne (f.travs n r st at (subst (λ (x : List ℕ). stack_at s.stacks x ≡ Some st) (sym its) found)).trav);
     }
 
@@ -308,7 +315,7 @@ module _ (o : Opening) (h : List Entry) (s : StateData) (g : Going s) (a : Agree
     -- ---- rows by the graph
     asked_item : (i n : ℕ) (name : List ℕ) (k : RowAt i n name) → item_at (plan_of st.plan).items name ≡ Some k.item
     asked_item i n name k = subst (λ (x : PlanData). item_at x.items name ≡ Some k.item) (sym plan_is)
-      (subst (λ (x : List ℕ). item_at p.plan.items x ≡ Some k.item) (sym k.named) (item_asked p.plan.items p.proper.proper.rising i k.item k.there))
+        (subst (λ (x : List ℕ). item_at p.plan.items x ≡ Some k.item) (sym k.named) (item_asked p.plan.items p.proper.proper.rising i k.item k.there))
 
     in_stack : (r : Row) → r.stack ≡ st.name → stack_at s.stacks r.stack ≡ Some st
     in_stack r its = subst (λ (x : List ℕ). stack_at s.stacks x ≡ Some st) (sym its) found
@@ -316,25 +323,27 @@ module _ (o : Opening) (h : List Entry) (s : StateData) (g : Going s) (a : Agree
     rows_fit : RowsFit s st gr
     rows_fit = record {
       begun = λ i n name t there trav act. let k = row_at_node i n name there in
-        let same = same_target i n name there t in
-        let begun = k.row.begun (create_act n k.row.row k.row.found (λ init. act (ap (λ (x : Row). x.act) same ∙ init))) in
-        let plain = (f.plain n k.row.row k.row.found).target in
-        let props : k.item.props ≡ unwrap_or t.row.target t.row.props =
+          let same = same_target i n name there t in
+          let begun = k.row.begun (create_act n k.row.row k.row.found (λ init. act (ap (λ (x : Row). x.act) same ∙ init))) in
+          let plain = (f.plain n k.row.row k.row.found).target in
+          let props : k.item.props ≡ unwrap_or t.row.target t.row.props =
           subst (λ (x : Row). k.item.props ≡ unwrap_or x.target x.props) (sym same) (sym begun.1 ∙ ap (λ (x : Option Members). unwrap_or x k.row.row.props) (sym plain)) in
-        record {
-          ready = ready i; item = k.item; asked = asked_item i n name k;
-          kind = ap (λ (x : Row). x.kind.name) same ∙ ap (λ (x : _). x.name) begun.0;
-          props = record { point = k.row.point; there = k.row.its_point; item = k.item; asked = asked_item i n name k; result_is = ap Props props };
-        };
+          record {
+            ready = ready i;
+            item = k.item;
+            asked = asked_item i n name k;
+            kind = ap (λ (x : Row). x.kind.name) same ∙ ap (λ (x : _). x.name) begun.0;
+            props = record { point = k.row.point; there = k.row.its_point; item = k.item; asked = asked_item i n name k; result_is = ap Props props };
+          };
       made = λ i n name t there done. let k = row_at_node i n name there in
-        let same = same_target i n name there t in
-        let point : done.point ≡ k.row.point = same_some done.point k.row.point done.there k.row.its_point in
-        let ended = k.row.ends (ap (λ (x : Point). x.done) (sym point) ∙ done.done) in
-        record {
-          status = ap (λ (x : Row). x.status) same ∙ ended.1;
-          newest = (f.travs t.row.no t.row st t.found (in_stack t.row t.stack)).trav;
-          begun = λ init. let act : t.row.act ≡ Create = ap (λ (x : Row). x.act) same ∙ ended.0 in cc;
-        };
+          let same = same_target i n name there t in
+          let point : done.point ≡ k.row.point = same_some done.point k.row.point done.there k.row.its_point in
+          let ended = k.row.ends (ap (λ (x : Point). x.done) (sym point) ∙ done.done) in
+          record {
+            status = ap (λ (x : Row). x.status) same ∙ ended.1;
+            newest = (f.travs t.row.no t.row st t.found (in_stack t.row t.stack)).trav;
+            begun = λ init. let act : t.row.act ≡ Create = ap (λ (x : Row). x.act) same ∙ ended.0 in cc;
+          };
       cleaned = λ i n r there done at. absurd (no_cleanup i n there);
       kept = λ i n name t there act. not_delete t.row.no t.row t.found act;
     }
@@ -342,16 +351,20 @@ module _ (o : Opening) (h : List Entry) (s : StateData) (g : Going s) (a : Agree
     -- ---- the mark
     mark_fits : MarkFits s st gr
     mark_fits = record {
-      complete = (λ is i node there. let it = g.settled st.name st found in
-          let all : AllDone gr = subst (λ (x : Graph). AllDone x) (same_some it.graph gr it.its_graph p.its_graph) (it.complete is) in
-          let (q, at, stack, number) = more.points i node there in
-          record { point = q; there = at; done = All-at (λ (x : Point). x.done ≡ true) gr.points i q all at },
-        λ all. by st.status refl all);
+      complete = (
+        λ is i node there. let it = g.settled st.name st found in
+            let all : AllDone gr = subst (λ (x : Graph). AllDone x) (same_some it.graph gr it.its_graph p.its_graph) (it.complete is) in
+            let (q, at, stack, number) = more.points i node there in
+            record { point = q; there = at; done = All-at (λ (x : Point). x.done ≡ true) gr.points i q all at },
+        λ all. by st.status refl all,
+      );
       failing = λ n r at its failed trav. (f.travs n r st at (in_stack r its)).failed failed;
       failed = failure;
       act = λ init. let act = (f.stacks st.name st found).act in cc;
-      deletes = (λ deletes. let act = (f.stacks st.name st found).act in absurd (let both : Create ≡ Delete = sym act ∙ deletes in cc),
-        λ none. let planned = p.planned in absurd (let both : None ≡ Some p.plan = sym none ∙ planned in cc));
+      deletes = (
+        λ deletes. let act = (f.stacks st.name st found).act in absurd (let both : Create ≡ Delete = sym act ∙ deletes in cc),
+        λ none. let planned = p.planned in absurd (let both : None ≡ Some p.plan = sym none ∙ planned in cc),
+      );
     } where
       failure : st.status ≡ Failed → HasFailure s st gr
       failure is = from ((g.settled st.name st found).failed is) where
@@ -363,9 +376,10 @@ module _ (o : Opening) (h : List Entry) (s : StateData) (g : Going s) (a : Agree
             let t = target x.node x.row.no x.named there in
             let row : t.row ≡ x.row = same_target x.node x.row.no x.named there t ∙ same_some _ x.row (row_at_node x.node x.row.no x.named there).row.found x.found in
             record {
-              node = x.node; ready = ready x.node;
+              node = x.node;
+              ready = ready x.node;
               open_ = λ done. let one : done.point ≡ x.point = same_some done.point x.point done.there point in
-                let is : x.point.done ≡ true = ap (λ (y : Point). y.done) (sym one) ∙ done.done in (let both : true ≡ false = sym is ∙ x.open_ in cc);
+                  let is : x.point.done ≡ true = ap (λ (y : Point). y.done) (sym one) ∙ done.done in (let both : true ≡ false = sym is ∙ x.open_ in cc);
               failed = by_failed_row x.named x.row.no t there (ap (λ (y : Row). y.status) row ∙ x.status) (f.travs t.row.no t.row st t.found (in_stack t.row t.stack)).trav;
             }
 
@@ -376,11 +390,11 @@ module _ (o : Opening) (h : List Entry) (s : StateData) (g : Going s) (a : Agree
           let same : w.graph ≡ gr = same_some w.graph gr w.its_graph p.its_graph in
           absurd (subst (λ (x : Graph). IsDone x w.node → ⊥) same w.open_ (all w.node w.it (subst (λ (x : Graph). IsNode x w.node w.it) same w.its_node)))
       by Failed is all = let x = (g.settled st.name st found).failed is in
-        let same : x.graph ≡ gr = same_some x.graph gr x.its_graph p.its_graph in
-        let done : IsDone gr x.node = all x.node (U x.named x.row.no) (subst (λ (y : Graph). IsNode y x.node (U x.named x.row.no)) same x.its_node) in
-        let one_ : done.point ≡ x.point = same_some done.point x.point done.there (subst (λ (y : Graph). slice_get y.points x.node ≡ Some x.point) same x.its_point) in
-        let yes_done : x.point.done ≡ true = ap (λ (y : Point). y.done) (sym one_) ∙ done.done in
-        absurd (let both : true ≡ false = sym yes_done ∙ x.open_ in cc)
+          let same : x.graph ≡ gr = same_some x.graph gr x.its_graph p.its_graph in
+          let done : IsDone gr x.node = all x.node (U x.named x.row.no) (subst (λ (y : Graph). IsNode y x.node (U x.named x.row.no)) same x.its_node) in
+          let one_ : done.point ≡ x.point = same_some done.point x.point done.there (subst (λ (y : Graph). slice_get y.points x.node ≡ Some x.point) same x.its_point) in
+          let yes_done : x.point.done ≡ true = ap (λ (y : Point). y.done) (sym one_) ∙ done.done in
+          absurd (let both : true ≡ false = sym yes_done ∙ x.open_ in cc)
 
     stack_fits : StackFits s st gr
     stack_fits = record { graph = record { nodes = nodes_fit; edges = edges_fit; targets = targets_fit; inputs = inputs_fit }; rows = rows_fit; mark = mark_fits }
@@ -393,7 +407,7 @@ module _ (o : Opening) (h : List Entry) (s : StateData) (g : Going s) (a : Agree
   stacks_fit name st at =
       let here = stack_named name st at in
       let fits : StackFits s st (graph_or st.name (graph_at s.graphs st.name)) =
-          subst (λ (x : Option Graph). StackFits s st (graph_or st.name x)) (sym (a.plans st.name st here).its_graph) (stack_fits st here) in
+      subst (λ (x : Option Graph). StackFits s st (graph_or st.name x)) (sym (a.plans st.name st here).its_graph) (stack_fits st here) in
       subst (λ (x : List ℕ). StackFits s st (graph_or x (graph_at s.graphs x))) (stack-key s.stacks name st at) fits
 
   -- ---- letters and jobs
@@ -428,22 +442,32 @@ module _ (o : Opening) (h : List Entry) (s : StateData) (g : Going s) (a : Agree
 
     under_way : (e : ℕ) (j : Job) → job_at s.jobs e ≡ Some j → (j.stage ≡ Asking) ⊎ (j.stage ≡ Polling) → IsUnderWay s j
     under_way e j at stage = let k = (g.holds e j at).1 in record {
-      row = k.on.row; found = row_found e j k;
+      row = k.on.row;
+      found = row_found e j k;
       status = elim stage [ inl is ↦ (stage_fits e j k Asking is).1 | inr is ↦ (stage_fits e j k Polling is).1 ];
       trav = letter_row_trav j.letter k.on;
     }
 
     fresh : (e : ℕ) (j : Job) (st : Stack) → job_at s.jobs e ≡ Some j → stack_at s.stacks j.letter.stack ≡ Some st → st.trav ≡ j.letter.trav → (gr : Graph) × (node : Node) × Names s j.letter st gr node × JobFits s j st gr node
-    fresh e j st at found trav = let k = (g.holds e j at).1 in (k.on.graph, U k.on.row.name k.on.row.no, names_at j.letter k.on st found, record {
-      ready = no_edges j.letter k.on;
-      open_ = not_done j.letter k.on;
-      target = subst (λ (n : ℕ). IsTarget s.rows st.name (U k.on.row.name k.on.row.no) n) (sym k.its_row) (its_target j.letter k.on st.name);
-      deletes = λ r stage at_r. (λ act. absurd (not_delete j.row r at_r act), λ is. cc);
-      ends_update = λ name n is stage. let fits = stage_fits e j k Ending stage in record {
-        row = k.on.row; found = row_found e j k; status = fits.1; begun = λ init. let act = fits.0 in cc; trav = letter_row_trav j.letter k.on;
-      };
-      ends_cleanup = λ n r is stage at_r. cc;
-    })
+    fresh e j st at found trav = let k = (g.holds e j at).1 in (
+      k.on.graph,
+      U k.on.row.name k.on.row.no,
+      names_at j.letter k.on st found,
+      record {
+        ready = no_edges j.letter k.on;
+        open_ = not_done j.letter k.on;
+        target = subst (λ (n : ℕ). IsTarget s.rows st.name (U k.on.row.name k.on.row.no) n) (sym k.its_row) (its_target j.letter k.on st.name);
+        deletes = λ r stage at_r. (λ act. absurd (not_delete j.row r at_r act), λ is. cc);
+        ends_update = λ name n is stage. let fits = stage_fits e j k Ending stage in record {
+          row = k.on.row;
+          found = row_found e j k;
+          status = fits.1;
+          begun = λ init. let act = fits.0 in cc;
+          trav = letter_row_trav j.letter k.on;
+        };
+        ends_cleanup = λ n r is stage at_r. cc;
+      },
+    )
 
   covered : Covered s
   covered = record { each = λ name st gr i node at on at_g there ready open_. by name st gr i node at on at_g open_ ((f.graphs name gr at_g).points i node there) } where
@@ -466,12 +490,12 @@ module _ (o : Opening) (h : List Entry) (s : StateData) (g : Going s) (a : Agree
       init = λ init. sym (one_state _ None state ((a.states n r at).still init) among);
       creating = λ act status. creating n r state at among act status (r.engine) refl;
       ready = λ status ne _. let (facts, is, states) = (a.states n r at).ready (create_act n r at ne) status in
-        record { alive = as_row r (Some facts) r.props state refl (one_state _ (Some (living r (Some facts))) state states among); facts = sym is };
+          record { alive = as_row r (Some facts) r.props state refl (one_state _ (Some (living r (Some facts))) state states among); facts = sym is };
       updating = λ act status. absurd (not_update n r at act);
     };
     polled = λ e j r state at stage found among ne.
-      let (facts, states) = subst (λ (x : Stage). AskFits x r (could (first_of o) h (token_of r))) stage (a.asked e j r at found) in
-      as_row r facts (unwrap_or r.target r.props) state (sym (ap (λ (x : Option Members). unwrap_or x r.props) (f.plain j.row r found).target)) (one_state _ (Some (living r facts)) state states among);
+        let (facts, states) = subst (λ (x : Stage). AskFits x r (could (first_of o) h (token_of r))) stage (a.asked e j r at found) in
+        as_row r facts (unwrap_or r.target r.props) state (sym (ap (λ (x : Option Members). unwrap_or x r.props) (f.plain j.row r found).target)) (one_state _ (Some (living r facts)) state states among);
     going = λ e j r state at stage found among act. absurd (not_delete j.row r found act);
     leaving = λ t it among is. absurd (still_there it is (All-in (could (first_of o) h t) (Some it) (stays t) among));
   } where
@@ -516,8 +540,16 @@ module _ (o : Opening) (h : List Entry) (s : StateData) (g : Going s) (a : Agree
 
   sound : Sound o h s
   sound = record {
-    numbered = numbered; current = current; chained = chained; locked = locked; rows = row_fits; stacks = stacks_fit;
-    jobs = jobs_fit; letters = letters_fit; covered = covered; agrees = rows_agree;
+    numbered = numbered;
+    current = current;
+    chained = chained;
+    locked = locked;
+    rows = row_fits;
+    stacks = stacks_fit;
+    jobs = jobs_fit;
+    letters = letters_fit;
+    covered = covered;
+    agrees = rows_agree;
   }
 
 opened_further : Further opened

@@ -1,6 +1,6 @@
 -- In every run no token ever leaves: only creates and polls are asked.
-use Rattle.std.proofs.Common.{◌≡◌, ◌≢◌, ◌⊎◌, inl, inr, ℕ, Bool, true, false, not, List, [], ◌∷◌, ◌++◌, Option, Some, None, refl, sym, ap, ◌∙◌, subst}
-use Rattle.std.specs.Prelude.{All, Contains}
+use Rattle.std.proofs.Common.{◌≡◌, inl, inr, ℕ, Bool, false, not, List, [], ◌∷◌, ◌++◌, Some, None, refl, sym, subst}
+use Rattle.std.specs.Prelude.{All}
 use Rattle.heat_plan.specs.declared.token.Token.{Token}
 use Rattle.heat_plan.specs.declared.calls.Request.{Request}
 use Rattle.heat_plan.specs.declared.calls.Request.TheVariants as request
@@ -12,12 +12,12 @@ use Rattle.core_state.specs.declared.entry.Actor.TheVariants.{Main, Engine}
 use Rattle.core_state.specs.declared.entry.Entry.{Entry}
 use Rattle.core_state.specs.declared.mail.Stage.TheVariants.{Asking, Polling}
 use Rattle.core_state.specs.State.{StateData}
-use Rattle.core_state.specs.Steps.{QuietTurn, AskingTurn, begun, refused, PollingTurn, waits, ready, broken, UnstoredTurn, unstored as unstored_turn, Step, command, quiet, asking, polling, unstored, note}
+use Rattle.core_state.specs.Steps.{AskingTurn, begun, refused, PollingTurn, waits, ready, broken, unstored as unstored_turn, Step, command, quiet, asking, polling, unstored, note}
 use Rattle.core_state.specs.Turns.{Creating, token_of, created_with, call_entry}
 use Rattle.provider.specs.Table.{Living, begun as begun_as, TokenState, after, after_each, once, same_state}
 use Rattle.core_laws.specs.Asked.{HasNoCall, CallsOnce}
 use Rattle.core_laws.specs.Opening.{Opening, first_of, opened, empty_opening}
-use Rattle.core_laws.specs.Runs.{Run, begins, goes_on, IsFree}
+use Rattle.core_laws.specs.Runs.{Run, begins, goes_on}
 use Rattle.core_laws.specs.Could.{could}
 use Rattle.core_laws.proofs.Lists.{All-none, All-more, All-first, All-rest, All-sifted, All-flat}
 use Rattle.core_laws.proofs.Coulds.{could-silent, could-called, could-other, token_or_not}

@@ -13,7 +13,7 @@ use Rattle.core_state.specs.declared.graph.Graph.{Graph}
 use Rattle.core_state.specs.declared.graph.Input.{Input}
 use Rattle.core_state.specs.declared.graph.Point.{Point}
 use Rattle.core_state.specs.Reads.{item_at, IsCurrent, IsTarget, IsReady, IsDone, HasInput}
-use Rattle.core_state.specs.State.{StateData, stack_at, graph_at, row_at}
+use Rattle.core_state.specs.State.{StateData, row_at}
 use Rattle.core_laws.specs.Fits.{plan_of}
 
 -- the graph of a stack; the empty one where none was put

@@ -1,5 +1,5 @@
 -- Where letters and jobs stand in the graph of their stack's newest traversal, and that no node is forgotten.
-use Rattle.std.specs.Prelude.{◌≡◌, ◌≢◌, ◌↔◌, ◌⊎◌, ℕ, List, Some, None}
+use Rattle.std.specs.Prelude.{◌≡◌, ◌≢◌, ◌↔◌, ◌⊎◌, ℕ, List, Some}
 use Rattle.heat_plan.specs.declared.phase.Act.TheVariants.{Init, Delete}
 use Rattle.heat_plan.specs.declared.phase.Status.TheVariants.{Complete, InProgress}
 use Rattle.traversal_graph.specs.declared.shape.Node.{Node}
@@ -9,8 +9,7 @@ use Rattle.core_state.specs.declared.row.Row.{Row}
 use Rattle.core_state.specs.declared.graph.Graph.{Graph}
 use Rattle.core_state.specs.declared.mail.Letter.{Letter}
 use Rattle.core_state.specs.declared.mail.Job.{Job}
-use Rattle.core_state.specs.declared.mail.Stage.{Stage}
-use Rattle.core_state.specs.declared.mail.Stage.TheVariants.{Taken, Asking, Polling, Ending}
+use Rattle.core_state.specs.declared.mail.Stage.TheVariants.{Asking, Polling, Ending}
 use Rattle.core_state.specs.Reads.{IsTarget, IsReady, IsDone, Names}
 use Rattle.core_state.specs.State.{StateData, stack_at, graph_at, row_at, letter_at, job_at}
 use Rattle.core_laws.specs.GraphFits.{IsNode}

@@ -1,7 +1,6 @@
 -- What may be alive under a row's token fits the row.
 use Rattle.std.specs.Prelude.{◌≡◌, ◌≢◌, ◌⊎◌, ℕ, true, List, Some, None, Contains, unwrap_or}
 use Rattle.heat_value.specs.Data.{Members}
-use Rattle.heat_plan.specs.declared.facts.Facts.{Facts}
 use Rattle.heat_plan.specs.declared.phase.Act.TheVariants.{Init, Create, Update, Delete}
 use Rattle.heat_plan.specs.declared.phase.Status.TheVariants.{Complete, InProgress}
 use Rattle.heat_plan.specs.declared.token.Token.{Token}
