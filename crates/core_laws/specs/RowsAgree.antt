@@ -1,0 +1,56 @@
+-- What may be alive under a row's token fits the row.
+use Rattle.std.specs.Prelude.{◌≡◌, ◌≢◌, ◌⊎◌, ℕ, true, List, Some, None, Contains, unwrap_or}
+use Rattle.heat_value.specs.Data.{Members}
+use Rattle.heat_plan.specs.declared.phase.Act.TheVariants.{Init, Create, Update, Delete}
+use Rattle.heat_plan.specs.declared.phase.Status.TheVariants.{Complete, InProgress}
+use Rattle.heat_plan.specs.declared.token.Token.{Token}
+use Rattle.core_state.specs.declared.row.Row.{Row}
+use Rattle.core_state.specs.declared.entry.Entry.{Entry}
+use Rattle.core_state.specs.declared.mail.Job.{Job}
+use Rattle.core_state.specs.declared.mail.Stage.TheVariants.{Polling}
+use Rattle.core_state.specs.State.{StateData, row_at, job_at}
+use Rattle.core_state.specs.Turns.{token_of}
+use Rattle.provider.specs.Table.{Living, TokenState}
+use Rattle.core_laws.specs.Opening.{Opening, first_of}
+use Rattle.core_laws.specs.Could.{could}
+use Rattle.core_laws.specs.Tokens.{IsNamed}
+
+-- alive with the row's kind and these properties
+pub record IsAliveAs (r : Row) (props : Members) (state : TokenState) : Type 0 where
+  pub it : Living
+  pub alive : state ≡ Some it
+  pub kind : it.kind ≡ r.kind.name
+  pub props_are : it.props ≡ props
+
+-- with the row's facts too
+pub record IsReadyAs (r : Row) (state : TokenState) : Type 0 where
+  pub alive : IsAliveAs r r.props state
+  pub facts : alive.it.facts ≡ r.facts
+
+-- a state of a row's token, by the row's act and status
+pub record StateFits (r : Row) (state : TokenState) : Type 0 where
+  pub init : r.act ≡ Init → state ≡ None
+  pub creating : r.act ≡ Create → r.status ≡ InProgress → (state ≡ None) ⊎ IsAliveAs r r.props state
+  pub ready : r.status ≡ Complete → r.act ≢ Init → r.act ≢ Delete → IsReadyAs r state
+  pub updating : r.act ≡ Update → r.status ≡ InProgress → IsAliveAs r r.props state ⊎ IsAliveAs r (unwrap_or r.target r.props) state
+
+-- a token that is leaving is that of a row at DELETE
+pub record IsSentAway (s : StateData) (t : Token) : Type 0 where
+  pub row : Row
+  pub found : row_at s.rows t.row ≡ Some row
+  pub its : token_of row ≡ t
+  pub act : row.act ≡ Delete
+
+-- absent, or leaving
+pub data IsGoing : TokenState → Type 0 where
+  absent : IsGoing None
+  leaves : (it : Living) → it.leaving ≡ true → IsGoing (Some it)
+
+pub record RowsAgree (o : Opening) (h : List Entry) (s : StateData) : Type 0 where
+  pub named : IsNamed o h
+  pub rows : (n : ℕ) (r : Row) (state : TokenState) → row_at s.rows n ≡ Some r → Contains (could (first_of o) h (token_of r)) state → StateFits r state
+  pub polled : (e : ℕ) (j : Job) (r : Row) (state : TokenState) → job_at s.jobs e ≡ Some j → j.stage ≡ Polling → row_at s.rows j.row ≡ Some r
+      → Contains (could (first_of o) h (token_of r)) state → r.act ≢ Delete → IsAliveAs r (unwrap_or r.target r.props) state
+  pub going : (e : ℕ) (j : Job) (r : Row) (state : TokenState) → job_at s.jobs e ≡ Some j → j.stage ≡ Polling → row_at s.rows j.row ≡ Some r
+      → Contains (could (first_of o) h (token_of r)) state → r.act ≡ Delete → IsGoing state
+  pub leaving : (t : Token) (it : Living) → Contains (could (first_of o) h t) (Some it) → it.leaving ≡ true → IsSentAway s t

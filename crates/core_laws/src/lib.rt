@@ -1,0 +1,9 @@
+//! Laws of the runs of an engine, for the layer that keeps a run as its history. Nothing here is run:
+//! each function has an empty body and stands for its clauses. It answers to `specs/Laws.antt`.
+#![tactic(auto)]
+
+mod runs;
+mod shown;
+
+pub use runs::{next_is_there, one_lives, polled_is_alive, runs_are_sound, runs_have_headline};
+pub use shown::{calls_agree, steps_tell};
