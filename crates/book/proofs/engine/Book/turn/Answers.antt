@@ -1,0 +1,20 @@
+-- The history is that of a run, whose laws say that the turn finds what it needs.
+use Rattle.std.proofs.Common.{subst, sym}
+use Rattle.std.specs.Prelude.{Contains}
+use Rattle.book.specs.Kept.{Shown}
+use Rattle.core_state.specs.Turns.{token_of}
+use Rattle.provider.specs.Cloud.{state_of}
+use Rattle.core_laws.proofs.Kept.{run_goes}
+use Rattle.core_laws.proofs.NextFits.{next_fits}
+use Rattle.core_laws.proofs.Polls.{polled_is_alive}
+use Rattle.book.proofs.Kept.{kept_turned, alive_in}
+use Rattle.book.proofs.engine.Book.turn.Goals as goal
+
+pub turn_of-requires-clause-next : goal.turn_of-requires-clause-next
+turn_of-requires-clause-next g c = next_fits _ (run_goes _ _ c.self.invariant.run) c.args.e (subst (λ (b : Shown g.row.P.Denot). Contains b.state.live c.args.e) (sym c.self.view_is) c.requires)
+
+pub turn_of-requires-clause-alive : goal.turn_of-requires-clause-alive
+turn_of-requires-clause-alive g c k = alive_in (g.P.Provider.cloud c.self.inside.cloud) (token_of k.row) _ (polled_is_alive (state_of (g.P.Provider.cloud c.self.inside.origin.value)) _ _ c.self.invariant.run c.args.e k) (c.self.invariant.agrees (token_of k.row))
+
+pub invariant_of-self : goal.invariant_of-self
+invariant_of-self g c = kept_turned _ _ _ _ c.args.e _ _ _ c.self.invariant c.turn_of.ensures

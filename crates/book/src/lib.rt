@@ -1,0 +1,18 @@
+//! The whole engine: its state, the history of what it did, and the cloud that it asks. Each call is one
+//! step of the history or a refusal that changes nothing. The type keeps that the history is that of a
+//! run from the opening, and that the cloud is in a state which that history allows.
+#![tactic(auto)]
+
+mod ask;
+mod commanding;
+mod engine;
+mod making;
+mod opening;
+mod poll;
+mod tokens;
+mod turning;
+
+pub use commanding::StackCommand;
+pub use engine::{Book, Opened};
+pub use opening::Opening;
+pub use turning::Turn;
