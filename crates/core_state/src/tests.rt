@@ -2,8 +2,7 @@
 
 use crate::{Batch, Change, Graph, Job, Letter, Next, Numbers, Point, Stack, Stage, State};
 use heat_plan::{Act, EngineNo, LetterNo, ResName, RowNo, StackName, StackNo, Status, TravNo};
-use heat_value::{Seq, TryCopy};
-use std::process::Abort;
+use heat_value::Seq;
 use std::test::Fail;
 use traversal_graph::{Node, TravGraph};
 
@@ -21,109 +20,214 @@ fn row(no: u64) -> Result<RowNo, Fail> {
 
 /// A letter of this number to the first node.
 fn letter(rt: &impl AllocGlobal, no: u64) -> Result<Letter, Fail> {
+    let no = LetterNo::new(no).ok_or("a number")?;
+    let trav = TravNo::new(1).ok_or("a number")?;
     Ok(Letter {
-        no: LetterNo::new(no).ok_or("a number")?,
+        no,
         stack: stack_name(rt, b's')?,
-        trav: TravNo::new(1).ok_or("a number")?,
+        trav,
         node: 0,
     })
 }
 
 /// A stack of this number.
 fn stack(rt: &impl AllocGlobal, letter: u8, no: u64) -> Result<Stack, Fail> {
+    let trav = TravNo::new(no).ok_or("a number")?;
+    let no = StackNo::new(no).ok_or("a number")?;
     Ok(Stack {
         name: stack_name(rt, letter)?,
-        no: StackNo::new(no).ok_or("a number")?,
-        trav: TravNo::new(no).ok_or("a number")?,
+        no,
+        trav,
         act: Act::Create,
         status: Status::InProgress,
         plan: None,
     })
 }
 
+/// The one node of a graph.
+fn node(rt: &impl AllocGlobal) -> Result<Node, Fail> {
+    let row = row(1)?;
+    let name = ResName::read(rt.alloc(), b"a")?.ok_or("a name")?;
+    Ok(Node::U(name, row))
+}
+
 /// A graph of one node.
 fn graph(rt: &impl AllocGlobal) -> Result<Graph, Fail> {
     let mut nodes = Seq::new(rt.alloc());
-    let name = ResName::read(rt.alloc(), b"a")?.ok_or("a name")?;
-    nodes.push(Node::U(name, row(1)?))?;
-    let edges = Seq::new(rt.alloc());
-    Ok(Graph::new(
-        rt.alloc(),
-        stack_name(rt, b's')?,
-        TravGraph { nodes, edges },
-    )?)
+    nodes.push(node(rt)?)?;
+    let graph = TravGraph {
+        nodes,
+        edges: Seq::new(rt.alloc()),
+    };
+    Ok(Graph::new(rt.alloc(), stack_name(rt, b's')?, graph)?)
 }
 
-/// Numbers of the stacks, in the table's order.
-fn shows(rt: &(impl Abort + AllocGlobal), state: &State, wanted: &[u64]) -> Result<(), Fail> {
-    let mut numbers = Vec::new(rt.alloc());
-    for stack in state.stacks() {
-        numbers.push(stack.no.get())?;
-    }
-    assert_eq!(rt; numbers.as_slice(), wanted);
+/// Makes one change, with room for it.
+fn change(state: &mut State, change: Change) -> Result<(), Fail> {
+    state.reserve(1)?;
+    state.apply(change);
     Ok(())
+}
+
+fn put_stack(rt: &impl AllocGlobal, state: &mut State, name: u8, no: u64) -> Result<(), Fail> {
+    let put = stack(rt, name, no)?;
+    change(state, Change::PutStack(put))
+}
+
+fn send(rt: &impl AllocGlobal, state: &mut State, no: u64) -> Result<(), Fail> {
+    let sent = letter(rt, no)?;
+    change(state, Change::Send(sent))
+}
+
+fn hold(rt: &impl AllocGlobal, state: &mut State) -> Result<(), Fail> {
+    let engine = engine(1)?;
+    let row = row(1)?;
+    let letter = letter(rt, 1)?;
+    let job = Job {
+        engine,
+        letter,
+        row,
+        stage: Stage::Taken,
+    };
+    change(state, Change::PutJob(job))
+}
+
+fn put_graph(rt: &impl AllocGlobal, state: &mut State) -> Result<(), Fail> {
+    let put = graph(rt)?;
+    change(state, Change::PutGraph(put))
+}
+
+fn put_point(rt: &impl AllocGlobal, state: &mut State) -> Result<(), Fail> {
+    let stack = stack_name(rt, b's')?;
+    let point = Point {
+        stack,
+        node: 0,
+        inputs: Seq::new(rt.alloc()),
+        done: true,
+    };
+    change(state, Change::PutPoint(point))
+}
+
+/// Whether the stacks have these numbers, in the table's order.
+fn has_stacks(state: &State, wanted: &[u64]) -> bool {
+    let stacks = state.stacks();
+    if stacks.len() != wanted.len() {
+        return false;
+    }
+    for (i, stack) in stacks.iter().enumerate() {
+        if stack.no.get() != wanted[i] {
+            return false;
+        }
+    }
+    true
+}
+
+/// Puts three stacks, two of them of one name.
+fn put_stacks(rt: &impl AllocGlobal, state: &mut State) -> Result<(), Fail> {
+    put_stack(rt, state, b's', 1)?;
+    put_stack(rt, state, b't', 2)?;
+    put_stack(rt, state, b's', 3)
 }
 
 #[test]
 fn a_record_is_put_in_the_place_of_its_key(rt: HostRuntime) -> Result<(), Fail> {
     let mut state = State::new(rt.alloc());
-    for (name, no) in [(b's', 1), (b't', 2), (b's', 3)] {
-        let put = stack(&rt, name, no)?;
-        state.reserve(1)?;
-        state.apply(Change::PutStack(put));
-    }
-    shows(&rt, &state, &[3, 2])?;
-    shows(&rt, &state.copy()?, &[3, 2])
+    let put = put_stacks(&rt, &mut state);
+    let stands = has_stacks(&state, &[3, 2]);
+    let copied = match state.copy() {
+        Ok(copy) => has_stacks(&copy, &[3, 2]),
+        Err(_) => false,
+    };
+    put?;
+    assert!(rt; stands);
+    assert!(rt; copied);
+    Ok(())
+}
+
+/// Sends two letters and drops the first.
+fn send_and_drop(rt: &impl AllocGlobal, state: &mut State) -> Result<(), Fail> {
+    send(rt, state, 1)?;
+    send(rt, state, 2)?;
+    change(state, Change::Drop(LetterNo::new(1).ok_or("a number")?))
 }
 
 #[test]
-fn letters_and_jobs_come_and_go(rt: HostRuntime) -> Result<(), Fail> {
-    let mut changes = Batch::new(rt.alloc());
-    changes.push(Change::Send(letter(&rt, 1)?))?;
-    changes.push(Change::Send(letter(&rt, 2)?))?;
-    changes.push(Change::Drop(letter(&rt, 1)?.no))?;
-    changes.push(Change::Enlist(engine(1)?))?;
-    changes.push(Change::SetNumbers(Numbers::first()))?;
+fn a_dropped_letter_is_gone(rt: HostRuntime) -> Result<(), Fail> {
     let mut state = State::new(rt.alloc());
-    state.reserve(changes.len())?;
-    state.apply_all(changes);
-    assert_eq!(rt; state.letters().len(), 1);
-    assert_eq!(rt; state.live(), [engine(1)?].as_slice());
-    assert_eq!(rt; state.next().row, Next::first());
-    holds_and_ends(&rt, &mut state)
+    let sent = send_and_drop(&rt, &mut state);
+    let waiting = state.letters().len();
+    sent?;
+    assert_eq!(rt; waiting, 1);
+    Ok(())
 }
 
-fn holds_and_ends(rt: &(impl Abort + AllocGlobal), state: &mut State) -> Result<(), Fail> {
-    let job = Job {
-        engine: engine(1)?,
-        letter: letter(rt, 1)?,
-        row: row(1)?,
-        stage: Stage::Taken,
-    };
-    state.reserve(2)?;
-    state.apply(Change::PutJob(job.copy()?));
-    assert!(rt; state.job(&engine(1)?).is_some());
-    state.apply(Change::EndJob(engine(1)?));
-    assert!(rt; state.job(&engine(1)?).is_none());
+/// Whether a job is held, and then ended.
+fn held_and_ended(rt: &impl AllocGlobal, state: &mut State) -> Result<(bool, bool), Fail> {
+    let engine = engine(1)?;
+    hold(rt, state)?;
+    let held = state.job(&engine).is_some();
+    change(state, Change::EndJob(engine))?;
+    Ok((held, state.job(&engine).is_none()))
+}
+
+#[test]
+fn a_job_is_held_until_it_ends(rt: HostRuntime) -> Result<(), Fail> {
+    let mut state = State::new(rt.alloc());
+    let seen = held_and_ended(&rt, &mut state);
+    assert_eq!(rt; seen?, (true, true));
+    Ok(())
+}
+
+/// Enlists an engine and sets the numbers.
+fn opening(rt: &impl AllocGlobal) -> Result<Batch<Change>, Fail> {
+    let engine = engine(1)?;
+    let mut changes = Batch::new(rt.alloc());
+    changes.push(Change::Enlist(engine))?;
+    changes.push(Change::SetNumbers(Numbers::first()))?;
+    Ok(changes)
+}
+
+fn open(rt: &impl AllocGlobal, state: &mut State) -> Result<(), Fail> {
+    let changes = opening(rt)?;
+    if state.reserve(changes.len()).is_ok() {
+        state.apply_all(changes);
+    }
     Ok(())
 }
 
 #[test]
-fn a_point_is_put_into_its_graph(rt: HostRuntime) -> Result<(), Fail> {
+fn changes_are_made_in_order(rt: HostRuntime) -> Result<(), Fail> {
     let mut state = State::new(rt.alloc());
-    let point = Point {
-        stack: stack_name(&rt, b's')?,
-        node: 0,
-        inputs: Seq::new(rt.alloc()),
-        done: true,
-    };
-    state.reserve(2)?;
-    state.apply(Change::PutGraph(graph(&rt)?.copy()?));
-    state.apply(Change::PutPoint(point.copy()?));
-    let done = match state.graph(&stack_name(&rt, b's')?) {
-        Some(graph) => graph.points.as_slice()[0].done,
+    let opened = open(&rt, &mut state);
+    let live = state.live().len();
+    let row = state.next().row;
+    opened?;
+    assert_eq!(rt; live, 1);
+    assert_eq!(rt; row, Next::first());
+    Ok(())
+}
+
+/// Puts a graph and its node's point.
+fn put_both(rt: &impl AllocGlobal, state: &mut State) -> Result<(), Fail> {
+    put_graph(rt, state)?;
+    put_point(rt, state)
+}
+
+/// Whether each node of the stack's graph is done.
+fn is_done(state: &State, stack: &StackName) -> bool {
+    match state.graph(stack) {
+        Some(graph) => graph.points.as_slice().iter().all(|point| point.done),
         None => false,
-    };
+    }
+}
+
+#[test]
+fn a_point_is_put_into_its_graph(rt: HostRuntime) -> Result<(), Fail> {
+    let name = stack_name(&rt, b's')?;
+    let mut state = State::new(rt.alloc());
+    let put = put_both(&rt, &mut state);
+    let done = is_done(&state, &name);
+    put?;
     assert!(rt; done);
     Ok(())
 }
