@@ -14,7 +14,7 @@ use Rattle.core_state.specs.State.{StateData}
 use Rattle.core_state.specs.Steps.{CommandStep, QuietTurn, AskingTurn, PollingTurn, UnstoredTurn, IsNote}
 use Rattle.core_state.specs.Turns.{Creating, token_of, created_with}
 use Rattle.provider.specs.Table.{TokenState}
-use Rattle.provider.specs.Cloud.{Cloud, state_of}
+use Rattle.provider.specs.Cloud.{Cloud, IsAlive, state_of}
 use Rattle.provider.specs.Moves.{Answers, Rests}
 use Rattle.core_laws.specs.Opening.{opened, empty_opening}
 use Rattle.core_laws.specs.Runs.{Run}
@@ -37,6 +37,11 @@ NextIsThere = (s : StateData) (h : List Entry) → Run opened s h → (e : ℕ) 
 abbrev pub PolledIsAlive : Type 0
 PolledIsAlive = (first : Token → TokenState) (s : StateData) (h : List Entry) → Run opened s h
     → (e : ℕ) (k : Creating s e Polling) → AllAlive (could first h (token_of k.row))
+
+-- so it is there in every cloud that shows one of them
+abbrev pub PolledIsThere : Type 0
+PolledIsThere = (first : Token → TokenState) (s : StateData) (h : List Entry) (cloud : Cloud) → Run opened s h → Agrees first h cloud
+    → (e : ℕ) (k : Creating s e Polling) → IsAlive cloud (token_of k.row)
 
 -- at first each token is in its state
 abbrev pub FirstAgrees : Type 0
