@@ -29,3 +29,4 @@ pub mod RunTold
 pub mod Further
 pub mod Staying
 pub mod Sounds
+pub mod Examples

@@ -20,6 +20,13 @@ use Rattle.core_laws.specs.Opening.{opened}
 use Rattle.core_laws.specs.Runs.{Run, begins, goes_on}
 use Rattle.core_laws.specs.Could.{could, AllAlive}
 use Rattle.core_laws.specs.Asked.{HasNoCall}
+use Rattle.std.specs.Prelude.{Option, Some, None, IsSome, option_map}
+use Rattle.provider.specs.declared.alive.Alive.{Alive}
+use Rattle.provider.specs.Table.{Living}
+use Rattle.provider.specs.Cloud.{entry_of, living_of, state_of}
+use Rattle.core_laws.specs.Laws.{PolledIsThere}
+use Rattle.core_laws.proofs.Apart.{contained}
+use Rattle.core_laws.proofs.NextFits.{All-at}
 use Rattle.core_laws.proofs.Rows.{same_some, job-key, job_put, job_cut}
 use Rattle.core_laws.proofs.Coulds.{could-silent, could-called, begun-alive, polled-alive}
 use Rattle.core_laws.proofs.Going.{Going}
@@ -143,3 +150,12 @@ run_polled first s h (goes_on mid last cs before after all run step free is made
 pub polled_is_alive : (first : Token → TokenState) (s : StateData) (h : List Entry) → Run opened s h → (e : ℕ) (k : Creating s e Polling) → AllAlive (could first h (token_of k.row))
 polled_is_alive first s h run e k =
     (run_polled first s h run).alive e k.job k.row k.works.its k.works.stage_is (subst (λ (n : ℕ). row_at s.rows n ≡ Some k.row) (sym k.its_row) k.found)
+
+there : (x : Option Alive) (f : Alive → Living) → IsSome (option_map f x) → IsSome x
+there None f is = is
+there (Some it) f is = refl
+
+pub polled_is_there : PolledIsThere
+polled_is_there first s h cloud run agrees e k =
+    let (i, at) = contained (could first h (token_of k.row)) (state_of cloud (token_of k.row)) (agrees (token_of k.row)) in
+    there (entry_of cloud (token_of k.row)) (living_of (cloud.leaving (token_of k.row))) (All-at IsSome (could first h (token_of k.row)) i (state_of cloud (token_of k.row)) (polled_is_alive first s h run e k) at)

@@ -71,7 +71,8 @@ pub record IsLastFactOf (o : Opening) (h : List Entry) (stack need : List ℕ) (
 
 -- the step called nobody, and the item of the newest plan has that fault
 pub record CausedByPlan (o : Opening) (before : List Entry) (by : Actor) (stack : List ℕ) (cause : Cause) : Type 0 where
-  pub silent : (token : Token) (request : Request) (given : Answered) → ¬ EndsWithCall by before token request given
+  pub silent : (token : Token) (request : Request) (given : Answered)
+      → ¬ EndsWithCall by before token request given
   pub latest : Latest
   pub is_newest : newest o before stack ≡ Some latest
   pub plan : PlanData

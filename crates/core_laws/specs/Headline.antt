@@ -21,7 +21,8 @@ use Rattle.core_laws.specs.Stir.{Stir}
 -- what holds of the history so far
 pub record AtPrefix (o : Opening) (h : List Entry) : Type 0 where
   -- where the newest traversal is marked Complete, what is alive is what its plan asks for
-  pub complete : (stack : List ℕ) (it : Latest) → newest o h stack ≡ Some it → mark_of o h stack ≡ Some Complete → Fits o h stack (plan_of it.plan)
+  pub complete : (stack : List ℕ) (it : Latest) → newest o h stack ≡ Some it
+      → mark_of o h stack ≡ Some Complete → Fits o h stack (plan_of it.plan)
   -- every alive resource is named by a stored row
   pub named : IsNamed o h
 
@@ -35,14 +36,18 @@ pub record IsOfNewest (o : Opening) (before : List Entry) (stack : List ℕ) (tr
 -- what an entry says, by the history before it
 pub record FitsIn (o : Opening) (before : List Entry) (e : Entry) : Type 0 where
   -- only the newest traversal is marked, and once
-  pub marks : (stack : List ℕ) (trav : ℕ) (act : Act) (cause : Option Cause) → e.what ≡ what.Mark stack trav act cause → IsOfNewest o before stack trav
+  pub marks : (stack : List ℕ) (trav : ℕ) (act : Act) (cause : Option Cause)
+      → e.what ≡ what.Mark stack trav act cause → IsOfNewest o before stack trav
   -- a mark with a cause is caused
-  pub causes : (stack : List ℕ) (trav : ℕ) (act : Act) (cause : Cause) → e.what ≡ what.Mark stack trav act (Some cause) → IsCaused o before e.by stack cause
+  pub causes : (stack : List ℕ) (trav : ℕ) (act : Act) (cause : Cause)
+      → e.what ≡ what.Mark stack trav act (Some cause) → IsCaused o before e.by stack cause
   -- nobody is called for a stack that is marked Complete
-  pub quiet : (token : Token) (request : Request) (given : Answered) → e.what ≡ what.Call token request given → mark_of o before token.stack ≢ Some Complete
+  pub quiet : (token : Token) (request : Request) (given : Answered) → e.what ≡ what.Call token request given
+      → mark_of o before token.stack ≢ Some Complete
 
 pub record Headline (o : Opening) (h : List Entry) (s : StateData) : Type 0 where
   pub prefixes : (n : ℕ) → n ≤ length h → AtPrefix o (take n h)
   pub entries : (n : ℕ) (e : Entry) → slice_get h n ≡ Some e → FitsIn o (take n h) e
   -- a stack without a mark still stirs
-  pub stirs : (name : List ℕ) (st : Stack) → stack_at s.stacks name ≡ Some st → st.status ≡ InProgress → Stir s st
+  pub stirs : (name : List ℕ) (st : Stack) → stack_at s.stacks name ≡ Some st → st.status ≡ InProgress
+      → Stir s st

@@ -14,7 +14,7 @@ use Rattle.core_state.specs.State.{StateData}
 use Rattle.core_state.specs.Steps.{CommandStep, QuietTurn, AskingTurn, PollingTurn, UnstoredTurn, IsNote}
 use Rattle.core_state.specs.Turns.{Creating, token_of, created_with}
 use Rattle.provider.specs.Table.{TokenState}
-use Rattle.provider.specs.Cloud.{Cloud, state_of}
+use Rattle.provider.specs.Cloud.{Cloud, IsAlive, state_of}
 use Rattle.provider.specs.Moves.{Answers, Rests}
 use Rattle.core_laws.specs.Opening.{opened, empty_opening}
 use Rattle.core_laws.specs.Runs.{Run}
@@ -38,9 +38,16 @@ abbrev pub PolledIsAlive : Type 0
 PolledIsAlive = (first : Token → TokenState) (s : StateData) (h : List Entry) → Run opened s h
     → (e : ℕ) (k : Creating s e Polling) → AllAlive (could first h (token_of k.row))
 
+-- so it is there in every cloud that shows one of them
+abbrev pub PolledIsThere : Type 0
+PolledIsThere = (first : Token → TokenState) (s : StateData) (h : List Entry) (cloud : Cloud) → Run opened s h
+    → Agrees first h cloud
+    → (e : ℕ) (k : Creating s e Polling) → IsAlive cloud (token_of k.row)
+
 -- at first each token is in its state
 abbrev pub FirstAgrees : Type 0
-FirstAgrees = (first : Token → TokenState) (cloud : Cloud) → ((t : Token) → state_of cloud t ≡ first t) → Agrees first [] cloud
+FirstAgrees = (first : Token → TokenState) (cloud : Cloud) → ((t : Token) → state_of cloud t ≡ first t)
+    → Agrees first [] cloud
 
 -- a call with its answer, and entries behind it that tell of none
 abbrev pub CallAgrees : Type 0
@@ -68,8 +75,10 @@ pub record StepsTell (s : StateData) (cs : List Change) (es : List Entry) : Type
 
 -- every run from an empty opening has the headline
 abbrev pub RunsHaveHeadline : Type 0
-RunsHaveHeadline = (leaving : Token → Bool) (s : StateData) (h : List Entry) → Run opened s h → Headline (empty_opening leaving) h s
+RunsHaveHeadline = (leaving : Token → Bool) (s : StateData) (h : List Entry) → Run opened s h
+    → Headline (empty_opening leaving) h s
 
 -- every run from an empty opening is sound
 abbrev pub RunsAreSound : Type 0
-RunsAreSound = (leaving : Token → Bool) (s : StateData) (h : List Entry) → Run opened s h → Sound (empty_opening leaving) h s
+RunsAreSound = (leaving : Token → Bool) (s : StateData) (h : List Entry) → Run opened s h
+    → Sound (empty_opening leaving) h s

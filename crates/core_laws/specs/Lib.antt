@@ -20,4 +20,5 @@ pub mod MailFits
 pub mod MarkFits
 pub mod RowsAgree
 pub mod Sound
+pub mod Example
 pub mod Laws

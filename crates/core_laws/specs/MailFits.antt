@@ -36,21 +36,27 @@ pub record JobFits (s : StateData) (j : Job) (st : Stack) (g : Graph) (node : No
   pub ready : IsReady g j.letter.node
   pub open_ : ¬ IsDone g j.letter.node
   pub target : IsTarget s.rows st.name node j.row
-  pub deletes : (r : Row) → (j.stage ≡ Asking) ⊎ (j.stage ≡ Polling) → row_at s.rows j.row ≡ Some r → (r.act ≡ Delete) ↔ (node ≡ C j.row)
+  pub deletes : (r : Row) → (j.stage ≡ Asking) ⊎ (j.stage ≡ Polling) → row_at s.rows j.row ≡ Some r
+      → (r.act ≡ Delete) ↔ (node ≡ C j.row)
   pub ends_update : (name : List ℕ) (n : ℕ) → node ≡ U name n → j.stage ≡ Ending → HasMade s j
-  pub ends_cleanup : (n : ℕ) (r : Row) → node ≡ C n → j.stage ≡ Ending → row_at s.rows j.row ≡ Some r → IsWanted st r
+  pub ends_cleanup : (n : ℕ) (r : Row) → node ≡ C n → j.stage ≡ Ending → row_at s.rows j.row ≡ Some r
+      → IsWanted st r
 
 pub record JobsFit (s : StateData) : Type 0 where
-  pub under_way : (e : ℕ) (j : Job) → job_at s.jobs e ≡ Some j → (j.stage ≡ Asking) ⊎ (j.stage ≡ Polling) → IsUnderWay s j
-  pub fresh : (e : ℕ) (j : Job) (st : Stack) → job_at s.jobs e ≡ Some j → stack_at s.stacks j.letter.stack ≡ Some st → st.trav ≡ j.letter.trav
+  pub under_way : (e : ℕ) (j : Job) → job_at s.jobs e ≡ Some j → (j.stage ≡ Asking) ⊎ (j.stage ≡ Polling)
+      → IsUnderWay s j
+  pub fresh : (e : ℕ) (j : Job) (st : Stack) → job_at s.jobs e ≡ Some j
+      → stack_at s.stacks j.letter.stack ≡ Some st → st.trav ≡ j.letter.trav
       → (g : Graph) × (node : Node) × Names s j.letter st g node × JobFits s j st g node
 
 -- a letter that isn't stale names a ready node
 pub record LettersFit (s : StateData) : Type 0 where
-  pub fresh : (n : ℕ) (l : Letter) (st : Stack) → letter_at s.letters n ≡ Some l → stack_at s.stacks l.stack ≡ Some st → st.trav ≡ l.trav
+  pub fresh : (n : ℕ) (l : Letter) (st : Stack) → letter_at s.letters n ≡ Some l
+      → stack_at s.stacks l.stack ≡ Some st → st.trav ≡ l.trav
       → (g : Graph) × (node : Node) × Names s l st g node × IsReady g l.node
 
 -- in a traversal without a mark each node that is ready and not done is covered
 pub record Covered (s : StateData) : Type 0 where
-  pub each : (name : List ℕ) (st : Stack) (g : Graph) (i : ℕ) (node : Node) → stack_at s.stacks name ≡ Some st → st.status ≡ InProgress → graph_at s.graphs name ≡ Some g
+  pub each : (name : List ℕ) (st : Stack) (g : Graph) (i : ℕ) (node : Node) → stack_at s.stacks name ≡ Some st
+      → st.status ≡ InProgress → graph_at s.graphs name ≡ Some g
       → IsNode g i node → IsReady g i → ¬ IsDone g i → IsCovered s st i node

@@ -16,9 +16,12 @@ use Rattle.core_laws.specs.RowsFit.{Resolves}
 
 -- a node on which the traversal failed
 pub data IsFailed (s : StateData) (st : Stack) (g : Graph) (i : ℕ) : Type 0 where
-  by_row : (name : List ℕ) (n : ℕ) (t : HasTarget s st name n) → IsNode g i (U name n) → t.row.status ≡ Failed → t.row.trav ≡ st.trav → IsFailed s st g i
-  by_clean_up : (n : ℕ) (r : Row) → IsNode g i (C n) → row_at s.rows n ≡ Some r → r.act ≡ Delete → r.status ≡ Failed → r.trav ≡ st.trav → IsFailed s st g i
-  by_plan : (name : List ℕ) (n : ℕ) (code : List ℕ) (path : List Step) → IsNode g i (U name n) → Resolves st g i name (Fault code path) → IsFailed s st g i
+  by_row : (name : List ℕ) (n : ℕ) (t : HasTarget s st name n) → IsNode g i (U name n) → t.row.status ≡ Failed
+      → t.row.trav ≡ st.trav → IsFailed s st g i
+  by_clean_up : (n : ℕ) (r : Row) → IsNode g i (C n) → row_at s.rows n ≡ Some r → r.act ≡ Delete
+      → r.status ≡ Failed → r.trav ≡ st.trav → IsFailed s st g i
+  by_plan : (name : List ℕ) (n : ℕ) (code : List ℕ) (path : List Step) → IsNode g i (U name n)
+      → Resolves st g i name (Fault code path) → IsFailed s st g i
 
 pub record HasFailure (s : StateData) (st : Stack) (g : Graph) : Type 0 where
   pub node : ℕ
@@ -28,7 +31,8 @@ pub record HasFailure (s : StateData) (st : Stack) (g : Graph) : Type 0 where
 
 pub record MarkFits (s : StateData) (st : Stack) (g : Graph) : Type 0 where
   pub complete : (st.status ≡ Complete) ↔ ((i : ℕ) (node : Node) → IsNode g i node → IsDone g i)
-  pub failing : (n : ℕ) (r : Row) → row_at s.rows n ≡ Some r → r.stack ≡ st.name → r.status ≡ Failed → r.trav ≡ st.trav → st.status ≡ Failed
+  pub failing : (n : ℕ) (r : Row) → row_at s.rows n ≡ Some r → r.stack ≡ st.name → r.status ≡ Failed
+      → r.trav ≡ st.trav → st.status ≡ Failed
   pub failed : st.status ≡ Failed → HasFailure s st g
   pub act : st.act ≢ Init
   pub deletes : (st.act ≡ Delete) ↔ (st.plan ≡ None)

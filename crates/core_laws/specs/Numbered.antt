@@ -31,7 +31,8 @@ row_of (C n) = n
 
 pub record GraphBelow (next : Numbers) (g : Graph) : Type 0 where
   pub nodes : (i : ℕ) (node : Node) → slice_get g.graph.nodes i ≡ Some node → row_of node < next.row
-  pub inputs : (i : ℕ) (p : Point) (x : Input) → slice_get g.points i ≡ Some p → Contains p.inputs x → x.row < next.row
+  pub inputs : (i : ℕ) (p : Point) (x : Input) → slice_get g.points i ≡ Some p → Contains p.inputs x
+      → x.row < next.row
 
 pub record LetterBelow (next : Numbers) (l : Letter) : Type 0 where
   pub no : l.no < next.letter

@@ -32,7 +32,8 @@ pub record StateFits (r : Row) (state : TokenState) : Type 0 where
   pub init : r.act ≡ Init → state ≡ None
   pub creating : r.act ≡ Create → r.status ≡ InProgress → (state ≡ None) ⊎ IsAliveAs r r.props state
   pub ready : r.status ≡ Complete → r.act ≢ Init → r.act ≢ Delete → IsReadyAs r state
-  pub updating : r.act ≡ Update → r.status ≡ InProgress → IsAliveAs r r.props state ⊎ IsAliveAs r (unwrap_or r.target r.props) state
+  pub updating : r.act ≡ Update → r.status ≡ InProgress
+      → IsAliveAs r r.props state ⊎ IsAliveAs r (unwrap_or r.target r.props) state
 
 -- a token that is leaving is that of a row at DELETE
 pub record IsSentAway (s : StateData) (t : Token) : Type 0 where
@@ -48,9 +49,14 @@ pub data IsGoing : TokenState → Type 0 where
 
 pub record RowsAgree (o : Opening) (h : List Entry) (s : StateData) : Type 0 where
   pub named : IsNamed o h
-  pub rows : (n : ℕ) (r : Row) (state : TokenState) → row_at s.rows n ≡ Some r → Contains (could (first_of o) h (token_of r)) state → StateFits r state
-  pub polled : (e : ℕ) (j : Job) (r : Row) (state : TokenState) → job_at s.jobs e ≡ Some j → j.stage ≡ Polling → row_at s.rows j.row ≡ Some r
-      → Contains (could (first_of o) h (token_of r)) state → r.act ≢ Delete → IsAliveAs r (unwrap_or r.target r.props) state
-  pub going : (e : ℕ) (j : Job) (r : Row) (state : TokenState) → job_at s.jobs e ≡ Some j → j.stage ≡ Polling → row_at s.rows j.row ≡ Some r
+  pub rows : (n : ℕ) (r : Row) (state : TokenState) → row_at s.rows n ≡ Some r
+      → Contains (could (first_of o) h (token_of r)) state → StateFits r state
+  pub polled : (e : ℕ) (j : Job) (r : Row) (state : TokenState) → job_at s.jobs e ≡ Some j → j.stage ≡ Polling
+      → row_at s.rows j.row ≡ Some r
+      → Contains (could (first_of o) h (token_of r)) state → r.act ≢ Delete
+      → IsAliveAs r (unwrap_or r.target r.props) state
+  pub going : (e : ℕ) (j : Job) (r : Row) (state : TokenState) → job_at s.jobs e ≡ Some j → j.stage ≡ Polling
+      → row_at s.rows j.row ≡ Some r
       → Contains (could (first_of o) h (token_of r)) state → r.act ≡ Delete → IsGoing state
-  pub leaving : (t : Token) (it : Living) → Contains (could (first_of o) h t) (Some it) → it.leaving ≡ true → IsSentAway s t
+  pub leaving : (t : Token) (it : Living) → Contains (could (first_of o) h t) (Some it) → it.leaving ≡ true
+      → IsSentAway s t

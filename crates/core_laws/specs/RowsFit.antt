@@ -66,7 +66,10 @@ pub record IsWanted (st : Stack) (r : Row) : Type 0 where
   pub planned : Contains (names_of (plan_of st.plan).items) r.name
 
 pub record RowsFit (s : StateData) (st : Stack) (g : Graph) : Type 0 where
-  pub begun : (i n : ℕ) (name : List ℕ) (t : HasTarget s st name n) → IsNode g i (U name n) → t.row.trav ≡ st.trav → t.row.act ≢ Init → IsBegun st g i name t.row
-  pub made : (i n : ℕ) (name : List ℕ) (t : HasTarget s st name n) → IsNode g i (U name n) → IsDone g i → IsMade st t.row
+  pub begun : (i n : ℕ) (name : List ℕ) (t : HasTarget s st name n) → IsNode g i (U name n)
+      → t.row.trav ≡ st.trav → t.row.act ≢ Init → IsBegun st g i name t.row
+  pub made : (i n : ℕ) (name : List ℕ) (t : HasTarget s st name n) → IsNode g i (U name n) → IsDone g i
+      → IsMade st t.row
   pub cleaned : (i n : ℕ) (r : Row) → IsNode g i (C n) → IsDone g i → row_at s.rows n ≡ Some r → IsWanted st r
-  pub kept : (i n : ℕ) (name : List ℕ) (t : HasTarget s st name n) → IsNode g i (U name n) → t.row.act ≢ Delete
+  pub kept : (i n : ℕ) (name : List ℕ) (t : HasTarget s st name n) → IsNode g i (U name n)
+      → t.row.act ≢ Delete

@@ -26,7 +26,8 @@ pub record Sound (o : Opening) (h : List Entry) (s : StateData) : Type 0 where
   pub chained : Chained s.rows
   pub locked : Locked s
   pub rows : (n : ℕ) (r : Row) → row_at s.rows n ≡ Some r → RowFits r
-  pub stacks : (name : List ℕ) (st : Stack) → stack_at s.stacks name ≡ Some st → StackFits s st (graph_or name (graph_at s.graphs name))
+  pub stacks : (name : List ℕ) (st : Stack) → stack_at s.stacks name ≡ Some st
+      → StackFits s st (graph_or name (graph_at s.graphs name))
   pub jobs : JobsFit s
   pub letters : LettersFit s
   pub covered : Covered s

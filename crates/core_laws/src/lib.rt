@@ -2,8 +2,10 @@
 //! each function has an empty body and stands for its clauses. It answers to `specs/Laws.antt`.
 #![tactic(auto)]
 
+mod example;
 mod runs;
 mod shown;
 
+pub use example::one_resource;
 pub use runs::{next_is_there, one_lives, polled_is_alive, runs_are_sound, runs_have_headline};
 pub use shown::{calls_agree, steps_tell};

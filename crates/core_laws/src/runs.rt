@@ -1,5 +1,5 @@
 //! What holds after every step of a run.
-ghost use Rattle.core_laws.specs.Laws.{OneLives, NextIsThere, PolledIsAlive, RunsAreSound, RunsHaveHeadline};
+ghost use Rattle.core_laws.specs.Laws.{OneLives, NextIsThere, PolledIsAlive, PolledIsThere, RunsAreSound, RunsHaveHeadline};
 
 /// The engine 1 is live in every run, and no other.
 pub fn one_lives()
@@ -11,9 +11,10 @@ pub fn next_is_there()
     ensures { NextIsThere }
 {}
 
-/// A resource that is polled is alive in each state in which it may be.
+/// A resource that is polled is alive in each state in which it may be, and so in the cloud.
 pub fn polled_is_alive()
-    ensures { PolledIsAlive }
+    ensures states { PolledIsAlive }
+    ensures there { PolledIsThere }
 {}
 
 /// Every run from an empty opening has the headline: marked Complete is only what fits, every alive
