@@ -5,3 +5,5 @@ pub mod Lowest
 pub mod Quiets
 pub mod Kept
 pub mod Refusals
+pub mod Headlines
+pub mod Idles

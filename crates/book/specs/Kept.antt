@@ -5,7 +5,8 @@ use Rattle.core_state.specs.declared.entry.Entry.{Entry}
 use Rattle.core_state.specs.declared.entry.What.{What}
 use Rattle.core_state.specs.declared.entry.What.TheVariants as what
 use Rattle.core_state.specs.State.{StateData}
-use Rattle.core_laws.specs.Opening.{opened}
+use Rattle.core_laws.specs.Headline.{Headline}
+use Rattle.core_laws.specs.Opening.{Opening, opened, first_of}
 use Rattle.core_laws.specs.Runs.{Run}
 use Rattle.core_laws.specs.Shown.{Agrees}
 use Rattle.provider.specs.declared.alive.Alive.{Alive}
@@ -74,3 +75,12 @@ pub record HasRun {P : Type 0} (cloud_of : P → Cloud) (b : Shown P) : Type 0 w
   pub run : Run opened b.state b.entries
   pub agrees : Agrees (state_of (cloud_of b.origin)) b.entries (cloud_of b.cloud)
   pub trace : (cloud_of b.cloud).trace ≡ (cloud_of b.origin).trace ++ calls_of b.entries
+
+-- what a run began with, beside the cloud of that moment
+abbrev pub opening_with : Cloud → Opening
+opening_with cloud = record { state = opened; alive = cloud.alive; leaving = cloud.leaving }
+
+-- the headline holds of the history, and the cloud is in a state that the history allows
+pub record HasHeadline {P : Type 0} (cloud_of : P → Cloud) (b : Shown P) : Type 0 where
+  pub headline : Headline (opening_with (cloud_of b.origin)) b.entries b.state
+  pub agrees : Agrees (first_of (opening_with (cloud_of b.origin))) b.entries (cloud_of b.cloud)

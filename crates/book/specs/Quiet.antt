@@ -14,6 +14,11 @@ use Rattle.book.specs.declared.turning.Turn.{Turn}
 use Rattle.book.specs.declared.turning.Turn.TheVariants as turn
 use Rattle.book.specs.Scenes.{IsWornBy}
 
+-- no letter waits, and there is no job
+pub record IsIdle (s : StateData) : Type 0 where
+  pub letters : s.letters ≡ []
+  pub jobs : s.jobs ≡ []
+
 -- the state and the history at one moment
 pub record Page : Type 0 where
   pub state : StateData

@@ -1,10 +1,12 @@
 //! The book: what it shows, and its calls.
 ghost use Rattle.std.specs.Prelude.{◌≡◌, ◌++◌, ◌∷◌, ◌↔◌, ◌-◌, ◌^◌, [], min, IsTrue, OnOk, OnErr, Contains};
+ghost use Rattle.book.specs.Quiet.{IsIdle};
 ghost use Rattle.core_state.specs.declared.entry.Actor.TheVariants.{Main};
 ghost use Rattle.core_state.specs.Steps.{IsNote};
 ghost use Rattle.core_laws.specs.Opening.{opened};
 ghost use Rattle.book.specs.Commands.{IsCommandBuilt, Commanded, number_of};
-ghost use Rattle.book.specs.Kept.{Shown, IsKept, IsSameBook, scene_of, HasOpened, HasRun};
+ghost use Rattle.book.specs.Kept.{Shown, IsKept, IsSameBook, scene_of, HasOpened, HasRun, HasHeadline};
+ghost use Rattle.provider.specs.Cloud.{HasNone};
 ghost use Rattle.book.specs.Scenes.{Turned};
 
 use crate::commanding::{StackCommand, create_stack, parts_of};
@@ -84,6 +86,8 @@ impl<P: Provider> Book<P> {
     pub fn turn(&mut self, e: EngineNo) -> Turn
         requires { Contains self.old.state.live e }
         ensures turned { Turned e (scene_of P.cloud self.old) (scene_of P.cloud self.new) result }
+        ensures idle { result ≡ Turn.Idle → IsIdle self.new.state }
+        ensures live { self.new.state.live ≡ self.old.state.live }
         ensures same { IsSameBook self.old self.new }
     {
         turn_of(
@@ -127,6 +131,7 @@ impl<P: Provider> Book<P> {
     pub fn entries(&self) -> &[Entry]
         ensures value { result.now ≡ self.now.entries }
         ensures run { HasRun P.cloud self.now }
+        ensures headline { HasNone (P.cloud self.now.origin) → HasHeadline P.cloud self.now }
     {
         self.entries.as_slice()
     }
@@ -146,16 +151,17 @@ impl<P: Provider> Book<P> {
         &self.opening.state
     }
 
-    /// The live engines, by rising number.
+    /// The live engines, by rising number. So far there is one.
     pub fn live(&self) -> &[EngineNo]
-        ensures { result.now ≡ self.now.state.live }
+        ensures value { result.now ≡ self.now.state.live }
+        ensures one { self.now.state.live ≡ 1 ∷ [] }
     {
         self.state.live()
     }
 
     /// Whether no letter waits and there is no job.
     pub fn is_idle(&self) -> bool
-        ensures { IsTrue result ↔ ((self.now.state.letters ≡ []) × (self.now.state.jobs ≡ [])) }
+        ensures { IsTrue result ↔ IsIdle self.now.state }
     {
         self.state.letters().is_empty() && self.state.jobs().is_empty()
     }
