@@ -82,7 +82,7 @@ module _ (first : StateData) (alive : List Alive) (leaving : List Token) (origin
         (silence_agrees (state_of origin) h es c d kept.agrees (λ token. ap (λ (x : Cloud). state_of x token) is_d) silent);
     trace = ap (λ (x : Cloud). x.trace) is_d ∙ kept.trace
         ∙ ap (λ (xs : List Traced). origin.trace ++ xs)
-            (sym (ap calls_of is_i ∙ calls_of-append h es ∙ ap (λ (xs : List Traced). calls_of h ++ xs) (calls_of-silent es silent) ∙ append-nil (calls_of h)));
+        (sym (ap calls_of is_i ∙ calls_of-append h es ∙ ap (λ (xs : List Traced). calls_of h ++ xs) (calls_of-silent es silent) ∙ append-nil (calls_of h)));
   }
 
   -- a step that tells of one call
@@ -103,6 +103,7 @@ module _ (first : StateData) (alive : List Alive) (leaving : List Token) (origin
   } where
     told_is : i ≡ h ++ call_entry e row asked given ∷ once.rest
     told_is = is_i ∙ ap (λ (xs : List Entry). h ++ xs) once.entries
+
     calls_are : calls_of i ≡ calls_of h ++ Called (token_of row) asked given ∷ []
     calls_are = ap calls_of told_is ∙ calls_of-append h (call_entry e row asked given ∷ once.rest)
         ∙ ap (λ (xs : List Traced). calls_of h ++ Called (token_of row) asked given ∷ xs) (calls_of-silent once.rest once.silent)
@@ -141,15 +142,15 @@ module _ (first : StateData) (alive : List Alive) (leaving : List Token) (origin
       → IsKept first alive leaving origin t i c
   kept_created s t h i c name plan k kept needless is_t is_i =
       grows_silently s t h i (created_entries s name plan k) (created_changes s name plan k) c c kept
-        (steps.command (steps.create name plan k refl refl)) needless
-        ((steps_tell s (created_changes s name plan k) (created_entries s name plan k)).command (steps.create name plan k refl refl)) is_t is_i refl
+      (steps.command (steps.create name plan k refl refl)) needless
+      ((steps_tell s (created_changes s name plan k) (created_entries s name plan k)).command (steps.create name plan k refl refl)) is_t is_i refl
 
   -- a note
   pub kept_noted : (s : StateData) (h i : List Entry) (c : Cloud) (it : What) → IsNote it → IsKept first alive leaving origin s h c
       → i ≡ h ++ record { by = Main; what = it } ∷ [] → IsKept first alive leaving origin s i c
   kept_noted s h i c it noted kept is_i =
       grows_silently s s h i (record { by = Main; what = it } ∷ []) [] c c kept (steps.note it noted refl refl) tt
-        ((steps_tell s [] (record { by = Main; what = it } ∷ [])).note Main it noted) refl is_i refl
+      ((steps_tell s [] (record { by = Main; what = it } ∷ [])).note Main it noted) refl is_i refl
 
   -- the page is the same
   unchanged : (s t : StateData) (h i : List Entry) (c : Cloud) → IsKept first alive leaving origin s h c → page t i ≡ page s h

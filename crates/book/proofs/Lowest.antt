@@ -31,20 +31,29 @@ none n o h = cc
 
 -- x, or the lowest of those behind it
 lower : (x : Letter) (xs : List Letter) → ((m : Letter) × IsLowest xs m) ⊎ (xs ≡ []) → (l : Letter) × IsLowest (x ∷ xs) l
-lower x xs (inr is) = (x, record {
-  waits = first x xs;
-  lowest = λ n o found less. none n o (rw (← is, ← behind x xs n (λ e. absurd (omega (arith, e, less)))) found);
-})
+lower x xs (inr is) = (
+  x,
+  record {
+    waits = first x xs;
+    lowest = λ n o found less. none n o (rw (← is, ← behind x xs n (λ e. absurd (omega (arith, e, less)))) found);
+  },
+)
 lower x xs (inl (m, is)) = by (nat_lt m.no x.no) refl where
   by : (b : Bool) → nat_lt m.no x.no ≡ b → (l : Letter) × IsLowest (x ∷ xs) l
-  by true e = let lt : m.no < x.no = ltb-true m.no x.no e in (m, record {
-    waits = behind x xs m.no (λ same. omega (arith, lt, same)) ∙ is.waits;
-    lowest = λ n o found less. is.lowest n o (sym (behind x xs n (λ same. omega (arith, lt, same, less))) ∙ found) less;
-  })
-  by false e = let le : x.no ≤ m.no = ltb-false m.no x.no e in (x, record {
-    waits = first x xs;
-    lowest = λ n o found less. is.lowest n o (sym (behind x xs n (λ same. omega (arith, same, less))) ∙ found) (omega (arith, le, less));
-  })
+  by true e = let lt : m.no < x.no = ltb-true m.no x.no e in (
+    m,
+    record {
+      waits = behind x xs m.no (λ same. omega (arith, lt, same)) ∙ is.waits;
+      lowest = λ n o found less. is.lowest n o (sym (behind x xs n (λ same. omega (arith, lt, same, less))) ∙ found) less;
+    },
+  )
+  by false e = let le : x.no ≤ m.no = ltb-false m.no x.no e in (
+    x,
+    record {
+      waits = first x xs;
+      lowest = λ n o found less. is.lowest n o (sym (behind x xs n (λ same. omega (arith, same, less))) ∙ found) (omega (arith, le, less));
+    },
+  )
 
 pub lowest_of : (letters : List Letter) → (letters ≡ [] → ⊥) → (l : Letter) × IsLowest letters l
 lowest_of [] some = absurd (some refl)

@@ -65,6 +65,7 @@ scene_of cloud_of b = scene b.state b.entries (cloud_of b.cloud)
 
 -- a book over this cloud on which nothing has been done
 pub record HasOpened {P : Type 0} (cloud : P) (b : Shown P) : Type 0 where
+  pub opening : b.opening ≡ opened
   pub state : b.state ≡ opened
   pub entries : b.entries ≡ []
   pub cloud_is : b.cloud ≡ cloud

@@ -8,8 +8,8 @@ ghost use Rattle.book.specs.Scenes.{scene, Turned};
 ghost use Rattle.check_steps.specs.Refusals.{IsTurnRefusal};
 
 use crate::making::{make_room, make_within};
-use crate::turning::Turn;
 use crate::tokens::token_of;
+use crate::turning::Turn;
 use check_steps::{asked, job_row};
 use core_state::{Entry, Made, Roomed, State};
 use heat_plan::{Answered, EngineNo, Refusal, Token};

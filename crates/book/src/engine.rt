@@ -56,7 +56,7 @@ impl<P: Provider> Model for Book<P> {
     } };
 
     ghost invariant = { λ b. IsKept b.opening.state.state b.opening.alive b.opening.leaving
-      (P.cloud b.origin.value) b.state.state b.entries.items (P.cloud b.cloud) };
+        (P.cloud b.origin.value) b.state.state b.entries.items (P.cloud b.cloud) };
 }
 
 impl<P: Provider> Book<P> {
@@ -127,11 +127,16 @@ impl<P: Provider> Book<P> {
         Ok(())
     }
 
-    /// The history since the opening.
-    pub fn entries(&self) -> &[Entry]
-        ensures value { result.now ≡ self.now.entries }
+    /// What every book keeps: its history is that of a run, which the cloud has followed; and where the
+    /// cloud had nothing at the opening, the headline holds of it. It does nothing.
+    pub fn promises(&self)
         ensures run { HasRun P.cloud self.now }
         ensures headline { HasNone (P.cloud self.now.origin) → HasHeadline P.cloud self.now }
+    {}
+
+    /// The history since the opening.
+    pub fn entries(&self) -> &[Entry]
+        ensures { result.now ≡ self.now.entries }
     {
         self.entries.as_slice()
     }

@@ -13,8 +13,8 @@ ghost use Rattle.book.specs.Scenes.{scene, Turned};
 ghost use Rattle.check_steps.specs.Refusals.{IsTurnRefusal};
 
 use crate::making::{make, make_room, make_within};
-use crate::turning::Turn;
 use crate::tokens::token_of;
+use crate::turning::Turn;
 use check_steps::{job_row, polled};
 use core_state::{Actor, Entry, Made, Roomed, State, What};
 use heat_plan::{Answered, EngineNo, Refusal, Request, Token};
@@ -107,8 +107,22 @@ fn poll_prepared<P: Provider>(
             make_within(state, entries, outcomes.failed);
             Turn::Stepped
         }
-        Poll::Ready(facts) => learn(alloc, state, entries, e, outcomes.token, Answered::Ready(facts)),
-        Poll::Broken(code) => learn(alloc, state, entries, e, outcomes.token, Answered::Broken(code)),
+        Poll::Ready(facts) => learn(
+            alloc,
+            state,
+            entries,
+            e,
+            outcomes.token,
+            Answered::Ready(facts),
+        ),
+        Poll::Broken(code) => learn(
+            alloc,
+            state,
+            entries,
+            e,
+            outcomes.token,
+            Answered::Broken(code),
+        ),
         Poll::Memory => Turn::Memory,
     }
 }

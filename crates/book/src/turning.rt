@@ -83,11 +83,7 @@ fn take_first(alloc: Global, state: &mut State, entries: &mut Roomed<Entry>, e: 
 }
 
 // Makes a step that asks nobody.
-fn make_quietly(
-    state: &mut State,
-    entries: &mut Roomed<Entry>,
-    made: Result<Made, Refusal>,
-) -> Turn
+fn make_quietly(state: &mut State, entries: &mut Roomed<Entry>, made: Result<Made, Refusal>) -> Turn
     ensures { MadeQuietly
         (page state.old.state entries.old.items) (page state.new.state entries.new.items) made result }
 {

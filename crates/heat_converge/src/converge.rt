@@ -1,4 +1,10 @@
 //! The top call: from the words and the bytes that come in to the bytes that go out.
+ghost use Rattle.std.specs.Prelude.{◌≡◌, ◌≢◌, ◌∷◌, ◌↔◌, [], codes};
+ghost use Rattle.heat_value.specs.Counts.{Rose};
+ghost use Rattle.provider.specs.Cloud.{HasNone};
+ghost use Rattle.core_laws.specs.Opening.{opened};
+ghost use Rattle.book.specs.Kept.{Shown, HasOpened, HasRun, HasHeadline};
+ghost use Rattle.heat_converge.specs.Drives.{streams, Drove};
 
 use crate::drive::drive;
 use crate::exit::Exit;
@@ -28,7 +34,28 @@ pub fn converge<S: Source, K: Sink, P: Provider>(
     source: &mut S,
     sink: &mut K,
     cloud: P,
-) -> Outcome<P> {
+) -> Outcome<P>
+    // Usage comes exactly where the words aren't the form; nothing is then read, written or asked.
+    ensures usage { (result.status ≡ Exit.Usage) ↔ (words.now ≢ codes "drive" ∷ []) }
+    ensures source { result.status ≡ Exit.Usage → source.new ≡ source.old }
+    ensures sink { result.status ≡ Exit.Usage → sink.new ≡ sink.old }
+    ensures unopened { (p : P) → result.end ≡ End.Unopened p → p ≡ cloud }
+
+    // Faults of the outside come only where a count rose.
+    ensures read { result.status ≡ Exit.ReadFault → Rose (S.faults source.old) (S.faults source.new) }
+    ensures write { result.status ≡ Exit.WriteFault → Rose (K.faults sink.old) (K.faults sink.new) }
+
+    // The history is that of the lines read, and what is written is its text.
+    ensures drove { (b : Shown P) → result.end ≡ End.Book b
+        → Drove (streams (S.left source.old) (K.holds sink.old))
+            (streams (S.left source.new) (K.holds sink.new)) opened b.state b.entries result.status }
+
+    // The history is a run's, its calls are the cloud's trace, and the headline holds of it.
+    ensures run { (b : Shown P) → result.end ≡ End.Book b → HasRun P.cloud b }
+    ensures origin { (b : Shown P) → result.end ≡ End.Book b → b.origin ≡ cloud }
+    ensures headline { (b : Shown P) → result.end ≡ End.Book b → HasNone (P.cloud cloud)
+        → HasHeadline P.cloud b }
+{
     if words_of(words).is_err() {
         return Outcome {
             status: Exit::Usage,
@@ -50,9 +77,23 @@ fn driven<S: Source, K: Sink, P: Provider>(
     source: &mut S,
     sink: &mut K,
     book: Book<P>,
-) -> Outcome<P> {
+) -> Outcome<P>
+    requires { (cloud : P) × HasOpened cloud book }
+    ensures status { result.status ≢ Exit.Usage }
+    ensures read { result.status ≡ Exit.ReadFault → Rose (S.faults source.old) (S.faults source.new) }
+    ensures write { result.status ≡ Exit.WriteFault → Rose (K.faults sink.old) (K.faults sink.new) }
+    ensures drove { (b : Shown P) → result.end ≡ End.Book b
+        → Drove (streams (S.left source.old) (K.holds sink.old))
+            (streams (S.left source.new) (K.holds sink.new)) opened b.state b.entries result.status }
+    ensures run { (b : Shown P) → result.end ≡ End.Book b → HasRun P.cloud b }
+    ensures origin { (b : Shown P) → result.end ≡ End.Book b → b.origin ≡ book.origin }
+    ensures headline { (b : Shown P) → result.end ≡ End.Book b → HasNone (P.cloud b.origin)
+        → HasHeadline P.cloud b }
+    ensures book { (p : P) → result.end ≢ End.Unopened p }
+{
     let mut book = book;
     let status = drive(alloc, source, sink, &mut book);
+    book.promises();
     Outcome {
         status,
         end: End::Book(book),

@@ -1,4 +1,10 @@
 //! Reads a script line by line, does each, and writes what it added to the text.
+ghost use Rattle.std.specs.Prelude.{◌≡◌, ◌≤◌, [], length, IsErrOf};
+ghost use Rattle.heat_value.specs.Counts.{Rose};
+ghost use Rattle.report.specs.Text.{text_after};
+ghost use Rattle.book.specs.Kept.{IsSameBook};
+ghost use Rattle.book.specs.Quiet.{page};
+ghost use Rattle.heat_converge.specs.Drives.{streams, Drove, LineAnswered, Written};
 
 use crate::exit::Exit;
 use crate::line::do_line;
@@ -14,7 +20,16 @@ pub fn drive<S: Source, K: Sink, P: Provider>(
     source: &mut S,
     sink: &mut K,
     book: &mut Book<P>,
-) -> Exit {
+) -> Exit
+    requires fresh { book.old.entries ≡ [] }
+    requires opened { book.old.state ≡ book.old.opening }
+    ensures drove { Drove (streams (S.left source.old) (K.holds sink.old))
+        (streams (S.left source.new) (K.holds sink.new))
+        book.old.opening book.new.state book.new.entries result }
+    ensures read { result ≡ Exit.ReadFault → Rose (S.faults source.old) (S.faults source.new) }
+    ensures write { result ≡ Exit.WriteFault → Rose (K.faults sink.old) (K.faults sink.new) }
+    ensures same { IsSameBook book.old book.new }
+{
     let mut reader = LineReader::new(alloc);
     let mut number = 0;
     loop {
@@ -40,7 +55,14 @@ fn answer<K: Sink, P: Provider>(
     book: &mut Book<P>,
     number: u64,
     line: &[u8],
-) -> Result<(), Exit> {
+) -> Result<(), Exit>
+    ensures answered { LineAnswered number line.now book.old.opening
+        (page book.old.state book.old.entries) (page book.new.state book.new.entries)
+        (K.holds sink.old) (K.holds sink.new) result }
+    ensures later { K.faults sink.old ≤ K.faults sink.new }
+    ensures write { IsErrOf result Exit.WriteFault → Rose (K.faults sink.old) (K.faults sink.new) }
+    ensures same { IsSameBook book.old book.new }
+{
     let from = book.entries().len();
     do_line(alloc, book, number, line)?;
     write_from(alloc, sink, book, from)
@@ -52,7 +74,13 @@ fn write_from<K: Sink, P: Provider>(
     sink: &mut K,
     book: &Book<P>,
     from: usize,
-) -> Result<(), Exit> {
+) -> Result<(), Exit>
+    requires { from ≤ length book.now.entries }
+    ensures written { Written (K.holds sink.old) (K.holds sink.new)
+        (text_after book.now.opening book.now.entries from) result }
+    ensures later { K.faults sink.old ≤ K.faults sink.new }
+    ensures write { IsErrOf result Exit.WriteFault → Rose (K.faults sink.old) (K.faults sink.new) }
+{
     let Ok(text) = lines_of(alloc, book.opening(), book.entries(), from) else {
         return Err(Exit::Memory);
     };

@@ -1,4 +1,11 @@
 //! What one line of the script does.
+ghost use Rattle.std.specs.Prelude.{None};
+ghost use Rattle.core_state.specs.declared.entry.What.TheVariants as what;
+ghost use Rattle.core_laws.specs.Runs.{HasNoNeeds};
+ghost use Rattle.book.specs.Kept.{IsSameBook};
+ghost use Rattle.book.specs.Quiet.{page};
+ghost use Rattle.heat_converge.specs.Drives.{LineDone};
+ghost use Rattle.heat_converge.specs.Notes.{HasCreatedOr, HasListedOr, HasRunOr, HasNoted};
 
 use crate::exit::Exit;
 use crate::ran::{Ran, turns, work};
@@ -16,7 +23,11 @@ pub fn do_line<P: Provider>(
     book: &mut Book<P>,
     number: u64,
     line: &[u8],
-) -> Result<(), Exit> {
+) -> Result<(), Exit>
+    ensures done { LineDone number line.now
+        (page book.old.state book.old.entries) (page book.new.state book.new.entries) result }
+    ensures same { IsSameBook book.old book.new }
+{
     match Command::read(alloc, line) {
         Ok(Command::Blank) => Ok(()),
         Ok(Command::Create(name, plan)) => create(alloc, book, number, name, plan),
@@ -34,7 +45,12 @@ fn create<P: Provider>(
     number: u64,
     name: StackName,
     plan: Plan,
-) -> Result<(), Exit> {
+) -> Result<(), Exit>
+    requires { HasNoNeeds plan }
+    ensures done { HasCreatedOr number name plan
+        (page book.old.state book.old.entries) (page book.new.state book.new.entries) result }
+    ensures same { IsSameBook book.old book.new }
+{
     match book.command(StackCommand::Create(name, plan)) {
         Ok(_) => Ok(()),
         Err(refusal) => match refusal.code() {
@@ -45,7 +61,11 @@ fn create<P: Provider>(
 }
 
 // Makes turns until the book is idle, and notes how many.
-fn run<P: Provider>(book: &mut Book<P>) -> Result<(), Exit> {
+fn run<P: Provider>(book: &mut Book<P>) -> Result<(), Exit>
+    ensures done { HasRunOr
+        (page book.old.state book.old.entries) (page book.new.state book.new.entries) result }
+    ensures same { IsSameBook book.old book.new }
+{
     let most = work(book.state());
     match turns(book, most) {
         Ran::Idle(turns) => ran(book, true, turns),
@@ -56,7 +76,11 @@ fn run<P: Provider>(book: &mut Book<P>) -> Result<(), Exit> {
 }
 
 // Notes how a run ended.
-fn ran<P: Provider>(book: &mut Book<P>, idle: bool, turns: u128) -> Result<(), Exit> {
+fn ran<P: Provider>(book: &mut Book<P>, idle: bool, turns: u128) -> Result<(), Exit>
+    ensures done { HasNoted (what.Ran idle turns)
+        (page book.old.state book.old.entries) (page book.new.state book.new.entries) result }
+    ensures same { IsSameBook book.old book.new }
+{
     told(book.note(What::Ran { idle, turns }))
 }
 
@@ -66,7 +90,11 @@ fn list<P: Provider>(
     book: &mut Book<P>,
     number: u64,
     stack: StackName,
-) -> Result<(), Exit> {
+) -> Result<(), Exit>
+    ensures done { HasListedOr number stack
+        (page book.old.state book.old.entries) (page book.new.state book.new.entries) result }
+    ensures same { IsSameBook book.old book.new }
+{
     if book.state().stack(&stack).is_none() {
         return refuse(alloc, book, number, "E11");
     }
@@ -82,7 +110,11 @@ fn refuse<P: Provider>(
     book: &mut Book<P>,
     line: u64,
     code: &str,
-) -> Result<(), Exit> {
+) -> Result<(), Exit>
+    ensures done { HasNoted (what.Note line code.now None)
+        (page book.old.state book.old.entries) (page book.new.state book.new.entries) result }
+    ensures same { IsSameBook book.old book.new }
+{
     match Text::from_str(alloc, code) {
         Ok(code) => told(book.note(What::Note {
             line,

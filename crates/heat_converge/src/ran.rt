@@ -1,4 +1,9 @@
 //! Turns of the engines, and how many of them are enough.
+ghost use Rattle.std.specs.Prelude.{◌≡◌};
+ghost use Rattle.book.specs.Kept.{IsSameBook, scene_of};
+ghost use Rattle.book.specs.Quiet.{page, IsIdle};
+ghost use Rattle.book.specs.Scenes.{Turned};
+ghost use Rattle.heat_converge.specs.Turns.{work_of, jobs_work, job_work, HasRan};
 
 use book::{Book, Turn};
 use core_state::{Job, Stage, State};
@@ -20,12 +25,14 @@ pub enum Ran {
 /// A bound on the turns that are left: 69 for each waiting letter, and for each job 68, 67, 66 or 1 by
 /// its stage.
 pub fn work(state: &State) -> u128
+    ensures { result ≡ work_of state.now.state }
 {
     jobs_work(state.jobs()) + 69 * (state.letters().len() as u128)
 }
 
 // The part of the jobs.
 fn jobs_work(jobs: &[Job]) -> u128
+    ensures { result ≡ jobs_work jobs.now }
 {
     let mut sum = 0;
     for job in jobs {
@@ -36,6 +43,7 @@ fn jobs_work(jobs: &[Job]) -> u128
 
 // The part of a job at this stage.
 fn job_work(stage: Stage) -> u128
+    ensures { result ≡ job_work stage }
 {
     match stage {
         Stage::Taken => 68,
@@ -47,6 +55,9 @@ fn job_work(stage: Stage) -> u128
 
 /// Makes at most `n` turns of the live engine, until the book is idle.
 pub fn turns<P: Provider>(book: &mut Book<P>, n: u128) -> Ran
+    ensures ran { HasRan n (page book.old.state book.old.entries)
+        (page book.new.state book.new.entries) result }
+    ensures same { IsSameBook book.old book.new }
 {
     let mut made = 0;
     while made < n {
@@ -65,7 +76,11 @@ pub fn turns<P: Provider>(book: &mut Book<P>, n: u128) -> Ran
 }
 
 // One turn of the first live engine.
-fn turn_first<P: Provider>(book: &mut Book<P>) -> Turn {
+fn turn_first<P: Provider>(book: &mut Book<P>) -> Turn
+    ensures turned { Turned 1 (scene_of P.cloud book.old) (scene_of P.cloud book.new) result }
+    ensures idle { result ≡ Turn.Idle → IsIdle book.new.state }
+    ensures same { IsSameBook book.old book.new }
+{
     let e = book.live()[0];
     book.turn(e)
 }

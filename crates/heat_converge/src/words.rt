@@ -1,4 +1,5 @@
 //! The words that the program is called with.
+ghost use Rattle.std.specs.Prelude.{◌≡◌, ◌∷◌, ◌↔◌, [], codes, IsOk};
 
 use heat_value::Text;
 use thiserror::Error;
@@ -20,6 +21,7 @@ pub enum WordsFault {
 
 /// The mode of the words; so far they are exactly `drive`.
 pub fn words_of(words: &[Text]) -> Result<Mode, WordsFault>
+    ensures { IsOk result ↔ (words.now ≡ codes "drive" ∷ []) }
 {
     match words {
         [word] if word.as_str() == "drive" => Ok(Mode::Drive),

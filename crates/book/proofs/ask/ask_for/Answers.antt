@@ -1,4 +1,4 @@
-use Rattle.std.proofs.Common.{refl, sym}
+use Rattle.std.proofs.Common.{refl}
 use Rattle.core_state.specs.declared.mail.Stage.TheVariants.{Asking}
 use Rattle.book.specs.Scenes.{worn, at_call}
 use Rattle.book.proofs.Unmade.{unasked, worn_by}
@@ -8,4 +8,4 @@ pub returns-in-Err-Worn : goal.returns-in-Err-Worn
 returns-in-Err-Worn g c =
     let (k, out) = worn_by _ _ _ c.in-Err-Worn.ensures.cause c.in-Err-Worn.field-0-is in
     worn refl (at_call Asking k out)
-      (record { state = c.prepare.ensures.state; entries = c.prepare.ensures.entries; cloud = unasked _ })
+    (record { state = c.prepare.ensures.state; entries = c.prepare.ensures.entries; cloud = unasked _ })

@@ -12,8 +12,8 @@ returns-in-Ok c =
 pub returns-in-Err : goal.returns-in-Err
 returns-in-Err c =
     told [] (_ ∷ []) (steps.unstored c.requires.polls c.requires.size refl refl)
-      (record {
-        state = c.in-Err.ensures.same;
-        entries = c.push.ensures.items ∙ rw (c.in-Err.ensures.silent, c.requires.token c.requires.polls) refl;
-      })
-      refl
+    (record {
+      state = c.in-Err.ensures.same;
+      entries = c.push.ensures.items ∙ rw (c.in-Err.ensures.silent, c.requires.token c.requires.polls) refl;
+    })
+    refl

@@ -24,7 +24,7 @@ returns-in-NotYet g c =
     let p = c.requires.prepared in
     let alive = subst (λ (t : Token). IsAlive (g.P.Provider.cloud c.args.cloud.now) t) (sym (p.token k)) (c.requires.alive k) in
     polled k answer.NotYet _ _ refl p.not_yet.step (record { state = c.make_within.ensures.state; entries = c.make_within.ensures.entries })
-      (waits_told _ k.row _ _ (p.token k) alive (c.poll.ensures.not_yet c.in-NotYet.is))
+    (waits_told _ k.row _ _ (p.token k) alive (c.poll.ensures.not_yet c.in-NotYet.is))
 
 pub returns-in-Failed : goal.returns-in-Failed
 returns-in-Failed g c =
@@ -32,7 +32,7 @@ returns-in-Failed g c =
     let p = c.requires.prepared in
     let alive = subst (λ (t : Token). IsAlive (g.P.Provider.cloud c.args.cloud.now) t) (sym (p.token k)) (c.requires.alive k) in
     polled k answer.Failed _ _ refl p.failed.step (record { state = c.make_within-in-Failed.ensures.state; entries = c.make_within-in-Failed.ensures.entries })
-      (poll_failed_told _ k.row _ _ (p.token k) alive (c.poll.ensures.failed c.in-Failed.is))
+    (poll_failed_told _ k.row _ _ (p.token k) alive (c.poll.ensures.failed c.in-Failed.is))
 
 pub returns-in-Ready : goal.returns-in-Ready
 returns-in-Ready g c =

@@ -1,6 +1,5 @@
 -- Where letters wait, the lowest is taken.
-use Rattle.std.proofs.Common.{◌≡◌, [], length, arith, ap}
-use Rattle.core_state.specs.declared.mail.Letter.{Letter}
+use Rattle.std.proofs.Common.{arith}
 use Rattle.book.proofs.Lowest.{lowest_of}
 use Rattle.std.proofs.lemmas.Result.{IfErr-weaker}
 use Rattle.book.specs.Scenes.{at_take}

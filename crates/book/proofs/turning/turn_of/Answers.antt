@@ -1,7 +1,5 @@
 -- Each part of a turn, as a turn.
-use Rattle.std.proofs.Common.{◌≡◌, ◌∙◌, sym, None}
-use Rattle.std.specs.Prelude.{option_map}
-use Rattle.core_state.specs.State.{job_at}
+use Rattle.std.proofs.Common.{◌∙◌, sym}
 use Rattle.std.proofs.lemmas.Result.{IfErr-weaker}
 use Rattle.book.specs.Scenes.{at_finish}
 use Rattle.book.proofs.Unmade.{worn_by}

@@ -1,7 +1,5 @@
 -- An opened book has the run of no step, over the cloud as it is.
-use Rattle.std.proofs.Common.{◌≡◌, ◌∙◌, ◌++◌, List, sym, ap, refl, subst}
-use Rattle.std.proofs.lemmas.List.{append-nil}
-use Rattle.provider.specs.Cloud.{Cloud}
+use Rattle.std.proofs.Common.{◌∙◌, ap}
 use Rattle.book.proofs.Kept.{kept_at_first}
 use Rattle.book.proofs.engine.Book.recover.Goals as goal
 
