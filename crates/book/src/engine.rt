@@ -132,7 +132,9 @@ impl<P: Provider> Book<P> {
     pub fn promises(&self)
         ensures run { HasRun P.cloud self.now }
         ensures headline { HasNone (P.cloud self.now.origin) → HasHeadline P.cloud self.now }
-    {}
+    {
+        let _ = &self.entries;
+    }
 
     /// The history since the opening.
     pub fn entries(&self) -> &[Entry]
