@@ -10,3 +10,6 @@ mod letters;
 mod rows;
 
 pub use creating::create;
+
+#[cfg(test)]
+mod tests;
