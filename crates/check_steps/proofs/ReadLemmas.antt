@@ -1,6 +1,6 @@
 -- What is read is what the state's record names.
-use Rattle.std.proofs.Common.{◌≡◌, ◌<◌, ◌≤◌, ◌+◌, ◌^◌, ◌∙◌, ℕ, Bool, true, false, List, Some, Ok, Err, refl, sym, ap, arith}
-use Rattle.std.specs.Prelude.{Option, Result, IfOk, IsTrue, IsSome, option_map}
+use Rattle.std.proofs.Common.{◌≡◌, ◌<◌, ◌≤◌, ◌+◌, ◌^◌, ◌∙◌, ℕ, Bool, false, Some, Ok, Err, sym, arith}
+use Rattle.std.specs.Prelude.{Option, Result, IfOk, IsTrue}
 use Rattle.core_state.specs.declared.graph.Graph.{Graph}
 use Rattle.core_state.specs.declared.mail.Job.{Job}
 use Rattle.core_state.specs.declared.mail.Stage.{Stage}

@@ -1,5 +1,5 @@
 -- How many rows and letters a create has, and what follows of its draft.
-use Rattle.std.proofs.Common.{◌≡◌, ◌<◌, ◌≤◌, ◌+◌, ◌^◌, ℕ, suc, Bool, true, false, List, [], ◌∷◌, ◌++◌, Some, None, length, map, refl, ap, arith}
+use Rattle.std.proofs.Common.{◌≡◌, ◌<◌, ◌≤◌, ◌+◌, ◌^◌, ℕ, suc, Bool, false, List, [], ◌∷◌, ◌++◌, Some, length, map, refl, ap, arith}
 use Rattle.std.specs.Prelude.{IsTrue}
 use Rattle.dep_graph.specs.Lists.{ListsAll}
 use Rattle.heat_plan.specs.Plans.{PlanData}

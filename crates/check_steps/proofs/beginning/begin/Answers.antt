@@ -1,5 +1,5 @@
 -- What is read is what the record names.
-use Rattle.std.proofs.Common.{◌≡◌, ◌∙◌, Some, refl, sym, ap}
+use Rattle.std.proofs.Common.{◌≡◌, ◌∙◌, refl, sym, ap}
 use Rattle.std.specs.Prelude.{option_map}
 use Rattle.core_state.specs.Steps.{begin as begin_turn}
 use Rattle.check_steps.proofs.ReadLemmas.{some_same, same_row, same_stack}

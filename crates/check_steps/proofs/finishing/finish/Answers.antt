@@ -1,5 +1,5 @@
 -- What is read is what the record names.
-use Rattle.std.proofs.Common.{◌≡◌, ◌∙◌, Some, refl, sym, ap}
+use Rattle.std.proofs.Common.{◌≡◌, ◌∙◌, Some, refl, sym}
 use Rattle.std.specs.Prelude.{slice_get}
 use Rattle.std.proofs.lemmas.Option.{slice_get_within, get_or_from_slice_get}
 use Rattle.std.proofs.lemmas.Bool.{both_ways}

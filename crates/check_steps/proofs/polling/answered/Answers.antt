@@ -1,4 +1,3 @@
-use Rattle.std.proofs.Common.{refl}
 use Rattle.std.proofs.lemmas.Result.{IfOk-weaker}
 use Rattle.core_state.specs.Turns.{poll_failed, broken}
 use Rattle.check_steps.proofs.ReadLemmas.{IfOk-both}

@@ -1,8 +1,7 @@
 -- Whether a stack of the name is there.
-use Rattle.std.proofs.Common.{◌≡◌, ◌∙◌, sym, ap, refl, Some, None}
+use Rattle.std.proofs.Common.{◌≡◌, ◌∙◌, sym, ap, refl, None}
 use Rattle.std.specs.Prelude.{option_map}
 use Rattle.std.proofs.lemmas.Result.{IfErr-weaker}
-use Rattle.core_state.specs.declared.stack.Stack.{Stack}
 use Rattle.core_state.specs.State.{stack_at}
 use Rattle.command_steps.specs.Drafts.{exists, absent}
 use Rattle.command_steps.proofs.creating.create.Goals as goal

@@ -1,6 +1,5 @@
 -- The lists are as long as what they are made for, and so the numbers suffice.
-use Rattle.std.proofs.Common.{◌≡◌, ◌≤◌, ◌<◌, ◌+◌, ◌^◌, length, ap, ◌∙◌, arith, refl}
-use Rattle.core_state.specs.Commands.{Creates}
+use Rattle.std.proofs.Common.{◌≡◌, length, ap, ◌∙◌, refl}
 use Rattle.command_steps.proofs.DraftLemmas.{length-new_rows, length-letters_to, letters_wear, beyond}
 use Rattle.command_steps.proofs.draft.drafted.Goals as goal
 
