@@ -1,0 +1,48 @@
+//! How the program ends.
+
+/// The top call's status.
+#[derive(Clone, Copy, Debug, PartialEq, Eq)]
+pub enum Exit {
+    /// The script was read to its end, and all is written.
+    Done,
+    /// The words are none of the forms. Nothing was read, written or asked.
+    Usage,
+    /// A line or the script passes its limit.
+    TooLong,
+    /// A read failed.
+    ReadFault,
+    /// A write failed.
+    WriteFault,
+    /// There was no memory.
+    Memory,
+    /// A key would have come to 2^62.
+    Worn,
+}
+
+impl Exit {
+    /// The status that the program ends with.
+    pub fn code(self) -> u8 {
+        match self {
+            Exit::Done => 0,
+            Exit::Usage => 2,
+            Exit::TooLong => 3,
+            Exit::ReadFault => 4,
+            Exit::WriteFault => 5,
+            Exit::Memory => 7,
+            Exit::Worn => 11,
+        }
+    }
+
+    /// What the program says on standard error.
+    pub fn words(self) -> &'static str {
+        match self {
+            Exit::Done => "done",
+            Exit::Usage => "usage",
+            Exit::TooLong => "too long",
+            Exit::ReadFault => "read fault",
+            Exit::WriteFault => "write fault",
+            Exit::Memory => "no memory",
+            Exit::Worn => "worn",
+        }
+    }
+}
