@@ -1,1 +1,4 @@
 pub mod Boxes
+pub mod Turning
+pub mod Noting
+pub mod Driving

@@ -1,2 +1,4 @@
 pub mod Turns
-pub mod Ends
+pub mod Lines
+pub mod Notes
+pub mod Drives

@@ -2,7 +2,9 @@
 ghost use Rattle.std.specs.Prelude.{◌≡◌, ◌≢◌, ◌∷◌, ◌↔◌, [], codes};
 ghost use Rattle.heat_value.specs.Counts.{Rose};
 ghost use Rattle.provider.specs.Cloud.{HasNone};
+ghost use Rattle.core_laws.specs.Opening.{opened};
 ghost use Rattle.book.specs.Kept.{Shown, HasRun, HasHeadline};
+ghost use Rattle.heat_converge.specs.Drives.{streams, Drove};
 
 use crate::drive::drive;
 use crate::exit::Exit;
@@ -17,6 +19,19 @@ use std::alloc::Global;
 pub enum End<P: Provider> {
     Book(Book<P>),
     Unopened(P),
+}
+
+impl<P: Provider> End<P> {
+    /// The cloud, as the book's calls have left it.
+    pub fn give_back(self) -> P
+        ensures book { (b : Shown P) → self ≡ End.Book b → result ≡ b.cloud }
+        ensures unopened { (p : P) → self ≡ End.Unopened p → result ≡ p }
+    {
+        match self {
+            End::Book(book) => book.give_back(),
+            End::Unopened(cloud) => cloud,
+        }
+    }
 }
 
 /// The status, and what is left.
@@ -42,6 +57,11 @@ pub fn converge<S: Source, K: Sink, P: Provider>(
     // Faults of the outside come only where a count rose.
     ensures read { result.status ≡ Exit.ReadFault → Rose (S.faults source.old) (S.faults source.new) }
     ensures write { result.status ≡ Exit.WriteFault → Rose (K.faults sink.old) (K.faults sink.new) }
+
+    // The history is that of the lines read, and what is written is its text.
+    ensures drove { (b : Shown P) → result.end ≡ End.Book b
+        → Drove (streams (S.left source.old) (K.holds sink.old))
+            (streams (S.left source.new) (K.holds sink.new)) opened b.state b.entries result.status }
 
     // The history is a run's, its calls are the cloud's trace, and the headline holds of it.
     ensures run { (b : Shown P) → result.end ≡ End.Book b → HasRun P.cloud b }
@@ -71,9 +91,15 @@ fn driven<S: Source, K: Sink, P: Provider>(
     sink: &mut K,
     book: Book<P>,
 ) -> Outcome<P>
+    requires fresh { book.entries ≡ [] }
+    requires opened { book.state ≡ opened }
+    requires opening { book.opening ≡ opened }
     ensures status { result.status ≢ Exit.Usage }
     ensures read { result.status ≡ Exit.ReadFault → Rose (S.faults source.old) (S.faults source.new) }
     ensures write { result.status ≡ Exit.WriteFault → Rose (K.faults sink.old) (K.faults sink.new) }
+    ensures drove { (b : Shown P) → result.end ≡ End.Book b
+        → Drove (streams (S.left source.old) (K.holds sink.old))
+            (streams (S.left source.new) (K.holds sink.new)) opened b.state b.entries result.status }
     ensures run { (b : Shown P) → result.end ≡ End.Book b → HasRun P.cloud b }
     ensures origin { (b : Shown P) → result.end ≡ End.Book b → b.origin ≡ book.origin }
     ensures headline { (b : Shown P) → result.end ≡ End.Book b → HasNone (P.cloud b.origin)

@@ -1,7 +1,10 @@
 //! Reads a script line by line, does each, and writes what it added to the text.
-ghost use Rattle.std.specs.Prelude.{◌≡◌, ◌≢◌, ◌≤◌, IsTrue, IsErrOf};
+ghost use Rattle.std.specs.Prelude.{◌≡◌, ◌≤◌, [], length, IsErrOf};
 ghost use Rattle.heat_value.specs.Counts.{Rose};
+ghost use Rattle.report.specs.Text.{text_after};
 ghost use Rattle.book.specs.Kept.{IsSameBook};
+ghost use Rattle.book.specs.Quiet.{page};
+ghost use Rattle.heat_converge.specs.Drives.{streams, Drove, LineAnswered, Written};
 
 use crate::exit::Exit;
 use crate::line::do_line;
@@ -11,20 +14,25 @@ use provider::Provider;
 use report::lines_of;
 use std::alloc::Global;
 
-/// Drives the book by the lines of the source.
+/// Drives the book by the lines of the source. No script has more lines than bytes, and one more read
+/// finds its end.
 pub fn drive<S: Source, K: Sink, P: Provider>(
     alloc: Global,
     source: &mut S,
     sink: &mut K,
     book: &mut Book<P>,
 ) -> Exit
-    ensures status { result ≢ Exit.Usage }
+    requires fresh { book.old.entries ≡ [] }
+    requires opened { book.old.state ≡ book.old.opening }
+    ensures drove { Drove (streams (S.left source.old) (K.holds sink.old))
+        (streams (S.left source.new) (K.holds sink.new))
+        book.old.opening book.new.state book.new.entries result }
     ensures read { result ≡ Exit.ReadFault → Rose (S.faults source.old) (S.faults source.new) }
     ensures write { result ≡ Exit.WriteFault → Rose (K.faults sink.old) (K.faults sink.new) }
     ensures same { IsSameBook book.old book.new }
 {
     let mut reader = LineReader::new(alloc);
-    for number in 1..=SCRIPT_LIMIT {
+    for number in 1..=SCRIPT_LIMIT + 1 {
         let line = match reader.next(source) {
             Next::Line(line) => line,
             Next::End => return Exit::Done,
@@ -37,22 +45,7 @@ pub fn drive<S: Source, K: Sink, P: Provider>(
             Err(exit) => return exit,
         }
     }
-    last(source, &mut reader)
-}
-
-// What follows so many lines: each had a byte, so that no more can come.
-fn last<S: Source>(source: &mut S, reader: &mut LineReader) -> Exit
-    requires { IsTrue reader.old.goes_on }
-    ensures status { result ≢ Exit.Usage }
-    ensures read { result ≡ Exit.ReadFault → Rose (S.faults source.old) (S.faults source.new) }
-    ensures write { result ≢ Exit.WriteFault }
-{
-    match reader.next(source) {
-        Next::End => Exit::Done,
-        Next::Line(_) | Next::LineTooLong | Next::ScriptTooLong => Exit::TooLong,
-        Next::ReadFault => Exit::ReadFault,
-        Next::Memory => Exit::Memory,
-    }
+    unreachable!()
 }
 
 // Does a line and writes what it added to the text.
@@ -63,15 +56,18 @@ fn answer<K: Sink, P: Provider>(
     number: u64,
     line: &[u8],
 ) -> Result<(), Exit>
-    ensures status { IsErrOf result Exit.Usage → ⊥ }
-    ensures reads { IsErrOf result Exit.ReadFault → ⊥ }
+    ensures answered { LineAnswered number line.now book.old.opening
+        (page book.old.state book.old.entries) (page book.new.state book.new.entries)
+        (K.holds sink.old) (K.holds sink.new) result }
     ensures later { K.faults sink.old ≤ K.faults sink.new }
     ensures write { IsErrOf result Exit.WriteFault → Rose (K.faults sink.old) (K.faults sink.new) }
     ensures same { IsSameBook book.old book.new }
 {
     let from = book.entries().len();
-    do_line(alloc, book, number, line)?;
-    write_from(alloc, sink, book, from)
+    match do_line(alloc, book, number, line) {
+        Ok(()) => write_from(alloc, sink, book, from),
+        Err(exit) => Err(exit),
+    }
 }
 
 // Writes what the entries from a place on add to the text.
@@ -81,13 +77,13 @@ fn write_from<K: Sink, P: Provider>(
     book: &Book<P>,
     from: usize,
 ) -> Result<(), Exit>
-    ensures status { IsErrOf result Exit.Usage → ⊥ }
-    ensures reads { IsErrOf result Exit.ReadFault → ⊥ }
+    requires { from ≤ length book.now.entries }
+    ensures written { Written (K.holds sink.old) (K.holds sink.new)
+        (text_after book.now.opening book.now.entries from) result }
     ensures later { K.faults sink.old ≤ K.faults sink.new }
     ensures write { IsErrOf result Exit.WriteFault → Rose (K.faults sink.old) (K.faults sink.new) }
 {
-    let entries = book.entries();
-    let Ok(text) = lines_of(alloc, book.opening(), entries, from.min(entries.len())) else {
+    let Ok(text) = lines_of(alloc, book.opening(), book.entries(), from) else {
         return Err(Exit::Memory);
     };
     match put_all(sink, text.as_str().as_bytes()) {

@@ -1,8 +1,13 @@
 //! What one line of the script does.
 ghost use Rattle.heat_plan.specs.Plans.{IsPlan};
+ghost use Rattle.core_state.specs.declared.entry.What.TheVariants as what;
+ghost use Rattle.core_state.specs.Steps.{IsNote};
 ghost use Rattle.core_laws.specs.Runs.{HasNoNeeds};
 ghost use Rattle.book.specs.Kept.{IsSameBook};
-ghost use Rattle.heat_converge.specs.Ends.{EndsLine};
+ghost use Rattle.book.specs.Quiet.{page};
+ghost use Rattle.heat_converge.specs.Drives.{LineDone};
+ghost use Rattle.heat_converge.specs.Lines.{refused};
+ghost use Rattle.heat_converge.specs.Notes.{HasNoted, CreateDone, ListDone, RunDone};
 
 use crate::exit::Exit;
 use crate::ran::{Ran, turns, work};
@@ -12,7 +17,7 @@ use heat_plan::{Plan, StackName};
 use heat_value::Text;
 use provider::Provider;
 use script_lines::{Command, LineFault};
-use std::alloc::{AllocError, Global};
+use std::alloc::Global;
 
 /// Does what the line of this number says; the status is why it couldn't.
 pub fn do_line<P: Provider>(
@@ -21,7 +26,8 @@ pub fn do_line<P: Provider>(
     number: u64,
     line: &[u8],
 ) -> Result<(), Exit>
-    ensures status { EndsLine result }
+    ensures done { LineDone number line.now
+        (page book.old.state book.old.entries) (page book.new.state book.new.entries) result }
     ensures same { IsSameBook book.old book.new }
 {
     match Command::read(alloc, line) {
@@ -53,7 +59,8 @@ fn create<P: Provider>(
     plan: Plan,
 ) -> Result<(), Exit>
     requires { HasNoNeeds plan }
-    ensures status { EndsLine result }
+    ensures done { CreateDone number name plan
+        (page book.old.state book.old.entries) (page book.new.state book.new.entries) result }
     ensures same { IsSameBook book.old book.new }
 {
     match book.command(StackCommand::Create(name, plan)) {
@@ -67,7 +74,8 @@ fn create<P: Provider>(
 
 // Makes turns until the book is idle, and notes how many.
 fn run<P: Provider>(book: &mut Book<P>) -> Result<(), Exit>
-    ensures status { EndsLine result }
+    ensures done { RunDone
+        (page book.old.state book.old.entries) (page book.new.state book.new.entries) result }
     ensures same { IsSameBook book.old book.new }
 {
     let most = work(book.state());
@@ -81,10 +89,11 @@ fn run<P: Provider>(book: &mut Book<P>) -> Result<(), Exit>
 
 // Notes how a run ended.
 fn ran<P: Provider>(book: &mut Book<P>, idle: bool, turns: u128) -> Result<(), Exit>
-    ensures status { EndsLine result }
+    ensures done { HasNoted (what.Ran idle turns)
+        (page book.old.state book.old.entries) (page book.new.state book.new.entries) result }
     ensures same { IsSameBook book.old book.new }
 {
-    told(book.note(What::Ran { idle, turns }))
+    note(book, What::Ran { idle, turns })
 }
 
 // Shows a stack's rows, or notes that there is none.
@@ -94,38 +103,49 @@ fn list<P: Provider>(
     number: u64,
     stack: StackName,
 ) -> Result<(), Exit>
-    ensures status { EndsLine result }
+    ensures done { ListDone number stack
+        (page book.old.state book.old.entries) (page book.new.state book.new.entries) result }
     ensures same { IsSameBook book.old book.new }
 {
     if book.state().stack(&stack).is_none() {
         return refuse(alloc, book, number, "E11");
     }
-    told(book.note(What::Show {
-        what: ShowWhat::Resources,
-        stack,
-    }))
+    note(
+        book,
+        What::Show {
+            what: ShowWhat::Resources,
+            stack,
+        },
+    )
 }
 
 // Notes that the line of this number was refused with a code.
 fn refuse<P: Provider>(alloc: Global, book: &mut Book<P>, line: u64, code: &str) -> Result<(), Exit>
-    ensures status { EndsLine result }
+    ensures done { HasNoted (refused line code.now)
+        (page book.old.state book.old.entries) (page book.new.state book.new.entries) result }
     ensures same { IsSameBook book.old book.new }
 {
     match Text::from_str(alloc, code) {
-        Ok(code) => told(book.note(What::Note {
-            line,
-            code,
-            path: None,
-        })),
+        Ok(code) => note(
+            book,
+            What::Note {
+                line,
+                code,
+                path: None,
+            },
+        ),
         Err(_) => Err(Exit::Memory),
     }
 }
 
-// Want of memory as a status.
-fn told(noted: Result<(), AllocError>) -> Result<(), Exit>
-    ensures { EndsLine result }
+// Adds what a line notes.
+fn note<P: Provider>(book: &mut Book<P>, what: What) -> Result<(), Exit>
+    requires { IsNote what }
+    ensures done { HasNoted what
+        (page book.old.state book.old.entries) (page book.new.state book.new.entries) result }
+    ensures same { IsSameBook book.old book.new }
 {
-    match noted {
+    match book.note(what) {
         Ok(()) => Ok(()),
         Err(_) => Err(Exit::Memory),
     }

@@ -7,9 +7,11 @@ mod drive;
 mod exit;
 mod line;
 mod ran;
+#[cfg(test)]
+mod tests;
 mod words;
 
-use converge::{End, Outcome, converge};
+use converge::{Outcome, converge};
 use exit::Exit;
 use heat_io::{StdSink, StdSource};
 use heat_value::{Seq, Text};
@@ -39,16 +41,6 @@ fn words_of_args(alloc: Global, args: env::Args) -> Result<Vec<Text>, AllocError
     Ok(words)
 }
 
-// Lets the cloud go.
-fn close(end: End<SimCloud>) {
-    match end {
-        End::Book(book) => {
-            let _ = book.give_back();
-        }
-        End::Unopened(_cloud) => {}
-    }
-}
-
 fn main(rt: HostRuntime) -> ExitCode {
     let alloc = rt.alloc();
     let status = match (env::args(&rt), empty_cloud(alloc)) {
@@ -63,7 +55,7 @@ fn main(rt: HostRuntime) -> ExitCode {
                     &mut sink,
                     cloud,
                 );
-                close(end);
+                let _cloud = end.give_back();
                 status
             }
             Err(_) => Exit::Memory,

@@ -1,7 +1,8 @@
 //! Turns of the engines, and how many of them are enough.
 ghost use Rattle.std.specs.Prelude.{◌≡◌, ◌≤◌, ◌*◌, length};
 ghost use Rattle.book.specs.Kept.{IsSameBook};
-ghost use Rattle.heat_converge.specs.Turns.{work_of, jobs_work, job_work};
+ghost use Rattle.book.specs.Quiet.{page};
+ghost use Rattle.heat_converge.specs.Turns.{work_of, jobs_work, job_work, TurnTo, HasRan};
 
 use book::{Book, Turn};
 use core_state::{Job, Stage, State};
@@ -55,7 +56,9 @@ fn job_work(stage: Stage) -> u128
 
 /// Makes at most `n` turns of the live engine, until the book is idle.
 pub fn turns<P: Provider>(book: &mut Book<P>, n: u128) -> Ran
-    ensures { IsSameBook book.old book.new }
+    ensures ran { HasRan n (page book.old.state book.old.entries)
+        (page book.new.state book.new.entries) result }
+    ensures same { IsSameBook book.old book.new }
 {
     for made in 0..n {
         match turn_first(book) {
@@ -74,7 +77,9 @@ pub fn turns<P: Provider>(book: &mut Book<P>, n: u128) -> Ran
 
 // One turn of the first live engine.
 fn turn_first<P: Provider>(book: &mut Book<P>) -> Turn
-    ensures { IsSameBook book.old book.new }
+    ensures turned { TurnTo (page book.old.state book.old.entries)
+        (page book.new.state book.new.entries) result }
+    ensures same { IsSameBook book.old book.new }
 {
     let e = book.live()[0];
     book.turn(e)
