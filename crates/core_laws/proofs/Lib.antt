@@ -34,4 +34,5 @@ pub mod ToFirst
 pub mod FromSound
 pub mod FromStates
 pub mod FromOpening
+pub mod Reopened
 pub mod Examples

@@ -17,7 +17,7 @@ use Rattle.core_state.specs.Turns.{Creating, token_of, created_with}
 use Rattle.provider.specs.Table.{TokenState}
 use Rattle.provider.specs.Cloud.{Cloud, IsAlive, state_of}
 use Rattle.provider.specs.Moves.{Answers, Rests}
-use Rattle.core_laws.specs.Opening.{Opening, opened, empty_opening}
+use Rattle.core_laws.specs.Opening.{Opening, first_of, opened, empty_opening}
 use Rattle.core_laws.specs.Runs.{Run, IsFree}
 use Rattle.core_laws.specs.Next.{NextFits}
 use Rattle.core_laws.specs.Could.{could, AllAlive}
@@ -108,3 +108,12 @@ SoundOpeningsStaySound = (o : Opening) (s : StateData) (h : List Entry) → IsSo
 abbrev pub SoundOpeningsHaveHeadline : Type 0
 SoundOpeningsHaveHeadline = (o : Opening) (s : StateData) (h : List Entry) → IsSoundSoFar o [] o.state
     → Run o.state s h → Headline o h s
+
+-- what an opening at this moment would begin with
+abbrev pub opening_at : StateData → Cloud → Opening
+opening_at s cloud = record { state = s; alive = cloud.alive; leaving = cloud.leaving }
+
+-- with a cloud in a state that the history allows it is a sound opening again
+abbrev pub StatesAreOpenings : Type 0
+StatesAreOpenings = (o : Opening) (h : List Entry) (s : StateData) (cloud : Cloud) → IsSoundSoFar o h s
+    → Agrees (first_of o) h cloud → IsSoundSoFar (opening_at s cloud) [] s

@@ -12,6 +12,8 @@ mod marks;
 mod possible;
 mod rows;
 mod states;
+#[cfg(test)]
+mod tests;
 mod traversal;
 
 pub use fitting::fits;
