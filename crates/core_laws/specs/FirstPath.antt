@@ -42,7 +42,7 @@ pub record IsCreatedRow (r : Row) : Type 0 where
   pub replaced_by : r.replaced_by ≡ None
   pub under_way : r.act ≡ Create → r.status ≡ InProgress → IsSome r.engine
 
--- a stack as its create made it: a node and a row for each item in their order, a point for each node, no edge
+-- a stack as its create made it: a node and a row for each item in their order, no point without a node, and no edge
 pub record IsCreated (s : StateData) (name : List ℕ) (st : Stack) : Type 0 where
   pub act : st.act ≡ Create
   pub plan : PlanData

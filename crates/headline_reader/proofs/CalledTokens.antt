@@ -1,5 +1,5 @@
 -- The tokens that calls name have their states, and every other token is certainly absent.
-use Rattle.std.proofs.Common.{◌≡◌, ◌⊎◌, inl, inr, ℕ, Bool, true, false, List, [], ◌∷◌, ◌++◌, None, refl, sym, ap, ◌∙◌, subst}
+use Rattle.std.proofs.Common.{◌≡◌, ◌⊎◌, inl, inr, ℕ, Bool, true, false, List, [], ◌∷◌, refl, sym, ap, ◌∙◌, subst}
 use Rattle.std.specs.Prelude.{All, Any, if◌then◌else◌}
 use Rattle.std.specs.Str.{bytes_eq}
 use Rattle.std.proofs.lemmas.Slice.Eq.{bytes_eq-Decides}
@@ -7,7 +7,6 @@ use Rattle.heat_plan.specs.declared.token.Token.{Token}
 use Rattle.core_state.specs.declared.entry.Entry.{Entry}
 use Rattle.core_state.specs.declared.entry.What.{What}
 use Rattle.core_state.specs.declared.entry.What.TheVariants as what
-use Rattle.provider.specs.Same.{same_token}
 use Rattle.provider.specs.Table.{TokenState}
 use Rattle.provider.proofs.Sames.{same_token-other}
 use Rattle.core_laws.specs.Could.{could_by, could_from}

@@ -1,5 +1,5 @@
 -- What is found among the tokens that calls name is what fits.
-use Rattle.std.proofs.Common.{◌≡◌, ◌↔◌, ◌⊎◌, inl, inr, ℕ, ◌<◌, zero, suc, Bool, false, List, [], ◌∷◌, length, Option, Some, None, refl, sym, ap, ◌∙◌, subst, arith}
+use Rattle.std.proofs.Common.{◌≡◌, ◌↔◌, ◌⊎◌, inl, inr, ℕ, ◌<◌, zero, suc, Bool, List, [], ◌∷◌, Option, Some, None, refl, sym, ap, ◌∙◌, subst, arith}
 use Rattle.std.specs.Prelude.{All, Any, Contains, IsSome, IsSomeAnd, slice_index_or}
 use Rattle.std.specs.List.{AllZip}
 use Rattle.heat_value.specs.Data.{Members}

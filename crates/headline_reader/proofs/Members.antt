@@ -1,6 +1,6 @@
 -- What holds of some of a list, and of all of it.
-use Rattle.std.proofs.Common.{◌≡◌, ◌⊎◌, inl, inr, ℕ, ◌<◌, zero, suc, List, [], ◌∷◌, ◌++◌, length, refl, subst, arith}
-use Rattle.std.specs.Prelude.{All, Any, Contains, slice_index_or}
+use Rattle.std.proofs.Common.{zero, suc, List, [], ◌∷◌, ◌++◌, refl, subst, arith}
+use Rattle.std.specs.Prelude.{All, Any, Contains}
 use Rattle.std.specs.List.{AllZip}
 
 module _ {X : Type 0} (P : X → Type 0) where

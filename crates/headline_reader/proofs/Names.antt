@@ -1,6 +1,6 @@
 -- The names of items.
-use Rattle.std.proofs.Common.{◌≡◌, ◌↔◌, ℕ, ◌<◌, zero, suc, List, [], ◌∷◌, length, refl, arith}
-use Rattle.std.specs.Prelude.{Any, Contains, slice_index_or}
+use Rattle.std.proofs.Common.{◌≡◌, ◌↔◌, ℕ, zero, suc, List, [], ◌∷◌, refl, arith}
+use Rattle.std.specs.Prelude.{Any, Contains}
 use Rattle.heat_plan.specs.Plans.{names_of}
 use Rattle.heat_plan.specs.declared.item.Item.{Item}
 

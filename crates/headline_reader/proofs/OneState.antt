@@ -1,5 +1,5 @@
 -- A list of one state.
-use Rattle.std.proofs.Common.{◌≡◌, ◌↔◌, ℕ, Bool, List, [], ◌∷◌, length, refl, ap, IsTrue, nat_eq, arith}
+use Rattle.std.proofs.Common.{◌≡◌, ◌↔◌, List, [], ◌∷◌, length, refl}
 use Rattle.provider.specs.Table.{TokenState}
 use Rattle.core_laws.specs.Tokens.{IsCertain}
 

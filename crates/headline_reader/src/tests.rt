@@ -5,9 +5,9 @@ ghost use Rattle.core_laws.specs.Runs.{HasNoNeeds};
 
 use crate::{Living, could, fits, mark_of, newest, stored};
 use book::{Book, Opened, StackCommand, Turn};
-use core_state::Entry;
+use core_state::{Entry, What};
 use heat_plan::{Plan, Status, Token};
-use heat_value::{Props, Seq};
+use heat_value::{Props, Seq, Text};
 use script_lines::Command;
 use sim_cloud::{Settings, SimCloud};
 use std::alloc::{AllocError, Global};
@@ -76,12 +76,22 @@ fn needs_nothing(plan: &Plan) -> bool
         .all(|item| item.needs.as_slice().is_empty())
 }
 
-/// Makes the create that the line says, where it isn't refused.
+/// Makes the create that the line says, or notes that it is refused.
 fn create(alloc: Global, book: &mut Book<SimCloud>) {
     if let Ok(Command::Create(name, plan)) = Command::read(alloc, CREATE) {
-        if needs_nothing(&plan) {
-            let _ = book.command(StackCommand::Create(name, plan));
+        if needs_nothing(&plan) && book.command(StackCommand::Create(name, plan)).is_err() {
+            refuse(alloc, book, "E10");
         }
+    }
+}
+
+fn refuse(alloc: Global, book: &mut Book<SimCloud>, code: &str) {
+    if let Ok(code) = Text::from_str(alloc, code) {
+        let _ = book.note(What::Note {
+            line: 2,
+            code,
+            path: None,
+        });
     }
 }
 
@@ -186,7 +196,7 @@ fn histories_are_read_as_by_hand(rt: HostRuntime) -> Result<(), Fail> {
         fits: true,
     };
     let cases = [
-        behind("no command", 0, 1, nothing),
+        behind("nothing", 0, 0, nothing),
         behind(
             "created",
             1,
