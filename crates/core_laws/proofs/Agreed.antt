@@ -46,7 +46,7 @@ AskFits Ending r states = Unit {0}
 
 -- a row has been begun by its item
 abbrev pub IsBegun : Row → Item → Type 0
-IsBegun r item = r.act ≡ Create → (r.kind ≡ item.kind) × (r.props ≡ item.props)
+IsBegun r item = r.act ≡ Create → (r.kind.name ≡ item.kind.name) × (r.props ≡ item.props)
 
 -- the row and the point of an item's node
 pub record NodeRow (s : StateData) (name : List ℕ) (graph : Graph) (place : ℕ) (item : Item) (n : ℕ) : Type 0 where

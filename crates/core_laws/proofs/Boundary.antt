@@ -89,7 +89,7 @@ module _ (o : Opening) (h : List Entry) (s : StateData) (g : Going s) (a : Agree
 
     -- each item's row is made
     made : (place : ℕ) (item : Item) → slice_get p.plan.items place ≡ Some item
-        → (r : Row) × (row_at s.rows (p.first + place) ≡ Some r) × (token_of r ≡ token_at name item.name (p.first + place)) × (r.kind ≡ item.kind) × (r.props ≡ item.props)
+        → (r : Row) × (row_at s.rows (p.first + place) ≡ Some r) × (token_of r ≡ token_at name item.name (p.first + place)) × (r.kind.name ≡ item.kind.name) × (r.props ≡ item.props)
         × (facts : Facts) × (could (first_of o) h (token_of r) ≡ Some (living r (Some facts)) ∷ [])
     made place item there =
         let k = p.node_row place (p.first + place) item there refl in
@@ -125,7 +125,7 @@ module _ (o : Opening) (h : List Entry) (s : StateData) (g : Going s) (a : Agree
           row = p.first + place;
           it = living m.0 (Some m.5);
           state = subst (λ (x : Token). could (first_of o) h x ≡ Some (living m.0 (Some m.5)) ∷ []) m.2 m.6;
-          kind = ap (λ (k : _). k.name) m.3;
+          kind = m.3;
           ready = refl;
           stays = refl;
           known = [];

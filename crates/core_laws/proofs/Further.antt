@@ -9,6 +9,7 @@ use Rattle.heat_plan.specs.declared.phase.Act.TheVariants.{Init, Create}
 use Rattle.heat_plan.specs.declared.phase.Status.{Status}
 use Rattle.heat_plan.specs.declared.phase.Status.TheVariants.{Complete, InProgress, Failed}
 use Rattle.traversal_graph.specs.declared.shape.Node.{Node}
+use Rattle.traversal_graph.specs.declared.shape.Node.TheVariants.{U}
 use Rattle.core_state.specs.declared.stack.Stack.{Stack}
 use Rattle.core_state.specs.declared.row.Row.{Row}
 use Rattle.core_state.specs.declared.graph.Graph.{Graph}
@@ -62,9 +63,10 @@ pub record GraphMore (name : List ℕ) (g : Graph) : Type 0 where
   pub edges : g.graph.edges ≡ []
   pub inputs : (i : ℕ) (p : Point) → slice_get g.points i ≡ Some p → p.inputs ≡ []
   pub points : (i : ℕ) (node : Node) → slice_get g.graph.nodes i ≡ Some node → (p : Point) × (slice_get g.points i ≡ Some p) × (p.stack ≡ name) × (p.node ≡ i)
+  pub whole : (i : ℕ) (p : Point) → slice_get g.points i ≡ Some p → (node : Node) × (slice_get g.graph.nodes i ≡ Some node)
 
 pub record Further (s : StateData) : Type 0 where
-  pub engine : s.next.engine ≡ 2
+  pub engine : 1 < s.next.engine
   pub stacks : (name : List ℕ) (st : Stack) → stack_at s.stacks name ≡ Some st → StackMore s.next st
   pub plain : (n : ℕ) (r : Row) → row_at s.rows n ≡ Some r → RowPlain r
   pub travs : (n : ℕ) (r : Row) (st : Stack) → row_at s.rows n ≡ Some r → stack_at s.stacks r.stack ≡ Some st → RowOf r st
@@ -118,7 +120,7 @@ module _ (s t : StateData) (f : Further s) (r q : Row) (was : row_at s.rows r.no
 
   further_row : Further t
   further_row = record {
-    engine = ap (λ (x : Numbers). x.engine) next ∙ f.engine;
+    engine = subst (λ (x : Numbers). 1 < x.engine) (sym next) f.engine;
     stacks = λ name st at. let w = were name st at in let o = f.stacks name w.old w.was in record {
       no = rw (next, w.no) o.no;
       trav = rw (next, w.trav) o.trav;
@@ -313,6 +315,10 @@ module _ (s : StateData) (g : Going s) (f : Further s) (e : ℕ) where
           )
           | inr apart ↦ (p, set_else k.graph.points k.point.node point i apart ∙ there, stack, number)
         ];
+        whole = λ i p there. elim (set_found k.graph.points k.point.node point i p there) [
+          | inl new ↦ (U k.row.name k.row.no, subst (λ (x : ℕ). slice_get k.graph.graph.nodes x ≡ Some (U k.row.name k.row.no)) (sym (new.0 ∙ k.placed.1)) k.names.its_node)
+          | inr old ↦ m.whole i p old
+        ];
       }
 
     graph_was : (name : List ℕ) (gr : Graph) → graph_at (put_point point s.graphs) name ≡ Some gr → (o : Graph) × (graph_at s.graphs name ≡ Some o)
@@ -356,6 +362,11 @@ module _ (s : StateData) (g : Going s) (f : Further s) (owned : (n : ℕ) (r : R
   fresh-inputs (x ∷ nodes) first zero p at = cc
   fresh-inputs (x ∷ nodes) first (suc i) p at = fresh-inputs nodes (first + 1) i p at
 
+  fresh-nodes : (nodes : List Node) (first i : ℕ) (p : Point) → slice_get (fresh_points name first nodes) i ≡ Some p → (node : Node) × (slice_get nodes i ≡ Some node)
+  fresh-nodes [] first i p at = cc
+  fresh-nodes (x ∷ nodes) first zero p at = (x, refl)
+  fresh-nodes (x ∷ nodes) first (suc i) p at = fresh-nodes nodes (first + 1) i p at
+
   create_further : Further t
   create_further = record {
     engine = f.engine;
@@ -385,6 +396,7 @@ module _ (s : StateData) (g : Going s) (f : Further s) (owned : (n : ℕ) (r : R
         edges = edges_none plan.items (row_numbers s.next.row plan.items) k.graph k.built apart.needless;
         inputs = fresh-inputs k.graph.nodes 0;
         points = λ i node at_node. (record { stack = name; node = i; inputs = []; done = false }, points-new name k.graph.nodes 0 i i node at_node (omega arith), refl, refl);
+        whole = fresh-nodes k.graph.nodes 0;
       }))
       | inr was ↦ f.graphs other gr was.1
     ];

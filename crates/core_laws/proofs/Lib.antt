@@ -29,4 +29,10 @@ pub mod RunTold
 pub mod Further
 pub mod Staying
 pub mod Sounds
+pub mod Onward
+pub mod ToFirst
+pub mod FromSound
+pub mod FromStates
+pub mod FromOpening
+pub mod Reopened
 pub mod Examples

@@ -194,7 +194,7 @@ module _ (o : Opening) (h : List Entry) (s : StateData) (g : Going s) (a : Agree
           let stacks : st ≡ k.stack = same_some st k.stack at in_stack in
           let plans : plan ≡ k.plan = same_some plan k.plan (sym (ap (λ (x : Stack). x.plan) stacks) ∙ planned) k.planned in
           let items : item ≡ k.item = same_some item k.item (subst (λ (x : PlanData). item_at x.items k.row.name ≡ Some item) plans asked) k.asked in
-          (ap (λ (x : Item). x.kind) (sym items), ap (λ (x : Item). x.props) (sym items));
+          (ap (λ (x : Item). x.kind.name) (sym items), ap (λ (x : Item). x.props) (sym items));
       stored_is = stored-append o h (begun_entries e k.job new) ∙ ap (put_row new) a.stored_is;
       newest_is = λ name. newest-append o h (begun_entries e k.job new) name ∙ a.newest_is name;
       marks_are = λ name. mark-append o h (begun_entries e k.job new) name ∙ a.marks_are name;

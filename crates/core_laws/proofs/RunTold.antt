@@ -119,7 +119,7 @@ module _ (o : Opening) (h : List Entry) (s : StateData) (g : Going s) (a : Agree
   step_told cs es (note it noted is made) free = both cs [] es _ is made (λ gt. note_told it noted)
 
 -- nothing was said, and nothing stands
-opened_agreed : (leaving : Token → Bool) → Agreed (empty_opening leaving) [] opened
+pub opened_agreed : (leaving : Token → Bool) → Agreed (empty_opening leaving) [] opened
 unfolding Rattle.core_state.specs.Tables.at
 opened_agreed leaving = record {
   stored_is = refl;

@@ -1,4 +1,4 @@
--- Every run from an empty opening is sound.
+-- What holds after each step of a run is sound.
 use Rattle.std.proofs.Common.{◌≡◌, ◌≢◌, ◌⊎◌, inl, inr, ℕ, ◌<◌, ◌+◌, zero, suc, Bool, true, false, List, [], ◌∷◌, length, Option, Some, None, refl, sym, ap, ◌∙◌, subst, arith}
 use Rattle.std.specs.Prelude.{All, AllPairs, Contains, IsSome, IfSome, slice_get, slice_index_or, unwrap_or}
 use Rattle.std.specs.Str.{bytes_eq}
@@ -29,8 +29,7 @@ use Rattle.core_state.specs.Resolve.{Props}
 use Rattle.core_state.specs.State.{StateData, stack_at, graph_at, row_at, job_at}
 use Rattle.core_state.specs.Turns.{token_of, AllDone}
 use Rattle.provider.specs.Table.{Living, TokenState}
-use Rattle.core_laws.specs.Opening.{Opening, first_of, opened, empty_opening}
-use Rattle.core_laws.specs.Runs.{Run, begins, goes_on}
+use Rattle.core_laws.specs.Opening.{Opening, first_of, opened}
 use Rattle.core_laws.specs.Could.{could}
 use Rattle.core_laws.specs.Fits.{plan_of}
 use Rattle.core_laws.specs.Stir.{Stir, IsCovered, waits as by_letter, works as by_job}
@@ -52,18 +51,16 @@ use Rattle.core_laws.proofs.Going.{OnNode, StageFits, Holds, HasFailed, Going}
 use Rattle.core_laws.proofs.NextFits.{All-at, only_one}
 use Rattle.core_laws.proofs.Agreed.{living, AskFits, NodeRow, PlanOf, Agreed}
 use Rattle.core_laws.proofs.Boundary.{named_at, map_at}
-use Rattle.core_laws.proofs.Stirs.{IsHeld, letter as held_letter, job as held_job, Covers, run_covers, run_stirs}
-use Rattle.core_laws.proofs.Further.{GraphMore, Further, step_further}
-use Rattle.core_laws.proofs.Staying.{Stays, alive, run_stays}
-use Rattle.core_laws.proofs.Kept.{run_goes}
-use Rattle.core_laws.proofs.RunTold.{run_agreed}
+use Rattle.core_laws.proofs.Stirs.{IsHeld, letter as held_letter, job as held_job, Covers}
+use Rattle.core_laws.proofs.Further.{GraphMore, Further}
+use Rattle.core_laws.proofs.Staying.{Stays, alive}
 
-nothing_in : {X : Type 0} (xs : List X) (x : X) → xs ≡ [] → Contains xs x → ⊥
+pub nothing_in : {X : Type 0} (xs : List X) (x : X) → xs ≡ [] → Contains xs x → ⊥
 nothing_in [] x is c = omega (arith, c.1)
 nothing_in (y ∷ ys) x is c = cc
 
 -- a row that nothing replaced leads to itself
-leads_self : (rows : List Row) (n t : ℕ) → ((q : Row) → row_at rows n ≡ Some q → q.replaced_by ≡ None) → Leads rows n t → t ≡ n
+pub leads_self : (rows : List Row) (n t : ℕ) → ((q : Row) → row_at rows n ≡ Some q → q.replaced_by ≡ None) → Leads rows n t → t ≡ n
 leads_self rows n t none (ends m q there last) = refl
 leads_self rows n t none (goes m next y q there by lt leads) = let is = none q there in absurd (let both : None ≡ Some next = sym is ∙ by in cc)
 
@@ -71,7 +68,7 @@ abbrev no_number : Option ℕ
 no_number = None
 
 -- the one state of a list
-one_state : (states : List TokenState) (it state : TokenState) → states ≡ it ∷ [] → Contains states state → it ≡ state
+pub one_state : (states : List TokenState) (it state : TokenState) → states ≡ it ∷ [] → Contains states state → it ≡ state
 one_state states it state is c = at c.0 (subst (λ (xs : List TokenState). c.0 < length xs) is c.1) (subst (λ (xs : List TokenState). slice_index_or xs c.0 state ≡ state) is c.2) where
   at : (k : ℕ) → k < 1 → slice_index_or (it ∷ []) k state ≡ state → it ≡ state
   at zero lt e = e
@@ -95,7 +92,7 @@ module _ (o : Opening) (h : List Entry) (s : StateData) (g : Going s) (a : Agree
 
   -- ---- numbers
   one_engine : (e : ℕ) → e ≡ 1 → e < s.next.engine
-  one_engine e is = let two = f.engine in omega (arith, is, two)
+  one_engine e is = let more = f.engine in omega (arith, is, more)
 
   row_below : (n : ℕ) (r : Row) → row_at s.rows n ≡ Some r → RowBelow s.next r
   row_below n r at = let p = f.plain n r at in let (st, found, trav) = row_trav n r at in record {
@@ -332,7 +329,7 @@ module _ (o : Opening) (h : List Entry) (s : StateData) (g : Going s) (a : Agree
             ready = ready i;
             item = k.item;
             asked = asked_item i n name k;
-            kind = ap (λ (x : Row). x.kind.name) same ∙ ap (λ (x : _). x.name) begun.0;
+            kind = ap (λ (x : Row). x.kind.name) same ∙ begun.0;
             props = record { point = k.row.point; there = k.row.its_point; item = k.item; asked = asked_item i n name k; result_is = ap Props props };
           };
       made = λ i n name t there done. let k = row_at_node i n name there in
@@ -538,7 +535,7 @@ module _ (o : Opening) (h : List Entry) (s : StateData) (g : Going s) (a : Agree
     still_there : (it : Living) → it.leaving ≡ true → Stays (Some it) → ⊥
     still_there it is (alive x no_leave) = let both : true ≡ false = sym is ∙ no_leave in cc
 
-  sound : Sound o h s
+  pub sound : Sound o h s
   sound = record {
     numbered = numbered;
     current = current;
@@ -552,10 +549,10 @@ module _ (o : Opening) (h : List Entry) (s : StateData) (g : Going s) (a : Agree
     agrees = rows_agree;
   }
 
-opened_further : Further opened
+pub opened_further : Further opened
 unfolding Rattle.core_state.specs.Tables.at
 opened_further = record {
-  engine = refl;
+  engine = omega arith;
   stacks = λ name st at. cc;
   plain = λ n r at. cc;
   travs = λ n r st at found. cc;
@@ -564,14 +561,3 @@ opened_further = record {
   in_table = λ name gr at. cc;
   letters = λ e j at. cc;
 }
-
-run_further : (leaving : Token → Bool) (s : StateData) (h : List Entry) → Run opened s h → Further s
-run_further leaving s h (begins last all is none) = subst (λ (x : StateData). Further x) (sym is) opened_further
-run_further leaving s h (goes_on mid last cs before after all run step free is made) =
-    let (a, told) = run_agreed leaving mid before run in
-    subst (λ (x : StateData). Further x) (sym is) (step_further mid (run_goes mid before run) (run_further leaving mid before run) a.owned cs after step free)
-
-pub run_sound : (leaving : Token → Bool) (s : StateData) (h : List Entry) → Run opened s h → Sound (empty_opening leaving) h s
-run_sound leaving s h run =
-    let (a, told) = run_agreed leaving s h run in
-    sound (empty_opening leaving) h s (run_goes s h run) a (run_further leaving s h run) (run_covers s h run) (run_stirs s h run) (run_stays leaving s h run)

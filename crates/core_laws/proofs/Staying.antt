@@ -1,4 +1,4 @@
--- In every run no token ever leaves: only creates and polls are asked.
+-- No token ever leaves: only creates and polls are asked.
 use Rattle.std.proofs.Common.{◌≡◌, inl, inr, ℕ, Bool, false, not, List, [], ◌∷◌, ◌++◌, Some, None, refl, sym, subst}
 use Rattle.std.specs.Prelude.{All}
 use Rattle.heat_plan.specs.declared.token.Token.{Token}
@@ -16,8 +16,7 @@ use Rattle.core_state.specs.Steps.{AskingTurn, begun, refused, PollingTurn, wait
 use Rattle.core_state.specs.Turns.{Creating, token_of, created_with, call_entry}
 use Rattle.provider.specs.Table.{Living, begun as begun_as, TokenState, after, after_each, once, same_state}
 use Rattle.core_laws.specs.Asked.{HasNoCall, CallsOnce}
-use Rattle.core_laws.specs.Opening.{Opening, first_of, opened, empty_opening}
-use Rattle.core_laws.specs.Runs.{Run, begins, goes_on}
+use Rattle.core_laws.specs.Opening.{Opening, first_of, empty_opening}
 use Rattle.core_laws.specs.Could.{could}
 use Rattle.core_laws.proofs.Lists.{All-none, All-more, All-first, All-rest, All-sifted, All-flat}
 use Rattle.core_laws.proofs.Coulds.{could-silent, could-called, could-other, token_or_not}
@@ -93,17 +92,16 @@ module _ (o : Opening) (h : List Entry) (old : AllStay o h) where
   polls : (s : StateData) (cs : List Change) (e : ℕ) (given : Answered) (es : List Entry) (k : Creating s e Polling) → PollingTurn s e given cs es → AllStay o (h ++ es)
   polls s cs e given es k turn = called e k.row request.Poll given es (each_polled given) ((steps_tell s cs es).polling e given turn k)
 
-  steps : (s : StateData) (cs : List Change) (es : List Entry) → Step s cs es → AllStay o (h ++ es)
-  steps s cs es (command it) = silent es ((steps_tell s cs es).command it)
-  steps s cs es (quiet e it) = silent es ((steps_tell s cs es).quiet e it)
-  steps s cs es (asking e given (begun k key said is made)) = asks s cs e given es k (begun k key said is made)
-  steps s cs es (asking e given (refused k reason key failure is made)) = asks s cs e given es k (refused k reason key failure is made)
-  steps s cs es (polling e given (waits k key said is made)) = polls s cs e given es k (waits k key said is made)
-  steps s cs es (polling e given (ready k facts key said is made)) = polls s cs e given es k (ready k facts key said is made)
-  steps s cs es (polling e given (broken k reason key failure is made)) = polls s cs e given es k (broken k reason key failure is made)
-  steps s cs es (unstored e given (unstored_turn k size is made)) = called e k.row request.Poll given es (each_polled given) ((steps_tell s cs es).unstored e given (unstored_turn k size is made) k)
-  steps s cs es (note it noted is made) = subst (λ (x : List Entry). AllStay o (h ++ x)) (sym made) (silent (record { by = Main; what = it } ∷ []) (notes_silent s cs [] Main it noted))
+  pub step_stays : (s : StateData) (cs : List Change) (es : List Entry) → Step s cs es → AllStay o (h ++ es)
+  step_stays s cs es (command it) = silent es ((steps_tell s cs es).command it)
+  step_stays s cs es (quiet e it) = silent es ((steps_tell s cs es).quiet e it)
+  step_stays s cs es (asking e given (begun k key said is made)) = asks s cs e given es k (begun k key said is made)
+  step_stays s cs es (asking e given (refused k reason key failure is made)) = asks s cs e given es k (refused k reason key failure is made)
+  step_stays s cs es (polling e given (waits k key said is made)) = polls s cs e given es k (waits k key said is made)
+  step_stays s cs es (polling e given (ready k facts key said is made)) = polls s cs e given es k (ready k facts key said is made)
+  step_stays s cs es (polling e given (broken k reason key failure is made)) = polls s cs e given es k (broken k reason key failure is made)
+  step_stays s cs es (unstored e given (unstored_turn k size is made)) = called e k.row request.Poll given es (each_polled given) ((steps_tell s cs es).unstored e given (unstored_turn k size is made) k)
+  step_stays s cs es (note it noted is made) = subst (λ (x : List Entry). AllStay o (h ++ x)) (sym made) (silent (record { by = Main; what = it } ∷ []) (notes_silent s cs [] Main it noted))
 
-pub run_stays : (leaving : Token → Bool) (s : StateData) (h : List Entry) → Run opened s h → (t : Token) → All Stays (could (first_of (empty_opening leaving)) h t)
-run_stays leaving s h (begins last all is none) = subst (λ (x : List Entry). AllStay (empty_opening leaving) x) (sym none) (λ t. one None absent)
-run_stays leaving s h (goes_on mid last cs before after all run step free is made) = subst (λ (x : List Entry). AllStay (empty_opening leaving) x) (sym made) (steps (empty_opening leaving) before (run_stays leaving mid before run) mid cs after step)
+pub empty_stays : (leaving : Token → Bool) → AllStay (empty_opening leaving) []
+empty_stays leaving t = one None absent

@@ -48,11 +48,11 @@ pub data IsHeld (s : StateData) (st : Stack) (node : ℕ) : Type 0 where
 pub record Covers (s : StateData) : Type 0 where
   pub held : (name : List ℕ) (st : Stack) (g : Graph) (i : ℕ) (p : Point) → stack_at s.stacks name ≡ Some st → st.status ≡ InProgress → graph_at s.graphs name ≡ Some g
       → slice_get g.points i ≡ Some p → p.done ≡ false → IsHeld s st i
-  some : (name : List ℕ) (st : Stack) (g : Graph) → stack_at s.stacks name ≡ Some st → st.status ≡ InProgress → graph_at s.graphs name ≡ Some g
+  pub some : (name : List ℕ) (st : Stack) (g : Graph) → stack_at s.stacks name ≡ Some st → st.status ≡ InProgress → graph_at s.graphs name ≡ Some g
       → (i : ℕ) × (p : Point) × (slice_get g.points i ≡ Some p) × (p.done ≡ false)
 
 -- not all are done, so one isn't
-open_one : (ps : List Point) → (All (λ (p : Point). p.done ≡ true) ps → ⊥) → (i : ℕ) × (p : Point) × (slice_get ps i ≡ Some p) × (p.done ≡ false)
+pub open_one : (ps : List Point) → (All (λ (p : Point). p.done ≡ true) ps → ⊥) → (i : ℕ) × (p : Point) × (slice_get ps i ≡ Some p) × (p.done ≡ false)
 open_one [] not = absurd (not (All-none (λ (p : Point). p.done ≡ true)))
 open_one (p ∷ ps) not = by p.done refl (open_one ps) where
   by : (b : Bool) → p.done ≡ b → ((All (λ (q : Point). q.done ≡ true) ps → ⊥) → (i : ℕ) × (q : Point) × (slice_get ps i ≡ Some q) × (q.done ≡ false))
@@ -280,21 +280,21 @@ module _ (s : StateData) (g : Going s) (c : Covers s) where
   pollings e given cs es (ready k facts key answer is made) = by_changes cs _ is (covers_again s _ c (λ name st at on. at) refl (λ name st i at on h. stage_held s g c e k.job k.works.its Ending _ refl refl st i h))
   pollings e given cs es (broken k reason key failure is made) = by_changes cs _ is (fail_covers s g c e Polling k)
 
-  steps : (cs : List Change) (es : List Entry) → (step : Step s cs es) → IsFree s cs es step → Covers (applied cs s)
-  steps cs es (command (create name plan k is made)) free = by_changes cs _ is (created_covers s g c name plan k free)
-  steps cs es (quiet e turn) free = quiets e cs es turn
-  steps cs es (asking e given turn) free = askings e given cs es turn
-  steps cs es (polling e given turn) free = pollings e given cs es turn
-  steps cs es (unstored e given (unstored_turn k size is made)) free = by_changes cs _ is c
-  steps cs es (note it noted is made) free = by_changes cs _ is c
+  pub step_covers : (cs : List Change) (es : List Entry) → (step : Step s cs es) → IsFree s cs es step → Covers (applied cs s)
+  step_covers cs es (command (create name plan k is made)) free = by_changes cs _ is (created_covers s g c name plan k free)
+  step_covers cs es (quiet e turn) free = quiets e cs es turn
+  step_covers cs es (asking e given turn) free = askings e given cs es turn
+  step_covers cs es (polling e given turn) free = pollings e given cs es turn
+  step_covers cs es (unstored e given (unstored_turn k size is made)) free = by_changes cs _ is c
+  step_covers cs es (note it noted is made) free = by_changes cs _ is c
 
-opened_covers : Covers opened
+pub opened_covers : Covers opened
 unfolding Rattle.core_state.specs.Tables.at
 opened_covers = record { held = λ name st g i p at on at_g there open_. cc; some = λ name st g at on at_g. cc }
 
 pub run_covers : (s : StateData) (h : List Entry) → Run opened s h → Covers s
 run_covers s h (begins last all is none) = subst (λ (x : StateData). Covers x) (sym is) opened_covers
-run_covers s h (goes_on mid last cs before after all run step free is made) = subst (λ (x : StateData). Covers x) (sym is) (steps mid (run_goes mid before run) (run_covers mid before run) cs after step free)
+run_covers s h (goes_on mid last cs before after all run step free is made) = subst (λ (x : StateData). Covers x) (sym is) (step_covers mid (run_goes mid before run) (run_covers mid before run) cs after step free)
 
 -- ---- a held node stirs
 
@@ -323,10 +323,11 @@ module _ (s : StateData) (g : Going s) (name : List ℕ) (st : Stack) (at : stac
   stir_of (letter n l found is_to) = from_node l ((g.waits n l found).on) is_to (λ it. by_letter n l found is_to)
   stir_of (job e j found is_to) = from_node j.letter (((g.holds e j found).1).on) is_to (λ it. by_job e j found is_to)
 
-pub run_stirs : (s : StateData) (h : List Entry) → Run opened s h → (name : List ℕ) (st : Stack) → stack_at s.stacks name ≡ Some st → st.status ≡ InProgress → Stir s st
-run_stirs s h run name st at on =
-    let g = run_goes s h run in
-    let c = run_covers s h run in
+pub stirs_on : (s : StateData) → Going s → Covers s → (name : List ℕ) (st : Stack) → stack_at s.stacks name ≡ Some st → st.status ≡ InProgress → Stir s st
+stirs_on s g c name st at on =
     let it = g.settled name st at in
     let (i, p, there, open_) = c.some name st it.graph at on it.its_graph in
     stir_of s g name st at it.graph it.its_graph i p there open_ (c.held name st it.graph i p at on it.its_graph there open_)
+
+pub run_stirs : (s : StateData) (h : List Entry) → Run opened s h → (name : List ℕ) (st : Stack) → stack_at s.stacks name ≡ Some st → st.status ≡ InProgress → Stir s st
+run_stirs s h run = stirs_on s (run_goes s h run) (run_covers s h run)

@@ -10,20 +10,22 @@ use Rattle.core_state.specs.declared.entry.Entry.{Entry}
 use Rattle.core_state.specs.declared.entry.What.{What}
 use Rattle.core_state.specs.declared.entry.What.TheVariants as what
 use Rattle.core_state.specs.declared.mail.Stage.TheVariants.{Asking, Polling}
+use Rattle.core_state.specs.Changes.{applied}
 use Rattle.core_state.specs.State.{StateData}
-use Rattle.core_state.specs.Steps.{CommandStep, QuietTurn, AskingTurn, PollingTurn, UnstoredTurn, IsNote}
+use Rattle.core_state.specs.Steps.{Step, CommandStep, QuietTurn, AskingTurn, PollingTurn, UnstoredTurn, IsNote}
 use Rattle.core_state.specs.Turns.{Creating, token_of, created_with}
 use Rattle.provider.specs.Table.{TokenState}
 use Rattle.provider.specs.Cloud.{Cloud, IsAlive, state_of}
 use Rattle.provider.specs.Moves.{Answers, Rests}
-use Rattle.core_laws.specs.Opening.{opened, empty_opening}
-use Rattle.core_laws.specs.Runs.{Run}
+use Rattle.core_laws.specs.Opening.{Opening, first_of, opened, empty_opening}
+use Rattle.core_laws.specs.Runs.{Run, IsFree}
 use Rattle.core_laws.specs.Next.{NextFits}
 use Rattle.core_laws.specs.Could.{could, AllAlive}
 use Rattle.core_laws.specs.Shown.{Agrees}
 use Rattle.core_laws.specs.Asked.{HasNoCall, CallsOnce}
 use Rattle.core_laws.specs.Headline.{Headline}
 use Rattle.core_laws.specs.Sound.{Sound}
+use Rattle.core_laws.specs.FirstPath.{OnFirstPath}
 
 -- the engine 1 is the only one, and lives
 abbrev pub OneLives : Type 0
@@ -82,3 +84,36 @@ RunsHaveHeadline = (leaving : Token → Bool) (s : StateData) (h : List Entry) �
 abbrev pub RunsAreSound : Type 0
 RunsAreSound = (leaving : Token → Bool) (s : StateData) (h : List Entry) → Run opened s h
     → Sound (empty_opening leaving) h s
+
+-- a state that is sound and on the first path
+pub record IsSoundSoFar (o : Opening) (h : List Entry) (s : StateData) : Type 0 where
+  pub sound : Sound o h s
+  pub first : OnFirstPath o h s
+
+-- an empty history over nothing is sound
+abbrev pub EmptyIsSound : Type 0
+EmptyIsSound = (leaving : Token → Bool) → IsSoundSoFar (empty_opening leaving) [] opened
+
+-- each step keeps it
+abbrev pub StepsKeepSound : Type 0
+StepsKeepSound = (o : Opening) (h : List Entry) (s : StateData) (cs : List Change) (es : List Entry)
+    → IsSoundSoFar o h s → (step : Step s cs es) → IsFree s cs es step → IsSoundSoFar o (h ++ es) (applied cs s)
+
+-- so does every run from an opening that is sound
+abbrev pub SoundOpeningsStaySound : Type 0
+SoundOpeningsStaySound = (o : Opening) (s : StateData) (h : List Entry) → IsSoundSoFar o [] o.state
+    → Run o.state s h → IsSoundSoFar o h s
+
+-- and has the headline
+abbrev pub SoundOpeningsHaveHeadline : Type 0
+SoundOpeningsHaveHeadline = (o : Opening) (s : StateData) (h : List Entry) → IsSoundSoFar o [] o.state
+    → Run o.state s h → Headline o h s
+
+-- what an opening at this moment would begin with
+abbrev pub opening_at : StateData → Cloud → Opening
+opening_at s cloud = record { state = s; alive = cloud.alive; leaving = cloud.leaving }
+
+-- with a cloud in a state that the history allows it is a sound opening again
+abbrev pub StatesAreOpenings : Type 0
+StatesAreOpenings = (o : Opening) (h : List Entry) (s : StateData) (cloud : Cloud) → IsSoundSoFar o h s
+    → Agrees (first_of o) h cloud → IsSoundSoFar (opening_at s cloud) [] s

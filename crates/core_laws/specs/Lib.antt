@@ -20,5 +20,6 @@ pub mod MailFits
 pub mod MarkFits
 pub mod RowsAgree
 pub mod Sound
+pub mod FirstPath
 pub mod Example
 pub mod Laws

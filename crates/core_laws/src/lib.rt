@@ -3,9 +3,13 @@
 #![tactic(auto)]
 
 mod example;
+mod openings;
 mod runs;
 mod shown;
 
 pub use example::one_resource;
+pub use openings::{
+    empty_is_sound, sound_openings_have_headline, states_are_openings, steps_keep_sound,
+};
 pub use runs::{next_is_there, one_lives, polled_is_alive, runs_are_sound, runs_have_headline};
 pub use shown::{calls_agree, steps_tell};

@@ -1,0 +1,35 @@
+-- What holds of some of a list, and of all of it.
+use Rattle.std.proofs.Common.{zero, suc, List, [], ◌∷◌, ◌++◌, refl, subst, arith}
+use Rattle.std.specs.Prelude.{All, Any, Contains}
+use Rattle.std.specs.List.{AllZip}
+
+module _ {X : Type 0} (P : X → Type 0) where
+  pub all_at : (xs : List X) → All P xs → (x : X) → Contains xs x → P x
+  all_at xs all x c = subst P c.2 (all c.0 x c.1)
+
+  pub any_first : (x : X) (xs : List X) → P x → Any P (x ∷ xs)
+  any_first x xs h = (0, x, omega arith, refl, h)
+
+  pub any_more : (x : X) (xs : List X) → Any P xs → Any P (x ∷ xs)
+  any_more x xs (k, y, lt, at, h) = (suc k, y, omega (arith, lt), at, h)
+
+  pub any_behind : (xs ys : List X) → Any P ys → Any P (xs ++ ys)
+  any_behind [] ys h = h
+  any_behind (x ∷ xs) ys h = any_more x (xs ++ ys) (any_behind xs ys h)
+
+  pub any_before : (xs ys : List X) → Any P xs → Any P (xs ++ ys)
+  any_before [] ys (k, y, lt, at, h) = absurd (omega (arith, lt))
+  any_before (x ∷ xs) ys (zero, y, lt, at, h) = (0, y, omega arith, at, h)
+  any_before (x ∷ xs) ys (suc k, y, lt, at, h) = any_more x (xs ++ ys) (any_before xs ys (k, y, omega (arith, lt), at, h))
+
+  pub any_of : (xs : List X) (x : X) → Contains xs x → P x → Any P xs
+  any_of xs x c h = (c.0, x, c.1, c.2, h)
+
+pub first_in : {X : Type 0} (x : X) (xs : List X) → Contains (x ∷ xs) x
+first_in x xs = (0, omega arith, refl)
+
+pub zip_at : {X Y : Type 0} (R : X → Y → Type 0) (xs : List X) (ys : List Y) → AllZip R xs ys → (x : X) → Contains xs x → (y : Y) × R x y
+zip_at R [] ys zip x (k, lt, at) = absurd (omega (arith, lt))
+zip_at R (x ∷ xs) [] zip z c = absurd zip
+zip_at R (x ∷ xs) (y ∷ ys) zip z (zero, lt, at) = (y, subst (λ (w : _). R w y) at zip.0)
+zip_at R (x ∷ xs) (y ∷ ys) zip z (suc k, lt, at) = zip_at R xs ys zip.1 z (k, omega (arith, lt), at)

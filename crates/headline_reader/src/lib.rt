@@ -1,0 +1,24 @@
+//! A plain, slow reading of a history: the words of the headline, computed on a list of entries that
+//! begins with nothing standing and nothing alive. It is what a reader trusts the definitions of core_laws
+//! by; nothing here is fast, decides a step, or asks a cloud. Its contracts are those definitions.
+#![tactic(auto)]
+
+mod after;
+mod certain;
+mod fitting;
+mod items;
+mod living;
+mod marks;
+mod possible;
+mod rows;
+mod states;
+#[cfg(test)]
+mod tests;
+mod traversal;
+
+pub use fitting::fits;
+pub use living::Living;
+pub use marks::mark_of;
+pub use rows::stored;
+pub use states::could;
+pub use traversal::{Latest, newest};

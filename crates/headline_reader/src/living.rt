@@ -1,0 +1,165 @@
+//! What an alive resource is, as the calls of a history tell it.
+ghost use Rattle.std.specs.Prelude.{◌≡◌, IfOk};
+ghost use Rattle.provider.specs.Same.{same_members, same_facts};
+ghost use Rattle.provider.specs.Table.{begun, updated, going, told, same_told, same_state};
+
+use core_state::copy_option;
+use heat_plan::{Facts, Properties};
+use heat_value::{Text, TryCopy};
+use std::alloc::AllocError;
+use std::marker::Model;
+
+/// Its kind's name, its properties, its facts where it is ready, and whether it is leaving.
+#[derive(Debug, Drop)]
+pub struct Living {
+    pub(crate) kind: Text,
+    pub(crate) props: Properties,
+    pub(crate) facts: Option<Facts>,
+    pub(crate) leaving: bool,
+}
+
+impl Model for Living {
+    ghost use Rattle.std.specs.Coded.{codes};
+    ghost use Rattle.heat_value.specs.Code.{data_code, members_code};
+    ghost use Rattle.provider.specs.Table.{Living as living_type};
+
+    ghost Value = { living_type };
+
+    ghost coded = { Prim.hlevel (codes, data_code, members_code) };
+
+    ghost view = { λ l. record {
+      kind = l.kind;
+      props = l.props;
+      facts = l.facts;
+      leaving = l.leaving;
+    } };
+}
+
+impl TryCopy for Living {
+    fn copy(&self) -> Result<Living, AllocError> {
+        Ok(Living {
+            kind: self.kind.copy()?,
+            props: self.props.copy()?,
+            facts: copy_option(&self.facts)?,
+            leaving: self.leaving,
+        })
+    }
+}
+
+impl Living {
+    /// Its properties.
+    pub fn props(&self) -> &Properties
+        ensures { result.now ≡ self.now.props }
+    {
+        &self.props
+    }
+
+    /// Its facts, where it is ready.
+    pub fn facts(&self) -> &Option<Facts>
+        ensures { result.now ≡ self.now.facts }
+    {
+        &self.facts
+    }
+
+    /// As a create begins it.
+    pub(crate) fn begun(kind: &Text, props: &Properties) -> Result<Living, AllocError>
+        ensures { IfOk result (λ l. l ≡ begun kind.now props.now) }
+    {
+        Ok(Living {
+            kind: kind.copy()?,
+            props: props.copy()?,
+            facts: None,
+            leaving: false,
+        })
+    }
+
+    /// As an update sets it: its facts are dropped where the properties differed.
+    pub(crate) fn updated(&self, props: &Properties) -> Result<Living, AllocError>
+        ensures { IfOk result (λ l. l ≡ updated props.now self.now) }
+    {
+        if same_props(props, &self.props) {
+            return self.copy();
+        }
+        Ok(Living {
+            kind: self.kind.copy()?,
+            props: props.copy()?,
+            facts: None,
+            leaving: self.leaving,
+        })
+    }
+
+    /// As a delete leaves it.
+    pub(crate) fn going(&self) -> Result<Living, AllocError>
+        ensures { IfOk result (λ l. l ≡ going self.now) }
+    {
+        Ok(Living {
+            kind: self.kind.copy()?,
+            props: self.props.copy()?,
+            facts: copy_option(&self.facts)?,
+            leaving: true,
+        })
+    }
+
+    /// With the facts that were told.
+    pub(crate) fn told(&self, facts: &Facts) -> Result<Living, AllocError>
+        ensures { IfOk result (λ l. l ≡ told facts.now self.now) }
+    {
+        Ok(Living {
+            kind: self.kind.copy()?,
+            props: self.props.copy()?,
+            facts: Some(facts.copy()?),
+            leaving: self.leaving,
+        })
+    }
+}
+
+// Whether two maps hold the same.
+fn same_props(a: &Properties, b: &Properties) -> bool
+    ensures { result ≡ same_members a.now b.now }
+{
+    a.equals(b)
+}
+
+fn same_facts(a: &Facts, b: &Facts) -> bool
+    ensures { result ≡ same_facts a.now b.now }
+{
+    a.id == b.id && same_props(&a.attrs, &b.attrs)
+}
+
+fn same_told(a: &Option<Facts>, b: &Option<Facts>) -> bool
+    ensures { result ≡ same_told a.now b.now }
+{
+    match a {
+        None => b.is_none(),
+        Some(a) => match b {
+            None => false,
+            Some(b) => same_facts(a, b),
+        },
+    }
+}
+
+/// Whether two states are the same.
+pub(crate) fn same_state(a: &Option<Living>, b: &Option<Living>) -> bool
+    ensures { result ≡ same_state a.now b.now }
+{
+    match a {
+        None => b.is_none(),
+        Some(a) => match b {
+            None => false,
+            Some(b) => same_living(a, b),
+        },
+    }
+}
+
+fn same_living(a: &Living, b: &Living) -> bool
+    ensures { result ≡ same_state (Some a.now) (Some b.now) }
+{
+    a.kind == b.kind && same_rest(a, b)
+}
+
+// All but the kind.
+fn same_rest(a: &Living, b: &Living) -> bool
+    ensures { a.now.kind ≡ b.now.kind → result ≡ same_state (Some a.now) (Some b.now) }
+{
+    same_props(&a.props, &b.props) && (same_told(&a.facts, &b.facts) && a.leaving == b.leaving)
+}

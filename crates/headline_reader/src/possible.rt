@@ -1,0 +1,56 @@
+//! The tokens that a history's calls name, and the states in which each may be. No other token can be
+//! alive where nothing was alive at first.
+ghost use Rattle.std.specs.Prelude.{◌≡◌, ◌++◌, IfOk, OnOk};
+ghost use Rattle.headline_reader.specs.Called.{called, called_by, could_be};
+
+use crate::living::Living;
+use crate::states::states_of;
+use core_state::{Entry, What};
+use heat_plan::{StackName, Token};
+use heat_value::{Seq, TryCopy};
+use std::alloc::{AllocError, Global};
+
+/// A token and its states.
+#[derive(Debug, Drop)]
+pub(crate) struct Possible {
+    pub(crate) token: Token,
+    pub(crate) states: Seq<Option<Living>>,
+}
+
+/// For each call on the stack, its token with the states in which that may be at the end.
+pub(crate) fn called(
+    alloc: Global,
+    entries: &[Entry],
+    stack: &StackName,
+) -> Result<Seq<Possible>, AllocError>
+    ensures { IfOk result (λ ps. ps ≡ called (could_be entries.now) stack.now entries.now) }
+{
+    let mut all = Seq::new(alloc);
+    for entry in entries {
+        add_called(alloc, &mut all, entries, stack, &entry.what)?;
+    }
+    Ok(all)
+}
+
+// Where this is a call on the stack, its token and states.
+fn add_called(
+    alloc: Global,
+    all: &mut Seq<Possible>,
+    entries: &[Entry],
+    stack: &StackName,
+    what: &What,
+) -> Result<(), AllocError>
+    ensures { OnOk result
+        (all.new ≡ all.old ++ called_by (could_be entries.now) stack.now what.now) }
+{
+    match what {
+        What::Call { token, .. } if token.stack == *stack => {
+            let states = states_of(alloc, entries, token)?;
+            all.push(Possible {
+                token: token.copy()?,
+                states,
+            })
+        }
+        _ => Ok(()),
+    }
+}

@@ -1,0 +1,58 @@
+//! The rows that are stored: each row write in its turn.
+ghost use Rattle.std.specs.Prelude.{◌≡◌, Bool, IfOk, OnOk, fold};
+ghost use Rattle.heat_plan.specs.declared.token.Token.{Token};
+ghost use Rattle.core_laws.specs.Opening.{empty_opening};
+ghost use Rattle.core_laws.specs.Stored.{stored, stored_by, written};
+
+use core_state::{Entry, Row, RowWrite, Table, What};
+use heat_value::TryCopy;
+use std::alloc::{AllocError, Global};
+
+/// The rows, in the order in which their numbers came.
+pub fn stored(alloc: Global, entries: &[Entry]) -> Result<Table<Row>, AllocError>
+    ensures { (leaving : Token → Bool)
+        → IfOk result (λ t. t.items ≡ stored (empty_opening leaving) entries.now) }
+{
+    let mut rows = Table::new(alloc);
+    for entry in entries {
+        store(&mut rows, &entry.what)?;
+    }
+    Ok(rows)
+}
+
+// What an entry writes, in its turn.
+fn store(rows: &mut Table<Row>, what: &What) -> Result<(), AllocError>
+    ensures { OnOk result (rows.new.items ≡ stored_by rows.old.items what.now) }
+{
+    match what {
+        What::Rows { writes } => store_all(rows, writes.as_slice()),
+        _ => Ok(()),
+    }
+}
+
+fn store_all(rows: &mut Table<Row>, writes: &[RowWrite]) -> Result<(), AllocError>
+    ensures { OnOk result (rows.new.items ≡ fold written rows.old.items writes.now) }
+{
+    for write in writes {
+        store_one(rows, write)?;
+    }
+    Ok(())
+}
+
+// A row is set under its number, or goes.
+fn store_one(rows: &mut Table<Row>, write: &RowWrite) -> Result<(), AllocError>
+    ensures { OnOk result (rows.new.items ≡ written rows.old.items write.now) }
+{
+    match write {
+        RowWrite::Set(row) => {
+            let row = row.copy()?;
+            rows.reserve(1)?;
+            rows.put(row);
+            Ok(())
+        }
+        RowWrite::Purge(no) => {
+            rows.cut(no);
+            Ok(())
+        }
+    }
+}
