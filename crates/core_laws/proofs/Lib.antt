@@ -30,3 +30,4 @@ pub mod Further
 pub mod Staying
 pub mod Sounds
 pub mod Examples
+pub mod Leaves

@@ -22,3 +22,4 @@ pub mod RowsAgree
 pub mod Sound
 pub mod Example
 pub mod Laws
+pub mod LeavesOthers

@@ -3,9 +3,11 @@
 #![tactic(auto)]
 
 mod example;
+mod leaving;
 mod runs;
 mod shown;
 
 pub use example::one_resource;
+pub use leaving::steps_leave_others;
 pub use runs::{next_is_there, one_lives, polled_is_alive, runs_are_sound, runs_have_headline};
 pub use shown::{calls_agree, steps_tell};
