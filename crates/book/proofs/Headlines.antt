@@ -1,5 +1,5 @@
 -- The headline of a book over a cloud that was empty at first.
-use Rattle.std.proofs.Common.{◌≡◌, List, [], sym, subst}
+use Rattle.std.proofs.Common.{List, sym, subst}
 use Rattle.provider.specs.declared.alive.Alive.{Alive}
 use Rattle.provider.specs.Cloud.{Cloud, HasNone, state_of}
 use Rattle.core_laws.specs.Headline.{Headline}

@@ -1,6 +1,6 @@
 -- What a book keeps, through a turn, a create and a note.
 use Rattle.std.proofs.Common.{◌≡◌, ℕ, List, [], ◌∷◌, ◌++◌, refl, sym, ap, ◌∙◌, subst}
-use Rattle.std.specs.Prelude.{◌≢◌, All, Contains, Result, IsSome, option_map, Option, Some, None}
+use Rattle.std.specs.Prelude.{◌≢◌, Contains, Result, IsSome, option_map, Option, Some, None}
 use Rattle.heat_plan.specs.declared.refusal.Refusal.{Refusal}
 use Rattle.std.proofs.lemmas.List.{append-nil, append_assoc}
 use Rattle.std.proofs.lemmas.List.Elements.{All-contains}

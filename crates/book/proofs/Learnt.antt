@@ -1,6 +1,5 @@
 -- What was learned from a poll, as a turn.
-use Rattle.std.proofs.Common.{◌≡◌, ℕ, List, refl}
-use Rattle.heat_plan.specs.declared.facts.Facts.{Facts}
+use Rattle.std.proofs.Common.{ℕ, List, refl}
 use Rattle.heat_plan.specs.declared.calls.Request.TheVariants as request
 use Rattle.heat_plan.specs.declared.calls.Answered.{Answered}
 use Rattle.core_state.specs.declared.entry.Entry.{Entry}

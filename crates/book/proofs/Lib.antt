@@ -7,3 +7,4 @@ pub mod Kept
 pub mod Refusals
 pub mod Headlines
 pub mod Idles
+pub mod OneItem

@@ -1,5 +1,5 @@
 -- A step that asks nobody, as a turn.
-use Rattle.std.proofs.Common.{◌≡◌, ℕ, List, [], ◌∷◌, refl, sym, ap, subst}
+use Rattle.std.proofs.Common.{◌≡◌, ℕ, List, refl, ap, subst}
 use Rattle.std.specs.Prelude.{Result, IfOk, IfErr, Option, Some, None, option_map}
 use Rattle.heat_plan.specs.declared.refusal.Refusal.{Refusal}
 use Rattle.core_state.specs.declared.entry.Entry.{Entry}

@@ -1,5 +1,5 @@
 -- Why a create is refused.
-use Rattle.std.proofs.Common.{◌≡◌, List, ℕ, refl, ap}
+use Rattle.std.proofs.Common.{List, ℕ, refl, ap}
 use Rattle.std.specs.Prelude.{Err}
 use Rattle.heat_plan.specs.Plans.{PlanData}
 use Rattle.heat_plan.specs.declared.refusal.Refusal.{Refusal}

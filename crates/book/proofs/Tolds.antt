@@ -1,6 +1,5 @@
 -- What a call of the provider says, as a call that is told.
-use Rattle.std.proofs.Common.{◌≡◌, ◌≢◌, ◌∷◌, ◌++◌, ℕ, List, refl, subst}
-use Rattle.std.specs.Prelude.{All, IsSome}
+use Rattle.std.proofs.Common.{◌≡◌, ◌≢◌, ℕ, List, subst}
 use Rattle.heat_plan.specs.declared.token.Token.{Token}
 use Rattle.heat_plan.specs.declared.facts.Facts.{Facts}
 use Rattle.heat_plan.specs.declared.calls.Request.{Request}

@@ -1,5 +1,5 @@
 -- A cloud that wasn't asked is as before; a refusal that is Worn has its cause.
-use Rattle.std.proofs.Common.{◌≡◌, ℕ, refl}
+use Rattle.std.proofs.Common.{◌≡◌, refl}
 use Rattle.heat_plan.specs.declared.refusal.Refusal.{Refusal}
 use Rattle.heat_plan.specs.declared.refusal.Refusal.TheVariants.{Worn}
 use Rattle.core_state.specs.declared.row.Row.{Row}

@@ -1,5 +1,5 @@
 -- What the parts of a turn make of state and history.
-use Rattle.std.specs.Prelude.{◌≡◌, ℕ, List, [], ◌++◌, None}
+use Rattle.std.specs.Prelude.{◌≡◌, ℕ, List, [], ◌++◌}
 use Rattle.std.specs.Prelude.{Result, Ok, Err}
 use Rattle.heat_plan.specs.declared.calls.Answered.{Answered}
 use Rattle.heat_plan.specs.declared.refusal.Refusal.{Refusal}
@@ -8,7 +8,7 @@ use Rattle.core_state.specs.declared.change.Change.{Change}
 use Rattle.core_state.specs.declared.entry.Entry.{Entry}
 use Rattle.core_state.specs.declared.made.Made.{Made}
 use Rattle.core_state.specs.Changes.{applied}
-use Rattle.core_state.specs.State.{StateData, job_at}
+use Rattle.core_state.specs.State.{StateData}
 use Rattle.core_state.specs.Steps.{QuietTurn, PollingTurn, UnstoredTurn}
 use Rattle.book.specs.declared.turning.Turn.{Turn}
 use Rattle.book.specs.declared.turning.Turn.TheVariants as turn

@@ -9,6 +9,8 @@ mod engine;
 mod making;
 mod opening;
 mod poll;
+#[cfg(test)]
+mod tests;
 mod tokens;
 mod turning;
 

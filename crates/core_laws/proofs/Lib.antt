@@ -36,3 +36,4 @@ pub mod FromStates
 pub mod FromOpening
 pub mod Reopened
 pub mod Examples
+pub mod Leaves

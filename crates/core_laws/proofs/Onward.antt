@@ -1,5 +1,5 @@
 -- All that holds after each step of the first path, from an opening at which it holds.
-use Rattle.std.proofs.Common.{List, [], ◌++◌, sym, subst}
+use Rattle.std.proofs.Common.{List, [], ◌++◌, take, sym, subst}
 use Rattle.std.specs.Prelude.{All}
 use Rattle.heat_plan.specs.declared.token.Token.{Token}
 use Rattle.core_state.specs.declared.change.Change.{Change}
@@ -64,4 +64,9 @@ module _ (o : Opening) (first : Onward o [] o.state) where
   pub headline_onward : (s : StateData) (h : List Entry) → Run o.state s h → Headline o h s
   headline_onward s h run =
       let (w, told) = run_onward s h run in
-      record { prefixes = told.prefixes; entries = told.entries; stirs = stirs_on s w.going w.covers }
+      record {
+        prefixes = told.prefixes;
+        entries = told.entries;
+        stirs = stirs_on s w.going w.covers;
+        stirred = λ n mid within before. let (v, so_far) = run_onward mid (take n h) before in stirs_on mid v.going v.covers;
+      }

@@ -1,5 +1,5 @@
 -- Every run is told.
-use Rattle.std.proofs.Common.{◌≡◌, ℕ, Bool, List, [], ◌∷◌, ◌++◌, refl, sym, ap, ◌∙◌, subst}
+use Rattle.std.proofs.Common.{◌≡◌, ℕ, Bool, List, [], ◌∷◌, ◌++◌, take, refl, sym, ap, ◌∙◌, subst}
 use Rattle.heat_value.specs.Data.{Members}
 use Rattle.heat_plan.specs.declared.token.Token.{Token}
 use Rattle.heat_plan.specs.declared.calls.Request.TheVariants as request
@@ -149,4 +149,4 @@ run_agreed leaving s h (goes_on mid last cs before after all run step free is ma
 pub runs_have_headline : (leaving : Token → Bool) (s : StateData) (h : List Entry) → Run opened s h → Headline (empty_opening leaving) h s
 runs_have_headline leaving s h run =
     let (a, told) = run_agreed leaving s h run in
-    record { prefixes = told.prefixes; entries = told.entries; stirs = run_stirs s h run }
+    record { prefixes = told.prefixes; entries = told.entries; stirs = run_stirs s h run; stirred = λ n mid within before. run_stirs mid (take n h) before }

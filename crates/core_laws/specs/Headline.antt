@@ -11,6 +11,7 @@ use Rattle.core_state.specs.declared.entry.Entry.{Entry}
 use Rattle.core_state.specs.declared.entry.What.TheVariants as what
 use Rattle.core_state.specs.State.{StateData, stack_at}
 use Rattle.core_laws.specs.Opening.{Opening}
+use Rattle.core_laws.specs.Runs.{Run}
 use Rattle.core_laws.specs.Newest.{Latest, newest}
 use Rattle.core_laws.specs.Marked.{mark_of}
 use Rattle.core_laws.specs.Tokens.{IsNamed}
@@ -45,9 +46,13 @@ pub record FitsIn (o : Opening) (before : List Entry) (e : Entry) : Type 0 where
   pub quiet : (token : Token) (request : Request) (given : Answered) → e.what ≡ what.Call token request given
       → mark_of o before token.stack ≢ Some Complete
 
+-- each stack without a mark still stirs
+abbrev pub EachStirs : StateData → Type 0
+EachStirs s = (name : List ℕ) (st : Stack) → stack_at s.stacks name ≡ Some st → st.status ≡ InProgress → Stir s st
+
 pub record Headline (o : Opening) (h : List Entry) (s : StateData) : Type 0 where
   pub prefixes : (n : ℕ) → n ≤ length h → AtPrefix o (take n h)
   pub entries : (n : ℕ) (e : Entry) → slice_get h n ≡ Some e → FitsIn o (take n h) e
-  -- a stack without a mark still stirs
-  pub stirs : (name : List ℕ) (st : Stack) → stack_at s.stacks name ≡ Some st → st.status ≡ InProgress
-      → Stir s st
+  -- a stack without a mark stirs, now and after every step that led here
+  pub stirs : EachStirs s
+  pub stirred : (n : ℕ) (mid : StateData) → n ≤ length h → Run o.state mid (take n h) → EachStirs mid

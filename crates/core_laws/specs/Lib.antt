@@ -23,3 +23,4 @@ pub mod Sound
 pub mod FirstPath
 pub mod Example
 pub mod Laws
+pub mod LeavesOthers

@@ -3,11 +3,13 @@
 #![tactic(auto)]
 
 mod example;
+mod leaving;
 mod openings;
 mod runs;
 mod shown;
 
 pub use example::one_resource;
+pub use leaving::steps_leave_others;
 pub use openings::{
     empty_is_sound, sound_openings_have_headline, states_are_openings, steps_keep_sound,
 };
