@@ -37,7 +37,7 @@ use Rattle.core_laws.proofs.Coulds.{could-silent, could-other}
 use Rattle.core_laws.proofs.Tells.{steps_tell, notes_silent}
 use Rattle.core_laws.proofs.Drawn.{rows-old, rows-found, letters-old, letters-found}
 use Rattle.core_laws.proofs.Created.{created_to, created_is, made_stack, made_graph}
-use Rattle.core_laws.proofs.Sounds.{run_sound}
+use Rattle.core_laws.proofs.FromOpening.{opened_sound}
 
 -- ---- one table, and the records of which P holds
 
@@ -295,4 +295,4 @@ step_leaves s numbered lock cs es (note it noted is made) name ne h = by_changes
     (unchanged s name h (h ++ es) (silent s name h es (subst (λ (x : List Entry). HasNoCall x) (sym made) (notes_silent s cs [] Main it noted))))
 
 pub run_leaves : RunLeavesOthers
-run_leaves s h run cs es step name ne = let sound = run_sound (λ _. false) s h run in step_leaves s sound.numbered sound.locked cs es step name ne h
+run_leaves s h run cs es step name ne = let sound = opened_sound (λ _. false) s h run in step_leaves s sound.numbered sound.locked cs es step name ne h

@@ -1,5 +1,5 @@
 -- A sound state, with what its cloud shows, is a sound opening again.
-use Rattle.std.proofs.Common.{◌≡◌, inl, ℕ, List, [], ◌∷◌, Some, None, refl, sym, ap, ◌∙◌, subst}
+use Rattle.std.proofs.Common.{◌≡◌, inl, List, [], ◌∷◌, Some, None, refl, sym, ap, subst}
 use Rattle.std.specs.Prelude.{Contains}
 use Rattle.heat_plan.specs.declared.token.Token.{Token}
 use Rattle.core_state.specs.declared.row.Row.{Row}
@@ -14,7 +14,7 @@ use Rattle.core_laws.specs.Shown.{Agrees}
 use Rattle.core_laws.specs.RowsAgree.{RowsAgree}
 use Rattle.core_laws.specs.Sound.{Sound}
 use Rattle.core_laws.specs.FirstPath.{OnFirstPath}
-use Rattle.core_laws.specs.Laws.{IsSoundSoFar, opening_at, StatesAreOpenings}
+use Rattle.core_laws.specs.Laws.{opening_at, StatesAreOpenings}
 use Rattle.core_laws.proofs.Sounds.{one_state}
 
 module _ (o : Opening) (h : List Entry) (s : StateData) (cloud : Cloud) (x : Sound o h s) (p : OnFirstPath o h s) (shows : Agrees (first_of o) h cloud) where

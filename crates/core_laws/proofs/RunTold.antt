@@ -1,5 +1,5 @@
--- Every run is told.
-use Rattle.std.proofs.Common.{◌≡◌, ℕ, Bool, List, [], ◌∷◌, ◌++◌, take, refl, sym, ap, ◌∙◌, subst}
+-- Every step is told.
+use Rattle.std.proofs.Common.{◌≡◌, ℕ, Bool, List, [], ◌∷◌, ◌++◌, refl, sym, ap, ◌∙◌, subst}
 use Rattle.heat_value.specs.Data.{Members}
 use Rattle.heat_plan.specs.declared.token.Token.{Token}
 use Rattle.heat_plan.specs.declared.calls.Request.TheVariants as request
@@ -21,25 +21,23 @@ use Rattle.core_state.specs.Turns.{token_of, call_entry, created_with, locked, n
 use Rattle.provider.specs.Table.{TokenState}
 use Rattle.core_laws.specs.Asked.{HasNoCall}
 use Rattle.core_laws.specs.Opening.{Opening, first_of, opened, empty_opening}
-use Rattle.core_laws.specs.Runs.{CreatesApart, Run, begins, goes_on, IsFree}
+use Rattle.core_laws.specs.Runs.{CreatesApart, IsFree}
 use Rattle.core_laws.specs.Newest.{newest}
 use Rattle.core_laws.specs.Marked.{mark_of}
 use Rattle.core_laws.specs.Stored.{stored}
-use Rattle.core_laws.specs.Headline.{FitsIn, Headline}
+use Rattle.core_laws.specs.Headline.{FitsIn}
 use Rattle.core_laws.proofs.Coulds.{could-silent}
 use Rattle.core_laws.proofs.Tells.{notes_silent}
 use Rattle.core_laws.proofs.Folds.{newest-append, mark-append, stored-append}
 use Rattle.core_laws.proofs.Going.{Going}
-use Rattle.core_laws.proofs.Kept.{step_goes, opened_goes, run_goes}
 use Rattle.core_laws.proofs.Created.{created_is}
 use Rattle.core_laws.proofs.Agreed.{StateFits, AskFits, Agreed}
 use Rattle.core_laws.proofs.Boundary.{at_boundary}
 use Rattle.core_laws.proofs.Says.{fits_in}
-use Rattle.core_laws.proofs.Told.{Told, Follows, told_step, told_none}
+use Rattle.core_laws.proofs.Told.{Follows}
 use Rattle.core_laws.proofs.QuietTold.{next, follow_quiet, follow_marked, take_agrees, begin_agrees, finish_agrees, finish_last_agrees, last_newest}
 use Rattle.core_laws.proofs.CallTold.{begun_agrees, begun_follows, waits_agrees, unstored_agrees, poll_follows, ready_agrees, ready_follows, fail_told}
 use Rattle.core_laws.proofs.CreateTold.{create_agrees, create_follows}
-use Rattle.core_laws.proofs.Stirs.{run_stirs}
 
 module _ (o : Opening) (h : List Entry) (s : StateData) (g : Going s) (a : Agreed o h s) where
   -- what a step has to keep
@@ -131,22 +129,3 @@ opened_agreed leaving = record {
   others = λ t none. refl;
   asked = λ e j r at found. cc;
 }
-
-pub run_agreed : (leaving : Token → Bool) (s : StateData) (h : List Entry) → Run opened s h → Agreed (empty_opening leaving) h s × Told (empty_opening leaving) h
-run_agreed leaving s h (begins last all is none) =
-    let a = opened_agreed leaving in
-    subst (λ (x : StateData). Agreed (empty_opening leaving) h x × Told (empty_opening leaving) h) (sym is)
-    (subst (λ (x : List Entry). Agreed (empty_opening leaving) x opened × Told (empty_opening leaving) x) (sym none)
-    (a, told_none (empty_opening leaving) (at_boundary (empty_opening leaving) [] opened opened_goes a)))
-run_agreed leaving s h (goes_on mid last cs before after all run step free is made) =
-    let g = run_goes mid before run in
-    let (a, told) = run_agreed leaving mid before run in
-    let (b, follows) = step_told (empty_opening leaving) before mid g a cs after step free (step_goes mid cs after g step free) in
-    subst (λ (x : StateData). Agreed (empty_opening leaving) h x × Told (empty_opening leaving) h) (sym is)
-    (subst (λ (x : List Entry). Agreed (empty_opening leaving) x (applied cs mid) × Told (empty_opening leaving) x) (sym made)
-    (b, told_step (empty_opening leaving) before after told follows))
-
-pub runs_have_headline : (leaving : Token → Bool) (s : StateData) (h : List Entry) → Run opened s h → Headline (empty_opening leaving) h s
-runs_have_headline leaving s h run =
-    let (a, told) = run_agreed leaving s h run in
-    record { prefixes = told.prefixes; entries = told.entries; stirs = run_stirs s h run; stirred = λ n mid within before. run_stirs mid (take n h) before }

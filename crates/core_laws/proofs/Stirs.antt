@@ -26,7 +26,7 @@ use Rattle.core_state.specs.State.{StateData, stack_at, graph_at, letter_at, job
 use Rattle.core_state.specs.Steps.{create, QuietTurn, take, begin, finish, finish_last, AskingTurn, begun, refused, PollingTurn, waits, ready, broken, unstored as unstored_turn, Step, command, quiet, asking, polling, unstored, note}
 use Rattle.core_state.specs.Turns.{Takes, new_job, with_stage, Creating, failed_row, failed_changes, Finishes, unlocked, done_point, AllDone, completed}
 use Rattle.core_laws.specs.Opening.{opened}
-use Rattle.core_laws.specs.Runs.{HasNoNeeds, Run, begins, goes_on, IsFree}
+use Rattle.core_laws.specs.Runs.{HasNoNeeds, IsFree}
 use Rattle.core_laws.specs.Stir.{IsTo, IsCovered, waits as by_letter, works as by_job, Stir}
 use Rattle.core_laws.proofs.Tables.{set_else, set_here}
 use Rattle.core_laws.proofs.Rows.{same_some, same_or_not, text_or_not, stack-key, graph-key, job-key, stack_put, graph_here, graph_else, letter_kept, job_here}
@@ -37,7 +37,6 @@ use Rattle.core_laws.proofs.NextFits.{only_one}
 use Rattle.core_laws.proofs.Drawn.{letters-old, letters-new, to}
 use Rattle.core_laws.proofs.Apart.{nodes_are, edges_none, contained}
 use Rattle.core_laws.proofs.Created.{made_graph, made_stack, created_to, created_is}
-use Rattle.core_laws.proofs.Kept.{run_goes}
 
 -- a letter waits for the node, or an engine has it
 pub data IsHeld (s : StateData) (st : Stack) (node : ℕ) : Type 0 where
@@ -292,10 +291,6 @@ pub opened_covers : Covers opened
 unfolding Rattle.core_state.specs.Tables.at
 opened_covers = record { held = λ name st g i p at on at_g there open_. cc; some = λ name st g at on at_g. cc }
 
-pub run_covers : (s : StateData) (h : List Entry) → Run opened s h → Covers s
-run_covers s h (begins last all is none) = subst (λ (x : StateData). Covers x) (sym is) opened_covers
-run_covers s h (goes_on mid last cs before after all run step free is made) = subst (λ (x : StateData). Covers x) (sym is) (step_covers mid (run_goes mid before run) (run_covers mid before run) cs after step free)
-
 -- ---- a held node stirs
 
 module _ (s : StateData) (g : Going s) (name : List ℕ) (st : Stack) (at : stack_at s.stacks name ≡ Some st) (gr : Graph) (at_g : graph_at s.graphs name ≡ Some gr)
@@ -328,6 +323,3 @@ stirs_on s g c name st at on =
     let it = g.settled name st at in
     let (i, p, there, open_) = c.some name st it.graph at on it.its_graph in
     stir_of s g name st at it.graph it.its_graph i p there open_ (c.held name st it.graph i p at on it.its_graph there open_)
-
-pub run_stirs : (s : StateData) (h : List Entry) → Run opened s h → (name : List ℕ) (st : Stack) → stack_at s.stacks name ≡ Some st → st.status ≡ InProgress → Stir s st
-run_stirs s h run = stirs_on s (run_goes s h run) (run_covers s h run)
