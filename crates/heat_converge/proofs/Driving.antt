@@ -89,7 +89,7 @@ module _ (old : Streams) (first : StateData) (now : Page) (front holds : Option 
   text_on es new is =
       is_parted first new.entries (length now.entries)
       ∙ ap (λ (h : List Entry). text_of first h ++ text_after first new.entries (length now.entries))
-          (ap (λ (h : List Entry). take (length now.entries) h) is ∙ take-append_seam now.entries es)
+      (ap (λ (h : List Entry). take (length now.entries) h) is ∙ take-append_seam now.entries es)
 
   written_on : (es : List Entry) (new : Page) (holds_new : Option (List ℕ)) (text : List ℕ)
       → text_of first new.entries ≡ text_of first now.entries ++ text → holds_new ≡ grown holds text
@@ -156,8 +156,7 @@ module _ (old : Streams) (first : StateData) (now : Page) (front holds : Option 
         let (rest, front_is, read) = so.reached bytes is in
         let (last, new_is, (empty, stays)) = told rest front_is in
         let none : last ≡ [] = stays.rest_same ∙ empty in
-        let whole : given ≡ length bytes = let n = read.counted in let z : length rest ≡ 0 = ap length empty in omega (arith, n, z) in
-        (
+        let whole : given ≡ length bytes = let n = read.counted in let z : length rest ≡ 0 = ap length empty in omega (arith, n, z) in (
           subst (λ (g : ℕ). AreRead bytes so.lines [] g) whole (subst (λ (r : List ℕ). AreRead bytes so.lines r given) empty read),
           read.lines_are ∙ ap (λ (r : List ℕ). so.lines ++ lines_of r) empty ∙ append-none so.lines,
           nothing_left left_new (new_is ∙ ap Some none),

@@ -61,7 +61,7 @@ pub fn converge<S: Source, K: Sink, P: Provider>(
     // The history is that of the lines read, and what is written is its text.
     ensures drove { (b : Shown P) → result.end ≡ End.Book b
         → Drove (streams (S.left source.old) (K.holds sink.old))
-            (streams (S.left source.new) (K.holds sink.new)) opened b.state b.entries result.status }
+        (streams (S.left source.new) (K.holds sink.new)) opened b.state b.entries result.status }
 
     // The history is a run's, its calls are the cloud's trace, and the headline holds of it.
     ensures run { (b : Shown P) → result.end ≡ End.Book b → HasRun P.cloud b }
@@ -99,7 +99,7 @@ fn driven<S: Source, K: Sink, P: Provider>(
     ensures write { result.status ≡ Exit.WriteFault → Rose (K.faults sink.old) (K.faults sink.new) }
     ensures drove { (b : Shown P) → result.end ≡ End.Book b
         → Drove (streams (S.left source.old) (K.holds sink.old))
-            (streams (S.left source.new) (K.holds sink.new)) opened b.state b.entries result.status }
+        (streams (S.left source.new) (K.holds sink.new)) opened b.state b.entries result.status }
     ensures run { (b : Shown P) → result.end ≡ End.Book b → HasRun P.cloud b }
     ensures origin { (b : Shown P) → result.end ≡ End.Book b → b.origin ≡ book.origin }
     ensures headline { (b : Shown P) → result.end ≡ End.Book b → HasNone (P.cloud b.origin)
