@@ -26,7 +26,7 @@ pub fn begin(alloc: Global, s: &State, e: EngineNo) -> Result<Made, Refusal>
     let stack = stack_of(s, &job.letter);
     match &stack.plan {
         Some(plan) => {
-            let item = item_of(plan, &row.name).unwrap();
+            let item = item_of(plan.plan(), &row.name).unwrap();
             Ok(start(alloc, e, job, row, item, stack.trav)?)
         }
         None => unreachable!(),

@@ -6,7 +6,7 @@ ghost use Rattle.core_state.specs.Graphs.{fresh_points};
 ghost use Rattle.core_state.specs.Commands.{first_status};
 
 use crate::draft::{Draft, Heads};
-use core_state::{Batch, Change, Graph, Letter, Numbers, Row, Stack};
+use core_state::{Batch, Change, Graph, Letter, Numbers, Row, SharedPlan, Stack};
 use heat_plan::{Act, Item, Plan, StackName, Status};
 use heat_value::TryCopy;
 use std::alloc::{AllocError, Global};
@@ -44,7 +44,7 @@ pub fn changes_of(
         letters,
         next,
     } = draft;
-    let stack = new_stack(name, &heads, plan)?;
+    let stack = new_stack(alloc, name, &heads, plan)?;
     let mut changes = opening(alloc, next, stack)?;
     put_rows(&mut changes, rows.into_vec())?;
     put_graph(alloc, &mut changes, name, graph)?;
@@ -53,7 +53,12 @@ pub fn changes_of(
 }
 
 /// The new stack.
-fn new_stack(name: &StackName, heads: &Heads, plan: Plan) -> Result<Stack, AllocError>
+fn new_stack(
+    alloc: Global,
+    name: &StackName,
+    heads: &Heads,
+    plan: Plan,
+) -> Result<Stack, AllocError>
     ensures { IfOk result (λ stack. stack ≡ record {
       name = name.now;
       no = heads.now.stack;
@@ -69,7 +74,7 @@ fn new_stack(name: &StackName, heads: &Heads, plan: Plan) -> Result<Stack, Alloc
         trav: heads.trav,
         act: Act::Create,
         status: first_status(plan.items()),
-        plan: Some(plan),
+        plan: Some(SharedPlan::new(alloc, plan)?),
     })
 }
 

@@ -2,8 +2,9 @@
 ghost use Rattle.std.specs.Str.{bytes_eq};
 
 use crate::copying::copy_option;
+use crate::shared_plan::SharedPlan;
 use crate::table::Keyed;
-use heat_plan::{Act, Plan, StackName, StackNo, Status, TravNo};
+use heat_plan::{Act, StackName, StackNo, Status, TravNo};
 use heat_value::TryCopy;
 use std::alloc::AllocError;
 
@@ -16,7 +17,7 @@ pub struct Stack {
     pub trav: TravNo,
     pub act: Act,
     pub status: Status,
-    pub plan: Option<Plan>,
+    pub plan: Option<SharedPlan>,
 }
 
 impl Keyed for Stack {
