@@ -8,6 +8,8 @@ mod exit;
 mod line;
 mod ran;
 #[cfg(test)]
+mod readings;
+#[cfg(test)]
 mod tests;
 mod words;
 

@@ -13,7 +13,7 @@ use std::alloc::{AllocError, Global};
 use std::test::Fail;
 
 /// A create of the stack `s` with one resource.
-const CREATE: &str =
+pub(crate) const CREATE: &str =
     "create s {\"template\":{\"heat_template_version\":\"2018-08-31\",\"resources\":{\"a\":{\"type\":\"Test::Box\",\"properties\":{\"size\":1}}}}}\n";
 
 /// What it adds, and what its run adds.
@@ -45,7 +45,7 @@ const ALL_THREE: &str =
     "resource s a 1 CREATE_IN_PROGRESS\nresource s a 1 CREATE_COMPLETE\nresource s b 2 CREATE_IN_PROGRESS\nresource s b 2 CREATE_COMPLETE\nresource s c 3 CREATE_IN_PROGRESS\nresource s c 3 CREATE_COMPLETE\nstack s 1 CREATE_COMPLETE\n";
 
 /// The words as texts.
-fn texts(alloc: Global, words: &[&str]) -> Result<Vec<Text>, AllocError> {
+pub(crate) fn texts(alloc: Global, words: &[&str]) -> Result<Vec<Text>, AllocError> {
     let mut all = Vec::new(alloc);
     for word in words {
         all.push(Text::from_str(alloc, word)?)?;
@@ -54,7 +54,7 @@ fn texts(alloc: Global, words: &[&str]) -> Result<Vec<Text>, AllocError> {
 }
 
 /// The parts, one behind another.
-fn joined(alloc: Global, parts: &[&str]) -> Result<String, AllocError> {
+pub(crate) fn joined(alloc: Global, parts: &[&str]) -> Result<String, AllocError> {
     let mut text = String::new(alloc);
     for part in parts {
         text.push_str(part)?;

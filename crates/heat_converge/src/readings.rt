@@ -1,0 +1,109 @@
+//! The histories that the top call writes for the rows, as the plain program for the headline's words
+//! reads them.
+use crate::converge::{End, Outcome, converge};
+use crate::empty_cloud;
+use crate::tests::{CREATE, joined, texts};
+use book::Book;
+use core_state::Entry;
+use headline_reader::{fits, mark_of, newest};
+use heat_io::{MemSink, MemSource};
+use heat_plan::{StackName, Status};
+use sim_cloud::SimCloud;
+use std::alloc::{AllocError, Global};
+use std::test::Fail;
+
+/// Of a stack: its newest traversal, that one's mark, and whether what is alive fits its plan.
+#[derive(Clone, Copy, Debug, PartialEq, Eq)]
+struct Reading {
+    newest: Option<u64>,
+    mark: Option<Status>,
+    fits: bool,
+}
+
+/// No traversal.
+const NOTHING: Reading = Reading {
+    newest: None,
+    mark: None,
+    fits: false,
+};
+
+/// The first traversal with a mark.
+const fn first(mark: Status, fits: bool) -> Reading {
+    Reading {
+        newest: Some(1),
+        mark: Some(mark),
+        fits,
+    }
+}
+
+/// What is read of a stack's history.
+fn read(alloc: Global, entries: &[Entry], stack: &StackName) -> Result<Reading, AllocError> {
+    let Some(latest) = newest(entries, stack)? else {
+        return Ok(NOTHING);
+    };
+    let fits = match &latest.plan {
+        Some(plan) => fits(alloc, entries, stack, plan)?,
+        None => false,
+    };
+    Ok(Reading {
+        newest: Some(latest.trav().get()),
+        mark: mark_of(entries, stack),
+        fits,
+    })
+}
+
+/// What is read of a book, which is let go; none where there was no memory.
+fn read_book(alloc: Global, book: Book<SimCloud>, stack: &StackName) -> Option<Reading> {
+    let seen = read(alloc, book.entries(), stack);
+    let _ = book.give_back();
+    seen.ok()
+}
+
+/// What is read of what is left.
+fn read_end(alloc: Global, end: End<SimCloud>, stack: &StackName) -> Option<Reading> {
+    match end {
+        End::Book(book) => read_book(alloc, book, stack),
+        End::Unopened(_cloud) => None,
+    }
+}
+
+/// What is read behind a script.
+fn read_behind(
+    alloc: Global,
+    script: &[&str],
+    stack: &StackName,
+) -> Result<Option<Reading>, AllocError> {
+    let script = joined(alloc, script)?;
+    let mut source = MemSource::new(alloc, script.as_bytes(), 4096, &[])?;
+    let mut sink = MemSink::new(alloc, 4096, &[])?;
+    let words = texts(alloc, &["drive"])?;
+    let cloud = empty_cloud(alloc)?;
+    let Outcome { status: _, end } = converge(alloc, &words, &mut source, &mut sink, cloud);
+    Ok(read_end(alloc, end, stack))
+}
+
+/// A row, its script, and what is read of the stack `s`.
+const READINGS: &[(&str, &[&str], Reading)] = &[
+    ("empty_script", &[], NOTHING),
+    (
+        "one_resource",
+        &[CREATE, "run\nresources s\n"],
+        first(Status::Complete, true),
+    ),
+    (
+        "create_twice_and_unknown_stack",
+        &[CREATE, CREATE, "resources t\n"],
+        first(Status::InProgress, false),
+    ),
+    ("form_not_built", &["bogus\n"], NOTHING),
+];
+
+#[test]
+fn rows_are_read_as_by_hand(rt: HostRuntime) -> Result<(), Fail> {
+    let stack = StackName::read(rt.alloc(), b"s")?.ok_or("a name")?;
+    for (name, script, reading) in READINGS {
+        let seen = read_behind(rt.alloc(), script, &stack)?;
+        assert_eq!(rt; seen, Some(*reading), "{}", name);
+    }
+    Ok(())
+}
