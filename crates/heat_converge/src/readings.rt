@@ -27,15 +27,6 @@ const NOTHING: Reading = Reading {
     fits: false,
 };
 
-/// The first traversal with a mark.
-const fn first(mark: Status, fits: bool) -> Reading {
-    Reading {
-        newest: Some(1),
-        mark: Some(mark),
-        fits,
-    }
-}
-
 /// What is read of a stack's history.
 fn read(alloc: Global, entries: &[Entry], stack: &StackName) -> Result<Reading, AllocError> {
     let Some(latest) = newest(entries, stack)? else {
@@ -88,12 +79,20 @@ const READINGS: &[(&str, &[&str], Reading)] = &[
     (
         "one_resource",
         &[CREATE, "run\nresources s\n"],
-        first(Status::Complete, true),
+        Reading {
+            newest: Some(1),
+            mark: Some(Status::Complete),
+            fits: true,
+        },
     ),
     (
         "create_twice_and_unknown_stack",
         &[CREATE, CREATE, "resources t\n"],
-        first(Status::InProgress, false),
+        Reading {
+            newest: Some(1),
+            mark: Some(Status::InProgress),
+            fits: false,
+        },
     ),
     ("form_not_built", &["bogus\n"], NOTHING),
 ];
