@@ -2,3 +2,4 @@ pub mod Turns
 pub mod Lines
 pub mod Notes
 pub mod Drives
+pub mod Exits

@@ -48,11 +48,14 @@ pub fn converge<S: Source, K: Sink, P: Provider>(
     sink: &mut K,
     cloud: P,
 ) -> Outcome<P>
-    // Usage comes exactly where the words aren't the form; nothing is then read, written or asked.
+    // Usage comes exactly where the words aren't the form; nothing is then read, written or asked, as
+    // where no book is opened.
     ensures usage { (result.status ≡ Exit.Usage) ↔ (words.now ≢ codes "drive" ∷ []) }
     ensures source { result.status ≡ Exit.Usage → source.new ≡ source.old }
     ensures sink { result.status ≡ Exit.Usage → sink.new ≡ sink.old }
     ensures unopened { (p : P) → result.end ≡ End.Unopened p → p ≡ cloud }
+    ensures unread { (p : P) → result.end ≡ End.Unopened p → source.new ≡ source.old }
+    ensures unwritten { (p : P) → result.end ≡ End.Unopened p → sink.new ≡ sink.old }
 
     // Faults of the outside come only where a count rose.
     ensures read { result.status ≡ Exit.ReadFault → Rose (S.faults source.old) (S.faults source.new) }

@@ -1,4 +1,5 @@
 //! How the program ends.
+ghost use Rattle.std.specs.Prelude.{◌≡◌};
 
 /// The top call's status.
 #[derive(Clone, Copy, Debug, PartialEq, Eq)]
@@ -20,8 +21,12 @@ pub enum Exit {
 }
 
 impl Exit {
+    ghost use Rattle.heat_converge.specs.Exits.{status_of, said_of};
+
     /// The status that the program ends with.
-    pub fn code(self) -> u8 {
+    pub fn code(self) -> u8
+        ensures { result ≡ status_of self }
+    {
         match self {
             Exit::Done => 0,
             Exit::Usage => 2,
@@ -34,7 +39,9 @@ impl Exit {
     }
 
     /// What the program says on standard error.
-    pub fn words(self) -> &'static str {
+    pub fn words(self) -> &'static str
+        ensures { result.now ≡ said_of self }
+    {
         match self {
             Exit::Done => "done",
             Exit::Usage => "usage",
