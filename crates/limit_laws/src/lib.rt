@@ -6,6 +6,6 @@
 mod limits;
 
 pub use limits::{
-    a_create_is_made_or_worn, a_graph_is_one, a_turn_is_made_or_worn, a_turns_row_is_one,
+    a_graph_is_one, a_made_create_is_not_worn, a_made_turn_is_not_worn, a_turns_row_is_one,
     leaves_are_one, worn_turns_answer_worn,
 };

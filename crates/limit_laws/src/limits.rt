@@ -15,7 +15,7 @@ pub fn leaves_are_one()
 
 /// No create is made from a state and a plan in which a number that it draws is worn out: whatever
 /// graph and leaves the one was read off, the other had the same.
-pub fn a_create_is_made_or_worn()
+pub fn a_made_create_is_not_worn()
     ensures worn { CreateIsNotBoth }
 {}
 
@@ -28,7 +28,7 @@ pub fn a_turns_row_is_one()
 {}
 
 /// No engine makes a turn where its next step would raise a key to 2^62, whatever it is answered.
-pub fn a_turn_is_made_or_worn()
+pub fn a_made_turn_is_not_worn()
     ensures quiet { QuietIsNotBoth }
     ensures asking { AskingIsNotBoth }
     ensures polling { PollingIsNotBoth }

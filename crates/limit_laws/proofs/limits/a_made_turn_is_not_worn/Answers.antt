@@ -1,5 +1,5 @@
 use Rattle.limit_laws.proofs.Turns.{quiet_not_both, asking_not_both, polling_not_both}
-use Rattle.limit_laws.proofs.limits.a_turn_is_made_or_worn.Goals as goal
+use Rattle.limit_laws.proofs.limits.a_made_turn_is_not_worn.Goals as goal
 
 pub returns-clause-quiet : goal.returns-clause-quiet
 returns-clause-quiet c = quiet_not_both
