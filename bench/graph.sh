@@ -1,6 +1,7 @@
 #!/bin/sh
 # Prints processor seconds and peak memory of `order` and `build` for 250, 500 and 1,000 nodes or
-# items of ten edges or needs each, and as many rows. It judges nothing.
+# items of ten edges or needs each, and as many rows; then of the graph of a thousand items with 190,209
+# needs, as many as a template of 1 MiB can name, in three orders. It judges nothing.
 set -e
 cd "$(dirname "$0")/../crates/bench_graph"
 rt run -- build 1 >/dev/null 2>&1
@@ -8,4 +9,7 @@ for what in order build; do
   for count in 250 500 1000; do
     /usr/bin/time -f "$what $count: %U s user, %S s system, %M KB" out/bench_graph "$what" "$count"
   done
+done
+for shape in rising falling mixed; do
+  /usr/bin/time -f "needs $shape: %U s user, %S s system, %M KB" out/bench_graph needs "$shape"
 done

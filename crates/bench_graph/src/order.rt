@@ -17,7 +17,7 @@ pub fn listed(alloc: Global, count: u32) -> Result<usize, AllocError> {
     }
 }
 
-/// Adds an edge between two nodes of the graph.
+// Adds an edge between two nodes of the graph.
 fn add(graph: &mut Graph, before: u32, after: u32) -> Result<(), AllocError> {
     if before < after && after < graph.size() {
         graph.add_edge(before, after)?;

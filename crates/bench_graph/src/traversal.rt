@@ -1,7 +1,7 @@
 //! Items of which each needs the ten before it, and as many rows, each of which requires ten.
 
 use anyhow::{Result, bail};
-use heat_plan::{Item, Kind, Needs, Policy, Properties, ResName, RowNo, is_rising};
+use heat_plan::{Item, Kind, Needs, Policy, Properties, ResName, RowNo, are_in_order, is_rising};
 use heat_value::{Seq, Text};
 use std::alloc::Global;
 use traversal_graph::{RowBrief, build};
@@ -12,21 +12,31 @@ pub fn drawn(alloc: Global, count: u32) -> Result<usize> {
     let mut chosen = Vec::new(alloc);
     let mut rows = Vec::new(alloc);
     for place in 0..count {
-        items.push(item(alloc, place)?)?;
+        items.push(item_needing(alloc, place, &below(alloc, place)?)?)?;
         chosen.push(number(count.saturating_add(place))?)?;
         rows.push(row(alloc, place)?)?;
     }
-    if chosen.len() != items.len() {
-        bail!("as many rows are chosen as there are items");
+    if chosen.len() != items.len() || !are_in_order(&items) {
+        bail!("items in order, and a row for each");
     }
     let graph = build(alloc, &items, &chosen, &rows)?;
     Ok(graph.edges.len())
 }
 
-fn item(alloc: Global, place: u32) -> Result<Item> {
-    let mut needs = Seq::new(alloc);
+/// The ten places below one.
+fn below(alloc: Global, place: u32) -> Result<Vec<u32>> {
+    let mut places = Vec::new(alloc);
     for before in place.saturating_sub(10)..place {
-        needs.push(name(alloc, before)?)?;
+        places.push(before)?;
+    }
+    Ok(places)
+}
+
+/// The item of a place, which needs those of these places.
+pub fn item_needing(alloc: Global, place: u32, needed: &[u32]) -> Result<Item> {
+    let mut needs = Seq::new(alloc);
+    for before in needed {
+        needs.push(name(alloc, *before)?)?;
     }
     if !is_rising(needs.as_slice()) {
         bail!("needs rise");
@@ -65,7 +75,8 @@ fn name(alloc: Global, place: u32) -> Result<ResName> {
     }
 }
 
-fn number(place: u32) -> Result<RowNo> {
+/// A row's number, by a place.
+pub fn number(place: u32) -> Result<RowNo> {
     match RowNo::new(u64::from(place) + 1) {
         Some(no) => Ok(no),
         None => bail!("a number"),

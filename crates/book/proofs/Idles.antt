@@ -2,9 +2,10 @@
 use Rattle.std.proofs.Common.{◌≡◌, ℕ, List, [], ◌∷◌, Some, None, refl, subst, inl, inr}
 use Rattle.std.specs.Prelude.{nat_eq, Contains}
 use Rattle.std.proofs.lemmas.Bool.Decides.{Decides-eqb}
-use Rattle.core_state.specs.declared.mail.Job.{Job}
-use Rattle.core_state.specs.State.{StateData, job_at, job_key}
-use Rattle.core_state.specs.Tables.{at}
+use Rattle.mail_table.specs.declared.mail.Job.{Job}
+use Rattle.mail_table.specs.Mails.{job_at, job_key}
+use Rattle.core_state.specs.State.{StateData}
+use Rattle.heat_plan.specs.Tables.{at}
 use Rattle.core_laws.proofs.Going.{Going}
 use Rattle.core_laws.proofs.NextFits.{only_one}
 use Rattle.core_laws.proofs.Tables.{cases}

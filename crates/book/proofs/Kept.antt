@@ -14,7 +14,7 @@ use Rattle.core_state.specs.declared.entry.Actor.TheVariants.{Main, Engine}
 use Rattle.core_state.specs.declared.entry.Entry.{Entry}
 use Rattle.core_state.specs.declared.entry.What.{What}
 use Rattle.core_state.specs.declared.entry.What.TheVariants as what
-use Rattle.core_state.specs.declared.row.Row.{Row}
+use Rattle.row_table.specs.declared.row.Row.{Row}
 use Rattle.core_state.specs.Changes.{applied}
 use Rattle.core_state.specs.Commands.{Creates, created_changes, created_entries}
 use Rattle.core_state.specs.State.{StateData}
@@ -53,7 +53,8 @@ calls_of-append (e ∷ h) g = rw (calls_of-append h g) (sym (append_assoc (call_
 
 call_of-silent : (w : What) → ((token : Token) (asked : Request) (given : Answered) → w ≢ what.Call token asked given) → call_of w ≡ []
 call_of-silent (what.Call token asked given) silent = absurd (silent token asked given refl)
-call_of-silent (what.Command stack trav act plan) silent = refl
+call_of-silent (what.Command stack trav act plan rollback) silent = refl
+call_of-silent (what.Release token) silent = refl
 call_of-silent (what.Mark stack trav act cause) silent = refl
 call_of-silent (what.Rows writes) silent = refl
 call_of-silent (what.Mail writes) silent = refl

@@ -1,10 +1,10 @@
 -- Where letters wait, one of them is the lowest.
 use Rattle.std.proofs.Common.{◌≡◌, ◌≤◌, ◌<◌, ◌⊎◌, ℕ, Bool, true, false, List, [], ◌∷◌, Some, refl, sym, ◌∙◌, arith, inl, inr}
 use Rattle.std.specs.Prelude.{nat_eq, nat_lt}
-use Rattle.core_state.specs.declared.mail.Letter.{Letter}
+use Rattle.mail_table.specs.declared.mail.Letter.{Letter}
 use Rattle.core_state.specs.Reads.{IsLowest}
-use Rattle.core_state.specs.State.{letter_at, letter_key}
-use Rattle.core_state.specs.Tables.{at}
+use Rattle.mail_table.specs.Mails.{letter_at, letter_key}
+use Rattle.heat_plan.specs.Tables.{at}
 use Rattle.core_laws.proofs.Tables.{cases}
 use Rattle.std.proofs.lemmas.Bool.{ltb-false, ltb-true}
 use Rattle.std.proofs.lemmas.Bool.Decides.{Decides-eqb}

@@ -4,7 +4,8 @@ use Rattle.std.specs.Prelude.{Result, IfOk, IfErr, Option, Some, None, option_ma
 use Rattle.heat_plan.specs.declared.refusal.Refusal.{Refusal}
 use Rattle.core_state.specs.declared.entry.Entry.{Entry}
 use Rattle.core_state.specs.declared.made.Made.{Made}
-use Rattle.core_state.specs.State.{StateData, job_at}
+use Rattle.mail_table.specs.Mails.{job_at}
+use Rattle.core_state.specs.State.{StateData}
 use Rattle.core_state.specs.Steps.{QuietTurn}
 use Rattle.heat_plan.specs.declared.refusal.Refusal.TheVariants.{Worn}
 use Rattle.provider.specs.Cloud.{Cloud}

@@ -6,7 +6,7 @@ use Rattle.heat_plan.specs.declared.calls.Request.{Request}
 use Rattle.heat_plan.specs.declared.calls.Request.TheVariants as request
 use Rattle.heat_plan.specs.declared.calls.Answered.{Answered}
 use Rattle.heat_plan.specs.declared.calls.Answered.TheVariants as answer
-use Rattle.core_state.specs.declared.row.Row.{Row}
+use Rattle.row_table.specs.declared.row.Row.{Row}
 use Rattle.core_state.specs.Turns.{created_with, token_of}
 use Rattle.provider.specs.declared.traced.Traced.TheVariants.{Called}
 use Rattle.provider.specs.Cloud.{Cloud, IsAlive}

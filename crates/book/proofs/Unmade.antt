@@ -2,7 +2,7 @@
 use Rattle.std.proofs.Common.{◌≡◌, refl}
 use Rattle.heat_plan.specs.declared.refusal.Refusal.{Refusal}
 use Rattle.heat_plan.specs.declared.refusal.Refusal.TheVariants.{Worn}
-use Rattle.core_state.specs.declared.row.Row.{Row}
+use Rattle.row_table.specs.declared.row.Row.{Row}
 use Rattle.check_steps.specs.Refusals.{IsTurnRefusal, memory, worn, IsWornOut}
 use Rattle.provider.specs.Cloud.{Cloud}
 use Rattle.provider.specs.Changes.{IsAsBefore}

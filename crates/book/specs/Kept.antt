@@ -28,7 +28,8 @@ pub record Shown (P : Type 0) : Type 0 where
 -- the call that an entry tells of
 abbrev pub call_of : What → List Traced
 call_of (what.Call token asked given) = Called token asked given ∷ []
-call_of (what.Command stack trav act plan) = []
+call_of (what.Command stack trav act plan rollback) = []
+call_of (what.Release token) = []
 call_of (what.Mark stack trav act cause) = []
 call_of (what.Rows writes) = []
 call_of (what.Mail writes) = []

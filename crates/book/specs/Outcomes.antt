@@ -3,7 +3,7 @@ use Rattle.std.specs.Prelude.{◌≡◌, ◌≤◌, ℕ, length}
 use Rattle.heat_plan.specs.declared.calls.Answered.{Answered}
 use Rattle.heat_plan.specs.declared.calls.Answered.TheVariants as answer
 use Rattle.core_state.specs.declared.made.Made.{Made}
-use Rattle.core_state.specs.declared.mail.Stage.TheVariants.{Asking, Polling}
+use Rattle.mail_table.specs.declared.mail.Stage.TheVariants.{Asking, Polling}
 use Rattle.core_state.specs.State.{StateData}
 use Rattle.core_state.specs.Steps.{AskingTurn, PollingTurn}
 use Rattle.core_state.specs.Turns.{Creating, token_of}

@@ -1,16 +1,15 @@
 //! An engine's ask. All that any answer changes is made before the cloud is asked, so that no answer is
 //! lost for want of memory.
 ghost use Rattle.std.specs.Prelude.{◌≡◌, IfOk, IfErr};
-ghost use Rattle.core_state.specs.declared.mail.Stage.TheVariants.{Asking};
+ghost use Rattle.mail_table.specs.declared.mail.Stage.TheVariants.{Asking};
 ghost use Rattle.core_state.specs.Turns.{Creating};
 ghost use Rattle.book.specs.Outcomes.{AskIsMade, AskIsPrepared};
 ghost use Rattle.book.specs.Scenes.{scene, Turned};
 ghost use Rattle.check_steps.specs.Refusals.{IsTurnRefusal};
 
 use crate::making::{make_room, make_within};
-use crate::tokens::token_of;
 use crate::turning::Turn;
-use check_steps::{asked, job_row};
+use check_steps::{asked, job_row, token_of};
 use core_state::{Entry, Made, Roomed, State};
 use heat_plan::{Answered, EngineNo, Refusal, Token};
 use provider::{Answer, Provider};

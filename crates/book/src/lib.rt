@@ -4,17 +4,16 @@
 #![tactic(auto)]
 
 mod ask;
+mod book;
 mod commanding;
-mod engine;
 mod making;
 mod opening;
 mod poll;
 #[cfg(test)]
 mod tests;
-mod tokens;
 mod turning;
 
+pub use book::{Book, Opened};
 pub use commanding::StackCommand;
-pub use engine::{Book, Opened};
 pub use opening::Opening;
 pub use turning::Turn;

@@ -2,7 +2,7 @@
 ghost use Rattle.std.specs.Prelude.{◌≡◌, [], IfOk};
 ghost use Rattle.core_laws.specs.Opening.{opened};
 
-use core_state::{Change, Next, Numbers, State};
+use core_state::{Change, Next, Numbers, Ready, State};
 use heat_plan::{EngineNo, Token};
 use heat_value::Seq;
 use provider::Alive;
@@ -25,11 +25,12 @@ pub(crate) fn opening_of(alloc: Global) -> Result<Opening, AllocError>
 {
     let mut state = State::new(alloc);
     state.reserve(2)?;
-    state.apply(Change::SetNumbers(Numbers {
+    let numbers = Numbers {
         engine: Next::first().after(1),
         ..Numbers::first()
-    }));
-    state.apply(Change::Enlist(first_engine()));
+    };
+    state.make(Ready::new(alloc, Change::Numbers(numbers))?);
+    state.make(Ready::new(alloc, Change::Enlist(first_engine()))?);
     Ok(Opening {
         state,
         alive: Seq::new(alloc),

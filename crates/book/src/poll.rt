@@ -3,7 +3,7 @@
 ghost use Rattle.std.specs.Prelude.{◌≡◌, ◌<◌, ◌≤◌, OnErr, OnOk, IfOk, IfErr, List};
 ghost use Rattle.core_state.specs.declared.change.Change.{Change};
 ghost use Rattle.core_state.specs.declared.entry.Entry.{Entry as entry_type};
-ghost use Rattle.core_state.specs.declared.mail.Stage.TheVariants.{Polling};
+ghost use Rattle.mail_table.specs.declared.mail.Stage.TheVariants.{Polling};
 ghost use Rattle.core_state.specs.Steps.{PollingTurn, IsOfUnknownSize};
 ghost use Rattle.core_state.specs.Turns.{Creating, token_of};
 ghost use Rattle.provider.specs.Cloud.{IsAlive};
@@ -13,9 +13,8 @@ ghost use Rattle.book.specs.Scenes.{scene, Turned};
 ghost use Rattle.check_steps.specs.Refusals.{IsTurnRefusal};
 
 use crate::making::{make, make_room, make_within};
-use crate::tokens::token_of;
 use crate::turning::Turn;
-use check_steps::{job_row, polled};
+use check_steps::{job_row, polled, token_of};
 use core_state::{Actor, Entry, Made, Roomed, State, What};
 use heat_plan::{Answered, EngineNo, Refusal, Request, Token};
 use provider::{Poll, Provider};

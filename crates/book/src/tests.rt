@@ -7,10 +7,10 @@ ghost use Rattle.book.specs.Commands.{IsCommandBuilt};
 
 use crate::{Book, Opened, StackCommand, Turn};
 use core_state::{Entry, ShowWhat, What, Why};
-use heat_plan::{Item, Kind, Needs, Plan, Policy, Properties, ResName, StackName};
-use heat_value::{Props, Seq, Text};
+use heat_plan::{Item, Kind, Needs, Parameters, Plan, Policy, Properties, ResName, StackName};
+use heat_value::{Seq, Text};
 use provider::Provider;
-use scripted_cloud::{ScriptedCloud, Turn as Script};
+use scripted_cloud::{ScriptedAnswer, ScriptedCloud};
 use sim_cloud::KindQuota;
 use std::alloc::{AllocError, Global};
 use std::test::Fail;
@@ -46,7 +46,7 @@ fn plan_of(alloc: Global, item: Item) -> Result<Plan, AllocError>
     Ok(Plan::new(
         items,
         Seq::new(alloc),
-        Props::new(alloc),
+        Parameters::new(alloc),
         Seq::new(alloc),
         Seq::new(alloc),
         Seq::new(alloc),
@@ -62,28 +62,28 @@ fn create(alloc: Global) -> Result<StackCommand, Fail>
     Ok(StackCommand::Create(name, plan_of(alloc, item)?))
 }
 
-/// The turn of a script: a digit works with so many polls left, `f` fails, `b` breaks.
-fn script_turn(alloc: Global, letter: u8) -> Result<Script, AllocError> {
+/// A scripted answer: a digit works with so many polls left, `f` fails, `b` breaks.
+fn scripted(alloc: Global, letter: u8) -> Result<ScriptedAnswer, AllocError> {
     match letter {
-        b'f' => Ok(Script::Fails),
-        b'b' => Ok(Script::Breaks(Text::from_str(alloc, "X01")?)),
-        b'1' => Ok(Script::Works(1)),
-        _ => Ok(Script::Works(0)),
+        b'f' => Ok(ScriptedAnswer::Fails),
+        b'b' => Ok(ScriptedAnswer::Breaks(Text::from_str(alloc, "X01")?)),
+        b'1' => Ok(ScriptedAnswer::Works(1)),
+        _ => Ok(ScriptedAnswer::Works(0)),
     }
 }
 
-/// A cloud that takes at most so many resources of the kind, and follows these turns.
-fn cloud(alloc: Global, most: u32, script: &[u8]) -> Result<ScriptedCloud, AllocError> {
-    let mut turns = Seq::new(alloc);
-    for letter in script {
-        turns.push(script_turn(alloc, *letter)?)?;
+/// A cloud that takes at most so many resources of the kind, and answers so.
+fn cloud(alloc: Global, most: u32, letters: &[u8]) -> Result<ScriptedCloud, AllocError> {
+    let mut answers = Seq::new(alloc);
+    for letter in letters {
+        answers.push(scripted(alloc, *letter)?)?;
     }
     let mut quotas = Seq::new(alloc);
     quotas.push(KindQuota {
         kind: Text::from_str(alloc, KIND)?,
         most,
     })?;
-    Ok(ScriptedCloud::new(alloc, quotas, turns))
+    Ok(ScriptedCloud::new(alloc, quotas, answers))
 }
 
 /// One turn of the first live engine.

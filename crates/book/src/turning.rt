@@ -1,7 +1,7 @@
 //! A live engine's turn: the next step of its job, or the taking of the lowest letter.
 ghost use Rattle.std.specs.Prelude.{◌≡◌, Contains, None, option_map};
-ghost use Rattle.core_state.specs.State.{job_at};
-ghost use Rattle.core_state.specs.declared.mail.Stage.TheVariants.{Polling};
+ghost use Rattle.mail_table.specs.Mails.{job_at};
+ghost use Rattle.mail_table.specs.declared.mail.Stage.TheVariants.{Polling};
 ghost use Rattle.core_state.specs.Turns.{Creating, token_of};
 ghost use Rattle.core_laws.specs.Next.{NextFits};
 ghost use Rattle.provider.specs.Cloud.{IsAlive};

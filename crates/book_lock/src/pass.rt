@@ -29,14 +29,14 @@ impl<T> Pass<T> {
         self.holds
     }
 
-    // The flags that each split put behind the others.
+    /// The flags that each split put behind the others.
     pub(crate) fn name(&self) -> &[bool]
         ensures { result.now ≡ self.now.name }
     {
         self.name.as_slice()
     }
 
-    // How many splits lie between the first pass and this one.
+    /// How many splits lie between the first pass and this one.
     pub(crate) fn depth(&self) -> usize
         ensures { result ≡ length self.now.name }
     {

@@ -4,9 +4,9 @@ use Rattle.std.specs.Prelude.{Option, IfSome, nat_eq, nat_le}
 use Rattle.std.proofs.lemmas.List.{drop_more}
 use Rattle.std.proofs.lemmas.Bool.{cases_lt}
 use Rattle.std.proofs.lemmas.Bool.Decides.{nat_tests}
-use Rattle.core_state.specs.Tables.{at}
-use Rattle.core_state.specs.declared.mail.Letter.{Letter}
-use Rattle.core_state.specs.State.{letter_at}
+use Rattle.heat_plan.specs.Tables.{at}
+use Rattle.mail_table.specs.declared.mail.Letter.{Letter}
+use Rattle.mail_table.specs.Mails.{letter_at}
 use Rattle.core_state.specs.Reads.{IsLowest}
 use Rattle.check_steps.specs.Held.{lower_of}
 

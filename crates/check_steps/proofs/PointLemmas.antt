@@ -4,7 +4,7 @@ use Rattle.std.specs.Prelude.{All, slice_set}
 use Rattle.core_state.specs.declared.graph.Graph.{Graph}
 use Rattle.core_state.specs.Changes.{with_point}
 use Rattle.core_state.specs.Turns.{AllDone, done_point}
-use Rattle.core_state.specs.declared.graph.Point.{Point}
+use Rattle.sync_points.specs.declared.point.Point.{Point}
 
 -- the nodes before a place are done, but for one
 abbrev pub DoneBut : List Point → ℕ → ℕ → Type 0

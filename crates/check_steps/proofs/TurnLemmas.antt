@@ -5,9 +5,9 @@ use Rattle.heat_plan.specs.declared.calls.Request.{Request}
 use Rattle.heat_plan.specs.declared.calls.Request.TheVariants as request
 use Rattle.heat_plan.specs.declared.calls.Answered.{Answered}
 use Rattle.heat_plan.specs.declared.calls.Answered.TheVariants as answer
-use Rattle.core_state.specs.declared.mail.Job.{Job}
-use Rattle.core_state.specs.declared.mail.Stage.TheVariants.{Asking, Polling, Ending}
-use Rattle.core_state.specs.declared.row.Row.{Row}
+use Rattle.mail_table.specs.declared.mail.Job.{Job}
+use Rattle.mail_table.specs.declared.mail.Stage.TheVariants.{Asking, Polling, Ending}
+use Rattle.row_table.specs.declared.row.Row.{Row}
 use Rattle.core_state.specs.declared.stack.Stack.{Stack}
 use Rattle.core_state.specs.declared.change.Change.{Change}
 use Rattle.core_state.specs.declared.entry.Entry.{Entry}

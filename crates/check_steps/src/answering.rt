@@ -1,6 +1,6 @@
 //! The answer to a create: it was begun, or it fails.
 ghost use Rattle.std.specs.Prelude.{◌≡◌, ◌∷◌, [], IfOk, IfErr};
-ghost use Rattle.core_state.specs.declared.mail.Stage.TheVariants.{Asking, Polling};
+ghost use Rattle.mail_table.specs.declared.mail.Stage.TheVariants.{Asking, Polling};
 ghost use Rattle.core_state.specs.Turns.{Creating, asked_changes, by_engine, with_stage, created_with};
 ghost use Rattle.core_state.specs.Steps.{AskingTurn};
 ghost use Rattle.core_state.specs.declared.entry.MailWrite.TheVariants.{Held};
@@ -35,7 +35,7 @@ pub fn asked(alloc: Global, s: &State, e: EngineNo, answer: &Answered) -> Result
     Ok(answered(alloc, s, e, job, stack, row, answer)?)
 }
 
-/// The same where the key can rise.
+// The same where the key can rise.
 fn answered(
     alloc: Global,
     s: &State,
@@ -60,14 +60,14 @@ fn answered(
     }
 }
 
-/// What is asked for a row: its kind's name and its properties.
+// What is asked for a row: its kind's name and its properties.
 fn created_with(row: &Row) -> Result<Request, AllocError>
     ensures { IfOk result (λ request. request ≡ created_with row.now) }
 {
     Ok(Request::Create(row.kind.name.copy()?, row.props.copy()?))
 }
 
-/// A create was begun, and its job polls next.
+// A create was begun, and its job polls next.
 fn go_on(alloc: Global, e: EngineNo, job: &Job, call: Entry) -> Result<Made, AllocError>
     ensures changes { IfOk result (λ m. m.changes ≡ asked_changes job.now) }
     ensures entries { IfOk result (λ m. m.entries ≡
@@ -75,10 +75,10 @@ fn go_on(alloc: Global, e: EngineNo, job: &Job, call: Entry) -> Result<Made, All
 {
     let changes = go_on_changes(alloc, job)?;
     let entries = go_on_entries(alloc, e, job, call)?;
-    Ok(Made { changes, entries })
+    Made::new(alloc, changes, entries)
 }
 
-/// The job.
+// The job.
 fn go_on_changes(alloc: Global, job: &Job) -> Result<Batch<Change>, AllocError>
     ensures { IfOk result (λ changes. changes ≡ asked_changes job.now) }
 {
@@ -86,7 +86,7 @@ fn go_on_changes(alloc: Global, job: &Job) -> Result<Batch<Change>, AllocError>
     one(alloc, Change::PutJob(job))
 }
 
-/// The call, and what is told of the job.
+// The call, and what is told of the job.
 fn go_on_entries(
     alloc: Global,
     e: EngineNo,

@@ -33,8 +33,8 @@ pub fn begin(alloc: Global, s: &State, e: EngineNo) -> Result<Made, Refusal>
     }
 }
 
-/// The item of a name; none where the plan has none.
-#[tactic(auto, unfolding(core_state::specs::Tables::at))]
+// The item of a name; none where the plan has none.
+#[tactic(auto, unfolding(heat_plan::specs::Tables::at))]
 fn item_of<'a>(plan: &'a Plan, name: &ResName) -> Option<&'a Item>
     ensures { option_map (λ i. i.now) result ≡ item_at plan.now.items name.now }
 {
@@ -46,7 +46,7 @@ fn item_of<'a>(plan: &'a Plan, name: &ResName) -> Option<&'a Item>
     None
 }
 
-/// The row is to be created, and its job asks next.
+// The row is to be created, and its job asks next.
 fn start(
     alloc: Global,
     e: EngineNo,
@@ -63,10 +63,10 @@ fn start(
     let row = begun_row(alloc, row, item, trav)?;
     let entries = start_entries(alloc, e, job, &row)?;
     let changes = start_changes(alloc, job, row)?;
-    Ok(Made { changes, entries })
+    Made::new(alloc, changes, entries)
 }
 
-/// The row and the job.
+// The row and the job.
 fn start_changes(alloc: Global, job: &Job, row: Row) -> Result<Batch<Change>, AllocError>
     ensures { IfOk result (λ changes. changes ≡ begun_changes job.now row) }
 {
@@ -74,7 +74,7 @@ fn start_changes(alloc: Global, job: &Job, row: Row) -> Result<Batch<Change>, Al
     two(alloc, Change::PutRow(row), Change::PutJob(job))
 }
 
-/// What is told of them.
+// What is told of them.
 fn start_entries(
     alloc: Global,
     e: EngineNo,

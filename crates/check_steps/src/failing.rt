@@ -32,10 +32,10 @@ pub fn fail(
     let changes = fail_changes(alloc, e, stack, row)?;
     let mut entries = fail_entries(alloc, e, row, call)?;
     tell_mark(&mut entries, e, stack, row, why)?;
-    Ok(Made { changes, entries })
+    Made::new(alloc, changes, entries)
 }
 
-/// The row, the job and the stack.
+// The row, the job and the stack.
 fn fail_changes(
     alloc: Global,
     e: EngineNo,
@@ -51,7 +51,7 @@ fn fail_changes(
     Ok(changes)
 }
 
-/// Marks a stack that has no mark.
+// Marks a stack that has no mark.
 fn mark(changes: &mut Batch<Change>, stack: &Stack) -> Result<(), AllocError>
     ensures { OnOk result (changes.new ≡ changes.old ++ failed_mark stack.now) }
 {
@@ -61,7 +61,7 @@ fn mark(changes: &mut Batch<Change>, stack: &Stack) -> Result<(), AllocError>
     }
 }
 
-/// The call, and what is told of the row and the job.
+// The call, and what is told of the row and the job.
 fn fail_entries(
     alloc: Global,
     e: EngineNo,
@@ -79,7 +79,7 @@ fn fail_entries(
     Ok(entries)
 }
 
-/// Tells of the mark of a stack that has none.
+// Tells of the mark of a stack that has none.
 fn tell_mark(
     entries: &mut Batch<Entry>,
     e: EngineNo,
@@ -99,7 +99,7 @@ fn tell_mark(
     }
 }
 
-/// The resource at which the stack failed, and why.
+// The resource at which the stack failed, and why.
 fn cause_at(row: &Row, why: Why) -> Result<Cause, AllocError>
     ensures { IfOk result (λ cause. cause ≡ cause_at row.now why) }
 {

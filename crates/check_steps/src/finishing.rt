@@ -1,7 +1,7 @@
 //! Finish of a node without successors: the row is unlocked, the job ends, and the node is done; where
 //! it is the last, the stack is complete.
 ghost use Rattle.std.specs.Prelude.{◌≡◌, ◌<◌, ◌+◌, ◌^◌, ◌↔◌, ◌∷◌, [], IfOk, IfErr, IsTrue, true, All, Some, IsSome, slice_get, slice_set, length};
-ghost use Rattle.core_state.specs.declared.graph.Point.{Point as point_type};
+ghost use Rattle.sync_points.specs.declared.point.Point.{Point as point_type};
 ghost use Rattle.core_state.specs.declared.change.Change.TheVariants.{PutStack};
 ghost use Rattle.core_state.specs.Turns.{Finishes, done_point, completed, finished_changes, finished_entries, complete_mark_entry};
 ghost use Rattle.core_state.specs.Steps.{QuietTurn};
@@ -37,7 +37,7 @@ pub fn finish(alloc: Global, s: &State, e: EngineNo) -> Result<Made, Refusal>
     }
 }
 
-/// Whether every other node is done.
+// Whether every other node is done.
 fn is_last(points: &[Point], node: usize) -> bool
     ensures { (point : point_type) → slice_get points.now node ≡ Some point
         → IsTrue result ↔ All (λ (p : point_type). p.done ≡ true) (slice_set points.now node (done_point point)) }
@@ -50,7 +50,7 @@ fn is_last(points: &[Point], node: usize) -> bool
     true
 }
 
-/// The row, the job and the node, where others are left.
+// The row, the job and the node, where others are left.
 fn unlock(alloc: Global, e: EngineNo, row: &Row, point: &Point) -> Result<Made, AllocError>
     requires { row.now.key + 1 < 2 ^ 62 }
     ensures changes { IfOk result (λ m. m.changes ≡ finished_changes e row.now point.now []) }
@@ -58,10 +58,10 @@ fn unlock(alloc: Global, e: EngineNo, row: &Row, point: &Point) -> Result<Made, 
 {
     let changes = unlock_changes(alloc, e, row, point)?;
     let entries = unlock_entries(alloc, e, row)?;
-    Ok(Made { changes, entries })
+    Made::new(alloc, changes, entries)
 }
 
-/// The same, and the mark of a stack whose last node is done.
+// The same, and the mark of a stack whose last node is done.
 fn unlock_last(
     alloc: Global,
     e: EngineNo,
@@ -79,10 +79,10 @@ fn unlock_last(
     changes.push(Change::PutStack(completed(stack)?))?;
     let mut entries = unlock_entries(alloc, e, row)?;
     entries.push(mark_entry(e, stack, None)?)?;
-    Ok(Made { changes, entries })
+    Made::new(alloc, changes, entries)
 }
 
-/// The changes of the row, the job and the node.
+// The changes of the row, the job and the node.
 fn unlock_changes(
     alloc: Global,
     e: EngineNo,
@@ -102,7 +102,7 @@ fn unlock_changes(
     )
 }
 
-/// What is told of the row and the job.
+// What is told of the row and the job.
 fn unlock_entries(alloc: Global, e: EngineNo, row: &Row) -> Result<Batch<Entry>, AllocError>
     requires { row.now.key + 1 < 2 ^ 62 }
     ensures { IfOk result (λ entries. entries ≡ finished_entries e row.now []) }

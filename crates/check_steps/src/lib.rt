@@ -20,3 +20,4 @@ pub use finishing::finish;
 pub use polling::polled;
 pub use reads::job_row;
 pub use taking::take;
+pub use telling::token_of;

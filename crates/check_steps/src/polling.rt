@@ -1,6 +1,6 @@
 //! The answer to a create's poll: it isn't ready yet, it is ready, or it fails.
 ghost use Rattle.std.specs.Prelude.{◌≡◌, ◌<◌, ◌+◌, ◌^◌, ◌∷◌, [], IfOk, IfErr};
-ghost use Rattle.core_state.specs.declared.mail.Stage.TheVariants.{Polling, Ending};
+ghost use Rattle.mail_table.specs.declared.mail.Stage.TheVariants.{Polling, Ending};
 ghost use Rattle.core_state.specs.declared.entry.RowWrite.TheVariants.{Set};
 ghost use Rattle.core_state.specs.declared.entry.MailWrite.TheVariants.{Held, Ended};
 ghost use Rattle.core_state.specs.declared.entry.What.TheVariants as what;
@@ -38,7 +38,7 @@ pub fn polled(alloc: Global, s: &State, e: EngineNo, answer: &Answered) -> Resul
     Ok(answered(alloc, s, e, job, stack, row, answer)?)
 }
 
-/// The same where the key can rise.
+// The same where the key can rise.
 fn answered(
     alloc: Global,
     s: &State,
@@ -62,16 +62,16 @@ fn answered(
     }
 }
 
-/// Nothing changes.
+// Nothing changes.
 fn wait(alloc: Global, call: Entry) -> Result<Made, AllocError>
     ensures { IfOk result (λ m. (m.changes ≡ []) × (m.entries ≡ call ∷ [])) }
 {
     let changes = Batch::new(alloc);
     let entries = one(alloc, call)?;
-    Ok(Made { changes, entries })
+    Made::new(alloc, changes, entries)
 }
 
-/// The provider says what is broken.
+// The provider says what is broken.
 fn break_off(
     alloc: Global,
     e: EngineNo,
@@ -91,7 +91,7 @@ fn break_off(
     fail(alloc, e, stack, row, call, Why::Broken(Act::Create, code))
 }
 
-/// A ready resource's facts are stored, and its job ends next.
+// A ready resource's facts are stored, and its job ends next.
 fn store(
     alloc: Global,
     e: EngineNo,
@@ -107,10 +107,10 @@ fn store(
 {
     let changes = store_changes(alloc, job, row, facts)?;
     let entries = store_entries(alloc, e, job, row, call, facts)?;
-    Ok(Made { changes, entries })
+    Made::new(alloc, changes, entries)
 }
 
-/// The row and the job.
+// The row and the job.
 fn store_changes(
     alloc: Global,
     job: &Job,
@@ -124,7 +124,7 @@ fn store_changes(
     two(alloc, Change::PutRow(row), Change::PutJob(job))
 }
 
-/// The call, and what is told of the row and the job.
+// The call, and what is told of the row and the job.
 fn store_entries(
     alloc: Global,
     e: EngineNo,

@@ -1,9 +1,11 @@
 //! What a step reads of the state: the lowest letter, and a job with its stack, graph and row.
 ghost use Rattle.std.specs.Prelude.{◌≡◌, ◌≤◌, ◌+◌, ◌^◌, ◌↔◌, IsTrue, IsSome, Some, option_map};
-ghost use Rattle.core_state.specs.declared.mail.Letter.{Letter as letter_type};
-ghost use Rattle.core_state.specs.declared.mail.Stage.{Stage as stage_type};
-ghost use Rattle.core_state.specs.declared.row.Row.{Row as row_type};
-ghost use Rattle.core_state.specs.State.{stack_at, graph_at, row_at, job_at};
+ghost use Rattle.mail_table.specs.declared.mail.Letter.{Letter as letter_type};
+ghost use Rattle.mail_table.specs.declared.mail.Stage.{Stage as stage_type};
+ghost use Rattle.row_table.specs.declared.row.Row.{Row as row_type};
+ghost use Rattle.row_table.specs.Rows.{row_at};
+ghost use Rattle.mail_table.specs.Mails.{job_at};
+ghost use Rattle.core_state.specs.State.{stack_at, graph_at};
 ghost use Rattle.core_state.specs.Reads.{IsLowest};
 ghost use Rattle.core_state.specs.Turns.{Creating};
 ghost use Rattle.check_steps.specs.Held.{IsNodeRow, lower_of};
@@ -32,7 +34,7 @@ pub fn lowest(letters: &[Letter]) -> Option<&Letter>
     best
 }
 
-/// The one with the lower number, the first of two that have one number.
+// The one with the lower number, the first of two that have one number.
 fn lower<'a>(best: Option<&'a Letter>, letter: &'a Letter) -> &'a Letter
     ensures { result.now ≡ lower_of (option_map (λ x. x.now) best.entry) letter.now }
 {

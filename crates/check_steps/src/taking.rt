@@ -26,7 +26,7 @@ pub fn take(alloc: Global, s: &State, e: EngineNo) -> Result<Made, Refusal>
     Ok(lock(alloc, e, letter, row)?)
 }
 
-/// A row that nobody has gets the engine, and the engine a job with the letter.
+// A row that nobody has gets the engine, and the engine a job with the letter.
 fn lock(alloc: Global, e: EngineNo, letter: &Letter, row: &Row) -> Result<Made, AllocError>
     requires { row.now.key + 1 < 2 ^ 62 }
     ensures changes { IfOk result (λ m. m.changes ≡ taken_changes e letter.now row.now) }
@@ -34,10 +34,10 @@ fn lock(alloc: Global, e: EngineNo, letter: &Letter, row: &Row) -> Result<Made, 
 {
     let changes = lock_changes(alloc, e, letter, row)?;
     let entries = lock_entries(alloc, e, letter, row)?;
-    Ok(Made { changes, entries })
+    Made::new(alloc, changes, entries)
 }
 
-/// The row, the letter and the job.
+// The row, the letter and the job.
 fn lock_changes(
     alloc: Global,
     e: EngineNo,
@@ -57,7 +57,7 @@ fn lock_changes(
     )
 }
 
-/// What is told of them.
+// What is told of them.
 fn lock_entries(
     alloc: Global,
     e: EngineNo,

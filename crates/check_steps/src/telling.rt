@@ -55,7 +55,7 @@ pub fn taken_entry(
     Ok(mail_entry(e, writes))
 }
 
-/// An entry of letters and jobs.
+// An entry of letters and jobs.
 fn mail_entry(e: EngineNo, writes: Seq<MailWrite>) -> Entry
     ensures { result ≡ by_engine e (what.Mail writes) }
 {
@@ -86,7 +86,7 @@ pub fn call_entry(
 }
 
 /// The token under which a row is asked for.
-fn token_of(row: &Row) -> Result<Token, AllocError>
+pub fn token_of(row: &Row) -> Result<Token, AllocError>
     ensures { IfOk result (λ t. t ≡ token_of row.now) }
 {
     Ok(Token {

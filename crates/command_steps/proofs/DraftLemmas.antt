@@ -9,13 +9,12 @@ use Rattle.heat_plan.specs.declared.refusal.Refusal.TheVariants.{Worn}
 use Rattle.traversal_graph.specs.Nodes.{IsBuilt}
 use Rattle.traversal_graph.specs.declared.shape.TravGraph.{TravGraph}
 use Rattle.core_state.specs.declared.change.Change.{Change}
-use Rattle.core_state.specs.declared.change.Change.TheVariants.{PutStack, PutRow, PutGraph, Send, SetNumbers}
+use Rattle.core_state.specs.declared.change.Change.TheVariants as change
 use Rattle.core_state.specs.declared.entry.Actor.TheVariants.{Main}
 use Rattle.core_state.specs.declared.entry.Entry.{Entry}
 use Rattle.core_state.specs.declared.entry.What.TheVariants as what
-use Rattle.core_state.specs.Graphs.{fresh_points}
 use Rattle.core_state.specs.State.{StateData}
-use Rattle.core_state.specs.Commands.{row_numbers, new_rows, letters_to, first_status, set_entry, sent_entry, complete_entry, IsLeaf, letters_worn, created_changes, created_entries}
+use Rattle.core_state.specs.Commands.{row_numbers, new_rows, new_past, letters_to, first_status, set_entry, sent_entry, complete_entry, IsLeaf, letters_worn, created_changes, created_entries}
 use Rattle.command_steps.specs.declared.draft.Draft.{Draft}
 use Rattle.command_steps.specs.Drafts.{IsDraft, IsDraftRefusal, worn}
 
@@ -43,11 +42,12 @@ letters_wear s plan graph leaves built are many = worn refl (letters_worn graph 
 
 abbrev drafted_changes : List ℕ → PlanData → Draft → List Change
 drafted_changes name plan draft =
-    SetNumbers draft.next
-    ∷ PutStack (record { name = name; no = draft.heads.stack; trav = draft.heads.trav; act = Create; status = first_status plan.items; plan = Some plan })
-    ∷ (map PutRow draft.rows
-    ++ (PutGraph (record { stack = name; graph = draft.graph; points = fresh_points name 0 draft.graph.nodes })
-    ∷ map Send draft.letters))
+    change.Numbers draft.next
+    ∷ change.PutStack (record { name = name; no = draft.heads.stack; trav = draft.heads.trav; act = Create; status = first_status plan.items; plan = Some plan })
+    ∷ change.PutPast (new_past name)
+    ∷ (map change.PutRow draft.rows
+    ++ (change.PutGraph name draft.graph
+    ∷ map change.Send draft.letters))
 
 pub drafted_changes-are : (s : StateData) (name : List ℕ) (plan : PlanData) (draft : Draft) (d : IsDraft s name plan draft)
     → drafted_changes name plan draft ≡ created_changes s name plan d.accepted
@@ -56,7 +56,7 @@ drafted_changes-are s name plan draft d =
 
 abbrev drafted_entries : List ℕ → PlanData → Draft → List Entry
 drafted_entries name plan draft =
-    record { by = Main; what = what.Command name draft.heads.trav Create (Some plan) }
+    record { by = Main; what = what.Command name draft.heads.trav Create (Some plan) false }
     ∷ (set_entry Main draft.rows
     ++ (sent_entry Main draft.letters
     ++ complete_entry Main name draft.heads.trav plan.items))

@@ -1,12 +1,11 @@
-//! The changes of a create: the numbers, the stack, its rows, its graph and its letters.
+//! The changes of a create: the numbers, the stack, its past, its rows, its graph and its letters.
 ghost use Rattle.std.specs.Prelude.{◌≡◌, ◌++◌, ◌∷◌, [], IfOk, OnOk, Some, map};
 ghost use Rattle.heat_plan.specs.declared.phase.Act.TheVariants.{Create};
-ghost use Rattle.core_state.specs.declared.change.Change.TheVariants.{PutRow, Send, PutGraph, PutStack, SetNumbers};
-ghost use Rattle.core_state.specs.Graphs.{fresh_points};
-ghost use Rattle.core_state.specs.Commands.{first_status};
+ghost use Rattle.core_state.specs.declared.change.Change.TheVariants as change;
+ghost use Rattle.core_state.specs.Commands.{first_status, new_past};
 
 use crate::draft::{Draft, Heads};
-use core_state::{Batch, Change, Graph, Letter, Numbers, Row, SharedPlan, Stack};
+use core_state::{Batch, Change, Letter, Numbers, Past, Row, SharedPlan, Stack};
 use heat_plan::{Act, Item, Plan, StackName, Status};
 use heat_value::TryCopy;
 use std::alloc::{AllocError, Global};
@@ -20,8 +19,8 @@ pub fn changes_of(
     draft: Draft,
 ) -> Result<Batch<Change>, AllocError>
     ensures { IfOk result (λ changes. changes ≡
-        SetNumbers draft.next
-        ∷ PutStack (record {
+        change.Numbers draft.next
+        ∷ change.PutStack (record {
           name = name.now;
           no = draft.heads.stack;
           trav = draft.heads.trav;
@@ -29,13 +28,10 @@ pub fn changes_of(
           status = first_status plan.items;
           plan = Some plan;
         })
-        ∷ (map PutRow draft.rows
-        ++ (PutGraph (record {
-          stack = name.now;
-          graph = draft.graph;
-          points = fresh_points name.now 0 draft.graph.nodes;
-        })
-        ∷ map Send draft.letters))) }
+        ∷ change.PutPast (new_past name.now)
+        ∷ (map change.PutRow draft.rows
+        ++ (change.PutGraph name.now draft.graph
+        ∷ map change.Send draft.letters))) }
 {
     let Draft {
         heads,
@@ -45,14 +41,15 @@ pub fn changes_of(
         next,
     } = draft;
     let stack = new_stack(alloc, name, &heads, plan)?;
-    let mut changes = opening(alloc, next, stack)?;
+    let past = new_past(name)?;
+    let mut changes = opening(alloc, next, stack, past)?;
     put_rows(&mut changes, rows.into_vec())?;
-    put_graph(alloc, &mut changes, name, graph)?;
+    put_graph(&mut changes, name, graph)?;
     send_all(&mut changes, letters.into_vec())?;
     Ok(changes)
 }
 
-/// The new stack.
+// The new stack.
 fn new_stack(
     alloc: Global,
     name: &StackName,
@@ -78,7 +75,7 @@ fn new_stack(
     })
 }
 
-/// A traversal is complete at once where there is nothing to do.
+// A traversal is complete at once where there is nothing to do.
 fn first_status(items: &[Item]) -> Status
     ensures { result ≡ first_status items.now }
 {
@@ -88,19 +85,37 @@ fn first_status(items: &[Item]) -> Status
     }
 }
 
-/// The numbers and the stack.
-fn opening(alloc: Global, next: Numbers, stack: Stack) -> Result<Batch<Change>, AllocError>
-    ensures { IfOk result (λ changes. changes ≡ SetNumbers next ∷ PutStack stack ∷ []) }
+// The past of a new stack.
+fn new_past(stack: &StackName) -> Result<Past, AllocError>
+    ensures { IfOk result (λ past. past ≡ new_past stack.now) }
+{
+    Ok(Past {
+        stack: stack.copy()?,
+        rollback: false,
+        back: None,
+    })
+}
+
+// The numbers, the stack and its past.
+fn opening(
+    alloc: Global,
+    next: Numbers,
+    stack: Stack,
+    past: Past,
+) -> Result<Batch<Change>, AllocError>
+    ensures { IfOk result (λ changes. changes ≡
+        change.Numbers next ∷ change.PutStack stack ∷ change.PutPast past ∷ []) }
 {
     let mut changes = Batch::new(alloc);
-    changes.push(Change::SetNumbers(next))?;
+    changes.push(Change::Numbers(next))?;
     changes.push(Change::PutStack(stack))?;
+    changes.push(Change::PutPast(past))?;
     Ok(changes)
 }
 
-/// Puts each row.
+// Puts each row.
 fn put_rows(changes: &mut Batch<Change>, rows: Vec<Row>) -> Result<(), AllocError>
-    ensures { OnOk result (changes.new ≡ changes.old ++ map PutRow rows.items) }
+    ensures { OnOk result (changes.new ≡ changes.old ++ map change.PutRow rows.items) }
 {
     for row in rows {
         changes.push(Change::PutRow(row))?;
@@ -108,26 +123,20 @@ fn put_rows(changes: &mut Batch<Change>, rows: Vec<Row>) -> Result<(), AllocErro
     Ok(())
 }
 
-/// Puts a graph on which nothing has been done.
+// Puts the stack's graph.
 fn put_graph(
-    alloc: Global,
     changes: &mut Batch<Change>,
     stack: &StackName,
     graph: TravGraph,
 ) -> Result<(), AllocError>
-    ensures { OnOk result (changes.new ≡ changes.old ++ PutGraph (record {
-      stack = stack.now;
-      graph = graph;
-      points = fresh_points stack.now 0 graph.nodes;
-    }) ∷ []) }
+    ensures { OnOk result (changes.new ≡ changes.old ++ change.PutGraph stack.now graph ∷ []) }
 {
-    let graph = Graph::new(alloc, stack.copy()?, graph)?;
-    changes.push(Change::PutGraph(graph))
+    changes.push(Change::PutGraph(stack.copy()?, graph))
 }
 
-/// Sends each letter.
+// Sends each letter.
 fn send_all(changes: &mut Batch<Change>, letters: Vec<Letter>) -> Result<(), AllocError>
-    ensures { OnOk result (changes.new ≡ changes.old ++ map Send letters.items) }
+    ensures { OnOk result (changes.new ≡ changes.old ++ map change.Send letters.items) }
 {
     for letter in letters {
         changes.push(Change::Send(letter))?;

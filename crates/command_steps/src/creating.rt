@@ -26,7 +26,7 @@ pub fn create(alloc: Global, s: &State, name: &StackName, plan: Plan) -> Result<
     }
 }
 
-/// The same for a name that no stack has.
+// The same for a name that no stack has.
 fn create_absent(alloc: Global, s: &State, name: &StackName, plan: Plan) -> Result<Made, Refusal>
     requires { stack_at s.now.state.stacks name.now ≡ None }
     ensures made { IfOk result (λ m. (k : Creates s.now.state name.now plan)
@@ -37,5 +37,5 @@ fn create_absent(alloc: Global, s: &State, name: &StackName, plan: Plan) -> Resu
     let draft = drafted(alloc, s, name, &plan)?;
     let entries = entries_of(alloc, name, &plan, &draft)?;
     let changes = changes_of(alloc, name, plan, draft)?;
-    Ok(Made { changes, entries })
+    Ok(Made::new(alloc, changes, entries)?)
 }

@@ -1,6 +1,8 @@
 //! What a create draws and makes before any of it is told or stored.
 ghost use Rattle.std.specs.Prelude.{◌≡◌, ◌≤◌, ◌<◌, ◌+◌, ◌^◌, ◌↔◌, ◌⊎◌, [], IsTrue, IfOk, IfErr, IfSome, IsNone, None, length};
 ghost use Rattle.dep_graph.specs.Lists.{ListsAll};
+ghost use Rattle.heat_plan.specs.Order.{Rising};
+ghost use Rattle.heat_plan.specs.Plans.{names_of};
 ghost use Rattle.traversal_graph.specs.Nodes.{IsBuilt};
 ghost use Rattle.core_state.specs.State.{stack_at};
 ghost use Rattle.core_state.specs.Commands.{IsLeaf, row_numbers, drawn};
@@ -61,7 +63,7 @@ pub fn drafted(alloc: Global, s: &State, name: &StackName, plan: &Plan) -> Resul
     })
 }
 
-/// The next stack and traversal numbers; none where one is worn out.
+// The next stack and traversal numbers; none where one is worn out.
 fn heads_of(next: &Numbers) -> Option<Heads>
     ensures some { IfSome result (AreHeads next.now) }
     ensures none { IsNone result → (2 ^ 62 ≤ next.now.stack) ⊎ (2 ^ 62 ≤ next.now.trav) }
@@ -71,23 +73,24 @@ fn heads_of(next: &Numbers) -> Option<Heads>
     Some(Heads { stack, trav })
 }
 
-/// Whether so many more of a sort can be drawn.
+// Whether so many more of a sort can be drawn.
 fn has_room(next: Next, more: usize) -> bool
     ensures { IsTrue result ↔ (next + more ≤ 2 ^ 62) }
 {
     more as u64 <= WORN - next.get()
 }
 
-/// The graph of a plan's items, each with the row that is numbered for it.
+// The graph of a plan's items, each with the row that is numbered for it.
 fn graph_of(alloc: Global, first: Next, items: &[Item]) -> Result<TravGraph, AllocError>
-    requires { first + length items.now ≤ 2 ^ 62 }
+    requires room { first + length items.now ≤ 2 ^ 62 }
+    requires rising { Rising (names_of items.now) }
     ensures { IfOk result (IsBuilt items.now (row_numbers first items.now) []) }
 {
     let chosen = row_numbers(alloc, first, items)?;
     build(alloc, items, chosen.as_slice(), &[])
 }
 
-/// The next numbers once a stack, a traversal, and so many rows and letters were drawn.
+// The next numbers once a stack, a traversal, and so many rows and letters were drawn.
 fn drawn(next: &Numbers, rows: usize, letters: usize) -> Numbers
     requires stack { next.now.stack < 2 ^ 62 }
     requires trav { next.now.trav < 2 ^ 62 }

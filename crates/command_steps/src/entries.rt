@@ -1,5 +1,5 @@
 //! The entries of a create: the command, the rows, the letters, and the mark where there is nothing to do.
-ghost use Rattle.std.specs.Prelude.{◌≡◌, ◌++◌, ◌∷◌, [], IfOk, OnOk, Some, map};
+ghost use Rattle.std.specs.Prelude.{◌≡◌, ◌++◌, ◌∷◌, [], false, IfOk, OnOk, Some, map};
 ghost use Rattle.heat_plan.specs.declared.phase.Act.TheVariants.{Create};
 ghost use Rattle.core_state.specs.declared.entry.Actor.TheVariants.{Main};
 ghost use Rattle.core_state.specs.declared.entry.RowWrite.TheVariants.{Set};
@@ -21,7 +21,7 @@ pub fn entries_of(
     draft: &Draft,
 ) -> Result<Batch<Entry>, AllocError>
     ensures { IfOk result (λ entries. entries ≡
-        record { by = Main; what = what.Command name.now draft.now.heads.trav Create (Some plan.now) }
+        record { by = Main; what = what.Command name.now draft.now.heads.trav Create (Some plan.now) false }
         ∷ (set_entry Main draft.now.rows
         ++ (sent_entry Main draft.now.letters
         ++ complete_entry Main name.now draft.now.heads.trav plan.now.items))) }
@@ -34,11 +34,11 @@ pub fn entries_of(
     Ok(entries)
 }
 
-/// The command itself.
+// The command itself.
 fn command(stack: &StackName, trav: TravNo, plan: &Plan) -> Result<Entry, AllocError>
     ensures { IfOk result (λ entry. entry ≡ record {
       by = Main;
-      what = what.Command stack.now trav Create (Some plan.now);
+      what = what.Command stack.now trav Create (Some plan.now) false;
     }) }
 {
     Ok(Entry {
@@ -48,11 +48,12 @@ fn command(stack: &StackName, trav: TravNo, plan: &Plan) -> Result<Entry, AllocE
             trav,
             act: Act::Create,
             plan: Some(plan.copy()?),
+            rollback: false,
         },
     })
 }
 
-/// The rows, where there are any.
+// The rows, where there are any.
 fn tell_rows(alloc: Global, entries: &mut Batch<Entry>, rows: &[Row]) -> Result<(), AllocError>
     ensures { OnOk result (entries.new ≡ entries.old ++ set_entry Main rows.now) }
 {
@@ -67,7 +68,7 @@ fn tell_rows(alloc: Global, entries: &mut Batch<Entry>, rows: &[Row]) -> Result<
     })
 }
 
-/// A write of each row.
+// A write of each row.
 fn set_all(alloc: Global, rows: &[Row]) -> Result<Seq<RowWrite>, AllocError>
     ensures { IfOk result (λ writes. writes ≡ map Set rows.now) }
 {
@@ -78,7 +79,7 @@ fn set_all(alloc: Global, rows: &[Row]) -> Result<Seq<RowWrite>, AllocError>
     Ok(writes)
 }
 
-/// The letters, where there are any.
+// The letters, where there are any.
 fn tell_letters(
     alloc: Global,
     entries: &mut Batch<Entry>,
@@ -97,7 +98,7 @@ fn tell_letters(
     })
 }
 
-/// The sending of each letter.
+// The sending of each letter.
 fn sent_all(alloc: Global, letters: &[Letter]) -> Result<Seq<MailWrite>, AllocError>
     ensures { IfOk result (λ writes. writes ≡ map Sent letters.now) }
 {
@@ -108,7 +109,7 @@ fn sent_all(alloc: Global, letters: &[Letter]) -> Result<Seq<MailWrite>, AllocEr
     Ok(writes)
 }
 
-/// The mark, where there is nothing to do.
+// The mark, where there is nothing to do.
 fn tell_mark(
     entries: &mut Batch<Entry>,
     stack: &StackName,

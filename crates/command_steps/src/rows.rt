@@ -40,7 +40,7 @@ pub fn new_rows(
     Ok(rows)
 }
 
-/// A row for an item on which nothing has been done.
+// A row for an item on which nothing has been done.
 fn new_row(
     alloc: Global,
     stack: &StackName,

@@ -5,8 +5,10 @@ use crate::create;
 use crate::letters::letters_to;
 use crate::rows::new_rows;
 use core_state::{Made, Next, State, What};
-use heat_plan::{Item, Kind, Needs, Plan, Policy, Properties, ResName, StackName, TravNo};
-use heat_value::{Props, Seq, Text};
+use heat_plan::{
+    Item, Kind, Needs, Parameters, Plan, Policy, Properties, ResName, StackName, TravNo,
+};
+use heat_value::{Seq, Text};
 use std::alloc::Global;
 use std::test::Fail;
 
@@ -19,7 +21,7 @@ fn no_plan(alloc: Global) -> Plan {
     Plan::new(
         Seq::new(alloc),
         Seq::new(alloc),
-        Props::new(alloc),
+        Parameters::new(alloc),
         Seq::new(alloc),
         Seq::new(alloc),
         Seq::new(alloc),
@@ -34,7 +36,8 @@ fn is_marked(made: &Made) -> bool {
     }
 }
 
-/// How many changes a create of nothing makes, and whether it is marked; none where it is refused.
+/// How many changes a create of nothing makes (numbers, stack, past, graph), and whether it is
+/// marked; none where it is refused.
 fn create_nothing(alloc: Global, state: &State, name: &StackName) -> Option<(usize, bool)> {
     match create(alloc, state, name, no_plan(alloc)) {
         Ok(made) => Some((made.changes.len(), is_marked(&made))),
@@ -47,7 +50,7 @@ fn a_create_of_nothing_is_marked(rt: HostRuntime) -> Result<(), Fail> {
     let name = stack_name(&rt)?;
     let state = State::new(rt.alloc());
     let seen = create_nothing(rt.alloc(), &state, &name);
-    assert_eq!(rt; seen, Some((3, true)));
+    assert_eq!(rt; seen, Some((4, true)));
     Ok(())
 }
 

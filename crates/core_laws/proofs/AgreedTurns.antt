@@ -9,13 +9,15 @@ use Rattle.heat_plan.specs.declared.phase.Status.TheVariants.{Complete}
 use Rattle.traversal_graph.specs.declared.shape.Node.{Node}
 use Rattle.traversal_graph.specs.declared.shape.Node.TheVariants.{U}
 use Rattle.core_state.specs.declared.stack.Stack.{Stack}
-use Rattle.core_state.specs.declared.row.Row.{Row}
+use Rattle.row_table.specs.declared.row.Row.{Row}
 use Rattle.core_state.specs.declared.graph.Graph.{Graph}
-use Rattle.core_state.specs.declared.graph.Point.{Point}
-use Rattle.core_state.specs.declared.mail.Job.{Job}
+use Rattle.sync_points.specs.declared.point.Point.{Point}
+use Rattle.mail_table.specs.declared.mail.Job.{Job}
 use Rattle.core_state.specs.declared.entry.Entry.{Entry}
 use Rattle.core_state.specs.Reads.{item_at}
-use Rattle.core_state.specs.State.{StateData, stack_at, graph_at, row_at, job_at}
+use Rattle.row_table.specs.Rows.{row_at}
+use Rattle.mail_table.specs.Mails.{job_at}
+use Rattle.core_state.specs.State.{StateData, stack_at, graph_at}
 use Rattle.core_state.specs.Turns.{token_of}
 use Rattle.provider.specs.Table.{TokenState}
 use Rattle.core_laws.specs.Opening.{Opening, first_of}

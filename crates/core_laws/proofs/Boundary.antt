@@ -10,11 +10,12 @@ use Rattle.heat_plan.specs.declared.token.Token.{Token}
 use Rattle.heat_plan.specs.declared.phase.Act.TheVariants.{Init}
 use Rattle.heat_plan.specs.declared.phase.Status.TheVariants.{Complete}
 use Rattle.core_state.specs.declared.stack.Stack.{Stack}
-use Rattle.core_state.specs.declared.row.Row.{Row}
+use Rattle.row_table.specs.declared.row.Row.{Row}
 use Rattle.core_state.specs.declared.graph.Graph.{Graph}
-use Rattle.core_state.specs.declared.graph.Point.{Point}
+use Rattle.sync_points.specs.declared.point.Point.{Point}
 use Rattle.core_state.specs.declared.entry.Entry.{Entry}
-use Rattle.core_state.specs.State.{StateData, stack_at, row_at}
+use Rattle.row_table.specs.Rows.{row_at}
+use Rattle.core_state.specs.State.{StateData, stack_at}
 use Rattle.core_state.specs.Turns.{token_of, AllDone}
 use Rattle.provider.specs.Table.{TokenState}
 use Rattle.core_laws.specs.Opening.{Opening, first_of}

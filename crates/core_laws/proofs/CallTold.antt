@@ -16,10 +16,10 @@ use Rattle.heat_plan.specs.declared.phase.Act.TheVariants.{Create}
 use Rattle.heat_plan.specs.declared.phase.Status.{Status}
 use Rattle.heat_plan.specs.declared.phase.Status.TheVariants.{Complete, InProgress, Failed}
 use Rattle.core_state.specs.declared.stack.Stack.{Stack}
-use Rattle.core_state.specs.declared.row.Row.{Row}
-use Rattle.core_state.specs.declared.mail.Job.{Job}
-use Rattle.core_state.specs.declared.mail.Stage.{Stage}
-use Rattle.core_state.specs.declared.mail.Stage.TheVariants.{Asking, Polling, Ending}
+use Rattle.row_table.specs.declared.row.Row.{Row}
+use Rattle.mail_table.specs.declared.mail.Job.{Job}
+use Rattle.mail_table.specs.declared.mail.Stage.{Stage}
+use Rattle.mail_table.specs.declared.mail.Stage.TheVariants.{Asking, Polling, Ending}
 use Rattle.core_state.specs.declared.entry.Actor.TheVariants.{Engine}
 use Rattle.core_state.specs.declared.entry.Cause.{Cause}
 use Rattle.core_state.specs.declared.entry.Entry.{Entry}
@@ -29,7 +29,9 @@ use Rattle.core_state.specs.declared.entry.RowWrite.TheVariants.{Set}
 use Rattle.core_state.specs.declared.entry.What.TheVariants as what
 use Rattle.core_state.specs.declared.entry.Why.{Why}
 use Rattle.core_state.specs.Changes.{applied}
-use Rattle.core_state.specs.State.{StateData, stack_at, row_at, job_at, put_row, put_job, put_stack, cut_job}
+use Rattle.row_table.specs.Rows.{row_at, put_row}
+use Rattle.mail_table.specs.Mails.{job_at, put_job, cut_job}
+use Rattle.core_state.specs.State.{StateData, stack_at, put_stack}
 use Rattle.core_state.specs.Steps.{IsOfUnknownSize, facts, code}
 use Rattle.core_state.specs.Turns.{token_of, by_engine, call_entry, Creating, created_with, with_stage, asked_changes, asked_entries, ready_row, ready_changes, ready_entries, IsFailure, quota, create_failed, poll_failed, broken, failed_row, failed_changes, failed_entries, cause_at}
 use Rattle.provider.specs.Table.{TokenState, after_each}

@@ -29,7 +29,8 @@ could_by-silent : (t : Token) (states : List TokenState) (e : Entry) → IsNoCal
 could_by-silent t states e silent = by e.what refl where
   by : (w : What) → e.what ≡ w → could_by t states w ≡ states
   by (what.Call token request given) is = absurd (silent token request given is)
-  by (what.Command stack trav act plan) is = refl
+  by (what.Command stack trav act plan rollback) is = refl
+  by (what.Release token) is = refl
   by (what.Mark stack trav act cause) is = refl
   by (what.Rows writes) is = refl
   by (what.Mail writes) is = refl

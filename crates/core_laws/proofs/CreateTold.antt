@@ -15,8 +15,8 @@ use Rattle.traversal_graph.specs.declared.shape.Node.{Node}
 use Rattle.traversal_graph.specs.declared.shape.Node.TheVariants.{U}
 use Rattle.traversal_graph.specs.Nodes.{update_nodes}
 use Rattle.core_state.specs.declared.stack.Stack.{Stack}
-use Rattle.core_state.specs.declared.row.Row.{Row}
-use Rattle.core_state.specs.declared.mail.Letter.{Letter}
+use Rattle.row_table.specs.declared.row.Row.{Row}
+use Rattle.mail_table.specs.declared.mail.Letter.{Letter}
 use Rattle.core_state.specs.declared.entry.Actor.{Actor}
 use Rattle.core_state.specs.declared.entry.Actor.TheVariants.{Main}
 use Rattle.core_state.specs.declared.entry.Entry.{Entry}
@@ -24,7 +24,8 @@ use Rattle.core_state.specs.declared.entry.MailWrite.TheVariants.{Sent}
 use Rattle.core_state.specs.declared.entry.RowWrite.TheVariants.{Set}
 use Rattle.core_state.specs.declared.entry.What.TheVariants as what
 use Rattle.core_state.specs.Commands.{Creates, created_entries, new_row, new_rows, row_numbers, letters_to, first_status, set_entry, sent_entry, complete_entry}
-use Rattle.core_state.specs.State.{StateData, stack_at, row_at, put_row}
+use Rattle.row_table.specs.Rows.{row_at, put_row}
+use Rattle.core_state.specs.State.{StateData, stack_at}
 use Rattle.core_state.specs.Turns.{token_of}
 use Rattle.provider.specs.Table.{TokenState}
 use Rattle.core_laws.specs.Asked.{HasNoCall}
@@ -104,7 +105,7 @@ module _ (o : Opening) (h : List Entry) (s : StateData) (g : Going s) (a : Agree
   letters = letters_to name s.next.trav s.next.letter k.leaves
 
   abbrev command : Entry
-  command = record { by = Main; what = what.Command name s.next.trav Create (Some plan) }
+  command = record { by = Main; what = what.Command name s.next.trav Create (Some plan) false }
 
   abbrev ends : List Entry
   ends = complete_entry Main name s.next.trav plan.items
@@ -273,7 +274,7 @@ module _ (o : Opening) (h : List Entry) (s : StateData) (g : Going s) (a : Agree
     mark_own = mark-append o h (command ∷ []) name ∙ own (bytes_eq name name) refl InProgress (mark_of o h name);
     newest_else = λ other ne. newest-append o h (command ∷ []) other ∙ else_ other ne (Some (latest_of (made_stack s name plan k))) (newest o h other);
     mark_else = λ other ne. mark-append o h (command ∷ []) other ∙ else_ other ne (Some InProgress) (mark_of o h other);
-    could_same = λ x. could-silent (first_of o) h (command ∷ []) x (alone Main (what.Command name s.next.trav Create (Some plan)) tt);
+    could_same = λ x. could-silent (first_of o) h (command ∷ []) x (alone Main (what.Command name s.next.trav Create (Some plan) false) tt);
   } where
     own : {A : Type 0} (b : Bool) → bytes_eq name name ≡ b → (x : A) (y : Option A) → (if b then Some x else y) ≡ Some x
     own true is x y = refl
@@ -350,7 +351,7 @@ module _ (o : Opening) (h : List Entry) (s : StateData) (g : Going s) (a : Agree
         (mail_follows (command ∷ e ∷ []) more rows_same ls items at)
 
     pub create_follows : Follows o h [] es
-    create_follows = next (fits_in o (h ++ []) Main (what.Command name s.next.trav Create (Some plan)) tt)
+    create_follows = next (fits_in o (h ++ []) Main (what.Command name s.next.trav Create (Some plan) false) tt)
         (at_new (h ++ command ∷ []) commanded (named_same o h (h ++ command ∷ []) commanded.could_same (stored-append o h (command ∷ [])) (at_boundary o h s g a).named))
         (rows_follow rows refl letters plan.items (λ empty. subst (λ (x : List Entry). AtPrefix o (h ++ (command ∷ (set_entry Main rows ++ (sent_entry Main letters ++ x))))) (ended empty) end)) where
           ended : plan.items ≡ [] → ends ≡ record { by = Main; what = what.Mark name s.next.trav Create None } ∷ []

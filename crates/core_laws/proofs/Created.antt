@@ -11,17 +11,18 @@ use Rattle.traversal_graph.specs.declared.shape.Node.{Node}
 use Rattle.traversal_graph.specs.declared.shape.Node.TheVariants.{U}
 use Rattle.traversal_graph.specs.Nodes.{update_nodes}
 use Rattle.core_state.specs.declared.stack.Stack.{Stack}
-use Rattle.core_state.specs.declared.row.Row.{Row}
+use Rattle.row_table.specs.declared.row.Row.{Row}
 use Rattle.core_state.specs.declared.graph.Graph.{Graph}
-use Rattle.core_state.specs.declared.graph.Point.{Point}
-use Rattle.core_state.specs.declared.mail.Letter.{Letter}
-use Rattle.core_state.specs.declared.mail.Job.{Job}
+use Rattle.sync_points.specs.declared.point.Point.{Point}
+use Rattle.mail_table.specs.declared.mail.Letter.{Letter}
+use Rattle.mail_table.specs.declared.mail.Job.{Job}
 use Rattle.core_state.specs.declared.change.Change.{Change}
 use Rattle.core_state.specs.declared.change.Change.TheVariants.{PutRow, PutGraph, Send}
 use Rattle.core_state.specs.Changes.{apply, applied}
-use Rattle.core_state.specs.Commands.{Creates, created_changes, drawn, new_stack, new_row, new_rows, row_numbers, letters_to, first_status}
+use Rattle.core_state.specs.Commands.{Creates, created_changes, drawn, new_stack, new_past, new_row, new_rows, row_numbers, letters_to, first_status}
 use Rattle.core_state.specs.Graphs.{fresh_points}
-use Rattle.core_state.specs.State.{StateData, stack_at, graph_at, letter_at, put_stack, put_graph}
+use Rattle.mail_table.specs.Mails.{letter_at}
+use Rattle.core_state.specs.State.{StateData, stack_at, graph_at, put_stack, put_graph, put_past}
 use Rattle.core_laws.specs.Runs.{HasNoNeeds}
 use Rattle.core_laws.proofs.Tables.{at-some}
 use Rattle.core_laws.proofs.Rows.{same_some, stack_put, stack_here, stack_else, graph_here, graph_else}
@@ -52,25 +53,26 @@ module _ (s : StateData) (name : List ℕ) (plan : PlanData) (k : Creates s name
   created_to = record s {
     stacks = put_stack made_stack s.stacks;
     graphs = put_graph made_graph s.graphs;
+    pasts = put_past (new_past name) s.pasts;
     rows = put_rows (new_rows name s.next.trav s.next.row plan.items) s.rows;
     letters = put_letters (letters_to name s.next.trav s.next.letter k.leaves) s.letters;
     next = drawn s.next (length plan.items) (length k.leaves);
   }
 
   abbrev numbered : StateData
-  numbered = record s { next = drawn s.next (length plan.items) (length k.leaves); stacks = put_stack made_stack s.stacks }
+  numbered = record s { next = drawn s.next (length plan.items) (length k.leaves); stacks = put_stack made_stack s.stacks; pasts = put_past (new_past name) s.pasts }
 
   abbrev rowed : StateData
   rowed = record numbered { rows = put_rows (new_rows name s.next.trav s.next.row plan.items) s.rows }
 
   abbrev rest : List Change
-  rest = PutGraph made_graph ∷ map Send (letters_to name s.next.trav s.next.letter k.leaves)
+  rest = PutGraph name k.graph ∷ map Send (letters_to name s.next.trav s.next.letter k.leaves)
 
   pub created_is : applied (created_changes s name plan k) s ≡ created_to
   created_is =
       applied-append (map PutRow (new_rows name s.next.trav s.next.row plan.items)) rest numbered
       ∙ (ap (λ (x : StateData). applied rest x) (applied-rows (new_rows name s.next.trav s.next.row plan.items) numbered)
-      ∙ applied-letters (letters_to name s.next.trav s.next.letter k.leaves) (apply (PutGraph made_graph) rowed))
+      ∙ applied-letters (letters_to name s.next.trav s.next.letter k.leaves) (apply (PutGraph name k.graph) rowed))
 
   module _ (g : Going s) (apart : HasNoNeeds plan) where
     -- ---- what stood stands

@@ -5,14 +5,16 @@ use Rattle.heat_plan.specs.declared.item.Item.{Item}
 use Rattle.traversal_graph.specs.declared.shape.Node.{Node}
 use Rattle.traversal_graph.specs.declared.shape.Node.TheVariants.{U}
 use Rattle.traversal_graph.specs.Nodes.{update_nodes}
-use Rattle.core_state.specs.declared.row.Row.{Row}
-use Rattle.core_state.specs.declared.mail.Letter.{Letter}
+use Rattle.row_table.specs.declared.row.Row.{Row}
+use Rattle.mail_table.specs.declared.mail.Letter.{Letter}
 use Rattle.core_state.specs.declared.change.Change.{Change}
 use Rattle.core_state.specs.declared.change.Change.TheVariants.{PutRow, Send}
 use Rattle.core_state.specs.Changes.{applied}
 use Rattle.core_state.specs.Commands.{new_row, new_rows, row_numbers, letters_to}
 use Rattle.core_state.specs.Graphs.{fresh_points}
-use Rattle.core_state.specs.State.{StateData, row_at, letter_at, put_row, put_letter}
+use Rattle.row_table.specs.Rows.{row_at, put_row}
+use Rattle.mail_table.specs.Mails.{letter_at, put_letter}
+use Rattle.core_state.specs.State.{StateData}
 use Rattle.core_laws.proofs.Rows.{row_put, row_here, row_else, letter_put, letter_here, letter_else}
 
 -- ---- changes one after another

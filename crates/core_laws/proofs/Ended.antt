@@ -8,14 +8,16 @@ use Rattle.heat_plan.specs.declared.phase.Status.{Status}
 use Rattle.heat_plan.specs.declared.phase.Status.TheVariants.{Complete, InProgress, Failed}
 use Rattle.traversal_graph.specs.declared.shape.Node.TheVariants.{U}
 use Rattle.core_state.specs.declared.stack.Stack.{Stack}
-use Rattle.core_state.specs.declared.row.Row.{Row}
+use Rattle.row_table.specs.declared.row.Row.{Row}
 use Rattle.core_state.specs.declared.graph.Graph.{Graph}
-use Rattle.core_state.specs.declared.graph.Point.{Point}
-use Rattle.core_state.specs.declared.mail.Letter.{Letter}
-use Rattle.core_state.specs.declared.mail.Job.{Job}
+use Rattle.sync_points.specs.declared.point.Point.{Point}
+use Rattle.mail_table.specs.declared.mail.Letter.{Letter}
+use Rattle.mail_table.specs.declared.mail.Job.{Job}
 use Rattle.core_state.specs.declared.change.Change.TheVariants.{PutStack}
 use Rattle.core_state.specs.Changes.{applied, put_point, with_point}
-use Rattle.core_state.specs.State.{StateData, stack_at, graph_at, letter_at, job_at, put_row, put_stack, cut_job}
+use Rattle.row_table.specs.Rows.{put_row}
+use Rattle.mail_table.specs.Mails.{letter_at, job_at, cut_job}
+use Rattle.core_state.specs.State.{StateData, stack_at, graph_at, put_stack}
 use Rattle.core_state.specs.Turns.{failed_row, failed_changes, done_point, unlocked, AllDone, completed, finished_changes}
 use Rattle.core_laws.proofs.Tables.{set_else}
 use Rattle.core_laws.proofs.Rows.{same_some, text_or_not, row_here, row_else, job_cut, graph-key, stack-key, stack_put}

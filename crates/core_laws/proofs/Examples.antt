@@ -8,7 +8,7 @@ use Rattle.heat_plan.specs.declared.calls.Request.{Request}
 use Rattle.heat_plan.specs.declared.calls.Request.TheVariants as request
 use Rattle.heat_plan.specs.declared.token.Token.{Token}
 use Rattle.core_state.specs.declared.entry.What.TheVariants as what
-use Rattle.core_state.specs.Tables.{at, put}
+use Rattle.heat_plan.specs.Tables.{at, put}
 use Rattle.provider.specs.Same.{same_token}
 use Rattle.provider.specs.Table.{Living, TokenState, after_each}
 use Rattle.provider.proofs.Sames.{same_token-true}

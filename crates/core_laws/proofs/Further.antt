@@ -11,19 +11,21 @@ use Rattle.heat_plan.specs.declared.phase.Status.TheVariants.{Complete, InProgre
 use Rattle.traversal_graph.specs.declared.shape.Node.{Node}
 use Rattle.traversal_graph.specs.declared.shape.Node.TheVariants.{U}
 use Rattle.core_state.specs.declared.stack.Stack.{Stack}
-use Rattle.core_state.specs.declared.row.Row.{Row}
+use Rattle.row_table.specs.declared.row.Row.{Row}
 use Rattle.core_state.specs.declared.graph.Graph.{Graph}
-use Rattle.core_state.specs.declared.graph.Point.{Point}
-use Rattle.core_state.specs.declared.mail.Job.{Job}
-use Rattle.core_state.specs.declared.mail.Stage.{Stage}
-use Rattle.core_state.specs.declared.mail.Stage.TheVariants.{Asking, Polling, Ending}
+use Rattle.sync_points.specs.declared.point.Point.{Point}
+use Rattle.mail_table.specs.declared.mail.Job.{Job}
+use Rattle.mail_table.specs.declared.mail.Stage.{Stage}
+use Rattle.mail_table.specs.declared.mail.Stage.TheVariants.{Asking, Polling, Ending}
 use Rattle.core_state.specs.declared.change.Change.{Change}
 use Rattle.core_state.specs.declared.entry.Entry.{Entry}
 use Rattle.core_state.specs.declared.numbers.Numbers.{Numbers}
 use Rattle.core_state.specs.Changes.{applied, with_point, put_point}
 use Rattle.core_state.specs.Commands.{Creates, created_changes, new_row, row_numbers}
 use Rattle.core_state.specs.Graphs.{fresh_points}
-use Rattle.core_state.specs.State.{StateData, stack_at, graph_at, row_at, job_at, put_job, put_stack, put_row, cut_job, cut_letter}
+use Rattle.row_table.specs.Rows.{row_at, put_row}
+use Rattle.mail_table.specs.Mails.{job_at, put_job, cut_job, cut_letter}
+use Rattle.core_state.specs.State.{StateData, stack_at, graph_at, put_stack}
 use Rattle.core_state.specs.Steps.{create, QuietTurn, take, begin, finish, finish_last, begun, refused, waits, ready, broken, unstored as unstored_turn, Step, command, quiet, asking, polling, unstored, note}
 use Rattle.core_state.specs.Turns.{Takes, locked, new_job, with_stage, Begins, begun_row, Creating, ready_row, failed_row, failed_changes, Finishes, unlocked, done_point, completed}
 use Rattle.core_laws.specs.Runs.{HasNoNeeds, IsFree}

@@ -6,15 +6,17 @@ use Rattle.heat_plan.specs.declared.phase.Act.TheVariants.{Init, Create}
 use Rattle.heat_plan.specs.declared.phase.Status.TheVariants.{Complete, InProgress, Failed}
 use Rattle.traversal_graph.specs.declared.shape.Node.TheVariants.{U}
 use Rattle.core_state.specs.declared.stack.Stack.{Stack}
-use Rattle.core_state.specs.declared.row.Row.{Row}
+use Rattle.row_table.specs.declared.row.Row.{Row}
 use Rattle.core_state.specs.declared.graph.Graph.{Graph}
-use Rattle.core_state.specs.declared.graph.Point.{Point}
-use Rattle.core_state.specs.declared.mail.Letter.{Letter}
-use Rattle.core_state.specs.declared.mail.Job.{Job}
-use Rattle.core_state.specs.declared.mail.Stage.{Stage}
-use Rattle.core_state.specs.declared.mail.Stage.TheVariants.{Taken, Asking, Polling, Ending}
+use Rattle.sync_points.specs.declared.point.Point.{Point}
+use Rattle.mail_table.specs.declared.mail.Letter.{Letter}
+use Rattle.mail_table.specs.declared.mail.Job.{Job}
+use Rattle.mail_table.specs.declared.mail.Stage.{Stage}
+use Rattle.mail_table.specs.declared.mail.Stage.TheVariants.{Taken, Asking, Polling, Ending}
 use Rattle.core_state.specs.Reads.{item_at, Names}
-use Rattle.core_state.specs.State.{StateData, stack_at, graph_at, row_at, letter_at, job_at}
+use Rattle.row_table.specs.Rows.{row_at}
+use Rattle.mail_table.specs.Mails.{letter_at, job_at}
+use Rattle.core_state.specs.State.{StateData, stack_at, graph_at}
 use Rattle.core_state.specs.Turns.{AllDone}
 
 -- the letter's node, which isn't done, with its row and its item

@@ -7,18 +7,20 @@ use Rattle.heat_plan.specs.declared.phase.Status.TheVariants.{Complete, InProgre
 use Rattle.heat_plan.specs.declared.calls.Answered.{Answered}
 use Rattle.traversal_graph.specs.declared.shape.Node.TheVariants.{U}
 use Rattle.core_state.specs.declared.stack.Stack.{Stack}
-use Rattle.core_state.specs.declared.row.Row.{Row}
+use Rattle.row_table.specs.declared.row.Row.{Row}
 use Rattle.core_state.specs.declared.graph.Graph.{Graph}
-use Rattle.core_state.specs.declared.graph.Point.{Point}
-use Rattle.core_state.specs.declared.mail.Letter.{Letter}
-use Rattle.core_state.specs.declared.mail.Job.{Job}
-use Rattle.core_state.specs.declared.mail.Stage.{Stage}
-use Rattle.core_state.specs.declared.mail.Stage.TheVariants.{Asking, Polling, Ending}
+use Rattle.sync_points.specs.declared.point.Point.{Point}
+use Rattle.mail_table.specs.declared.mail.Letter.{Letter}
+use Rattle.mail_table.specs.declared.mail.Job.{Job}
+use Rattle.mail_table.specs.declared.mail.Stage.{Stage}
+use Rattle.mail_table.specs.declared.mail.Stage.TheVariants.{Asking, Polling, Ending}
 use Rattle.core_state.specs.declared.change.Change.{Change}
 use Rattle.core_state.specs.declared.entry.Entry.{Entry}
 use Rattle.core_state.specs.Changes.{applied, with_point}
 use Rattle.core_state.specs.Reads.{Names}
-use Rattle.core_state.specs.State.{StateData, row_at, job_at}
+use Rattle.row_table.specs.Rows.{row_at}
+use Rattle.mail_table.specs.Mails.{job_at}
+use Rattle.core_state.specs.State.{StateData}
 use Rattle.core_state.specs.Steps.{create, QuietTurn, take, begin, finish, finish_last, AskingTurn, begun, refused, PollingTurn, waits, ready, broken, UnstoredTurn, unstored as unstored_turn, Step, command, quiet, asking, polling, unstored, note}
 use Rattle.core_state.specs.Turns.{Takes, taken_changes, Begins, begun_row, begun_changes, Creating, asked_changes, ready_row, ready_changes, failed_changes, Finishes, done_point, AllDone, finished_changes, completed}
 use Rattle.core_state.specs.declared.change.Change.TheVariants.{PutStack}
@@ -151,7 +153,7 @@ step_goes s cs es g (note it what is made) free = by_changes s cs _ is g
 
 -- of the first state all holds, for nothing stands in it
 pub opened_goes : Going opened
-unfolding Rattle.core_state.specs.Tables.at
+unfolding Rattle.heat_plan.specs.Tables.at
 opened_goes = record {
   live = refl;
   rows = λ n r at. cc;

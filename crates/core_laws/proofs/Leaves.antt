@@ -11,19 +11,21 @@ use Rattle.heat_plan.specs.declared.calls.Request.{Request}
 use Rattle.heat_plan.specs.declared.calls.Request.TheVariants as request
 use Rattle.heat_plan.specs.declared.calls.Answered.{Answered}
 use Rattle.core_state.specs.declared.stack.Stack.{Stack}
-use Rattle.core_state.specs.declared.row.Row.{Row}
-use Rattle.core_state.specs.declared.mail.Letter.{Letter}
-use Rattle.core_state.specs.declared.mail.Job.{Job}
-use Rattle.core_state.specs.declared.mail.Stage.{Stage}
-use Rattle.core_state.specs.declared.mail.Stage.TheVariants.{Asking, Polling, Ending}
+use Rattle.row_table.specs.declared.row.Row.{Row}
+use Rattle.mail_table.specs.declared.mail.Letter.{Letter}
+use Rattle.mail_table.specs.declared.mail.Job.{Job}
+use Rattle.mail_table.specs.declared.mail.Stage.{Stage}
+use Rattle.mail_table.specs.declared.mail.Stage.TheVariants.{Asking, Polling, Ending}
 use Rattle.core_state.specs.declared.change.Change.{Change}
 use Rattle.core_state.specs.declared.entry.Actor.TheVariants.{Main, Engine}
 use Rattle.core_state.specs.declared.entry.Entry.{Entry}
 use Rattle.core_state.specs.Changes.{applied, put_point}
 use Rattle.core_state.specs.Commands.{Creates, created_changes}
-use Rattle.core_state.specs.State.{StateData, row_key, letter_key, job_key, stack_at, graph_at, row_at, letter_at, job_at, put_stack, put_row, put_job, cut_job}
+use Rattle.row_table.specs.Rows.{row_key, row_at, put_row}
+use Rattle.mail_table.specs.Mails.{letter_key, job_key, letter_at, job_at, put_job, cut_job}
+use Rattle.core_state.specs.State.{StateData, stack_at, graph_at, put_stack}
 use Rattle.core_state.specs.Steps.{create, QuietTurn, take, begin, finish, finish_last, AskingTurn, begun, refused, PollingTurn, waits, ready, broken, UnstoredTurn, unstored as unstored_turn, command, quiet, asking, polling, unstored, note}
-use Rattle.core_state.specs.Tables.{at, put, cut}
+use Rattle.heat_plan.specs.Tables.{at, put, cut}
 use Rattle.core_state.specs.Turns.{Takes, taken_changes, new_job, locked, begun_row, Creating, created_with, token_of, with_stage, ready_row, failed_row, failed_changes, Finishes, unlocked, done_point, completed}
 use Rattle.core_laws.specs.Could.{could}
 use Rattle.core_laws.specs.Asked.{HasNoCall, CallsOnce}

@@ -3,12 +3,14 @@ use Rattle.std.proofs.Common.{◌≡◌, ◌≢◌, inl, inr, ℕ, List, Some, r
 use Rattle.std.specs.Prelude.{slice_get}
 use Rattle.traversal_graph.specs.declared.shape.Node.TheVariants.{U}
 use Rattle.core_state.specs.declared.stack.Stack.{Stack}
-use Rattle.core_state.specs.declared.row.Row.{Row}
+use Rattle.row_table.specs.declared.row.Row.{Row}
 use Rattle.core_state.specs.declared.graph.Graph.{Graph}
-use Rattle.core_state.specs.declared.mail.Letter.{Letter}
-use Rattle.core_state.specs.declared.mail.Job.{Job}
+use Rattle.mail_table.specs.declared.mail.Letter.{Letter}
+use Rattle.mail_table.specs.declared.mail.Job.{Job}
 use Rattle.core_state.specs.Reads.{Names}
-use Rattle.core_state.specs.State.{StateData, stack_at, graph_at, row_at, letter_at, job_at, put_stack}
+use Rattle.row_table.specs.Rows.{row_at}
+use Rattle.mail_table.specs.Mails.{letter_at, job_at}
+use Rattle.core_state.specs.State.{StateData, stack_at, graph_at, put_stack}
 use Rattle.core_laws.proofs.Rows.{same_some, same_or_not, text_or_not, stack_here, stack_else}
 use Rattle.core_laws.proofs.Going.{OnNode, Waits, Holds, Aims, HasFailed, Settled, Going}
 

@@ -3,10 +3,10 @@ use Rattle.std.proofs.Common.{◌≡◌, ◌≢◌, inl, inr, ℕ, cond, List, [
 use Rattle.std.specs.Str.{bytes_eq}
 use Rattle.std.proofs.lemmas.Slice.Eq.{bytes_eq-Decides}
 use Rattle.core_state.specs.declared.graph.Graph.{Graph}
-use Rattle.core_state.specs.declared.graph.Point.{Point}
+use Rattle.sync_points.specs.declared.point.Point.{Point}
 use Rattle.core_state.specs.Changes.{put_point, with_point}
 use Rattle.core_state.specs.State.{graph_at, graph_key}
-use Rattle.core_state.specs.Tables.{at}
+use Rattle.heat_plan.specs.Tables.{at}
 use Rattle.core_laws.proofs.Tables.{cases}
 
 pub point_here : (p : Point) (gs : List Graph) (g : Graph) → graph_at gs p.stack ≡ Some g → graph_at (put_point p gs) p.stack ≡ Some (with_point p g)

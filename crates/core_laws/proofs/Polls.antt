@@ -4,15 +4,17 @@ use Rattle.heat_plan.specs.declared.token.Token.{Token}
 use Rattle.heat_plan.specs.declared.calls.Request.TheVariants as request
 use Rattle.heat_plan.specs.declared.calls.Answered.{Answered}
 use Rattle.heat_plan.specs.declared.calls.Answered.TheVariants as answer
-use Rattle.core_state.specs.declared.row.Row.{Row}
-use Rattle.core_state.specs.declared.mail.Job.{Job}
-use Rattle.core_state.specs.declared.mail.Stage.TheVariants.{Asking, Polling, Ending}
+use Rattle.row_table.specs.declared.row.Row.{Row}
+use Rattle.mail_table.specs.declared.mail.Job.{Job}
+use Rattle.mail_table.specs.declared.mail.Stage.TheVariants.{Asking, Polling, Ending}
 use Rattle.core_state.specs.declared.change.Change.{Change}
 use Rattle.core_state.specs.declared.entry.Actor.TheVariants.{Main, Engine}
 use Rattle.core_state.specs.declared.entry.Entry.{Entry}
 use Rattle.core_state.specs.Changes.{applied}
 use Rattle.core_state.specs.Commands.{Creates, created_changes, created_entries}
-use Rattle.core_state.specs.State.{StateData, row_at, job_at, put_job, cut_job}
+use Rattle.row_table.specs.Rows.{row_at}
+use Rattle.mail_table.specs.Mails.{job_at, put_job, cut_job}
+use Rattle.core_state.specs.State.{StateData}
 use Rattle.core_state.specs.Steps.{CommandStep, create, QuietTurn, take, begin, finish, finish_last, AskingTurn, begun, refused, PollingTurn, waits, ready, broken, UnstoredTurn, unstored as unstored_turn, Step, command, quiet, asking, polling, unstored, note}
 use Rattle.core_state.specs.Turns.{Creating, token_of, created_with, new_job, with_stage, call_entry}
 use Rattle.provider.specs.Table.{TokenState}
@@ -138,7 +140,7 @@ module _ (first : Token → TokenState) (s : StateData) (h : List Entry) (g : Go
   steps cs es (note it noted is made) = to_state first (h ++ es) s cs [] is (with_entries s es _ made (silent _ (notes_silent s [] [] Main it noted)))
 
 opened_polled : (first : Token → TokenState) → IsPolled first [] opened
-unfolding Rattle.core_state.specs.Tables.at
+unfolding Rattle.heat_plan.specs.Tables.at
 opened_polled first = record { alive = λ e j r at is found. cc }
 
 run_polled : (first : Token → TokenState) (s : StateData) (h : List Entry) → Run opened s h → IsPolled first h s

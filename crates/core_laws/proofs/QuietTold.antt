@@ -10,12 +10,12 @@ use Rattle.heat_plan.specs.declared.phase.Status.{Status}
 use Rattle.heat_plan.specs.declared.phase.Status.TheVariants.{Complete, InProgress}
 use Rattle.traversal_graph.specs.declared.shape.Node.TheVariants.{U}
 use Rattle.core_state.specs.declared.stack.Stack.{Stack}
-use Rattle.core_state.specs.declared.row.Row.{Row}
+use Rattle.row_table.specs.declared.row.Row.{Row}
 use Rattle.core_state.specs.declared.graph.Graph.{Graph}
-use Rattle.core_state.specs.declared.graph.Point.{Point}
-use Rattle.core_state.specs.declared.mail.Job.{Job}
-use Rattle.core_state.specs.declared.mail.Stage.{Stage}
-use Rattle.core_state.specs.declared.mail.Stage.TheVariants.{Asking, Ending}
+use Rattle.sync_points.specs.declared.point.Point.{Point}
+use Rattle.mail_table.specs.declared.mail.Job.{Job}
+use Rattle.mail_table.specs.declared.mail.Stage.{Stage}
+use Rattle.mail_table.specs.declared.mail.Stage.TheVariants.{Asking, Ending}
 use Rattle.core_state.specs.declared.entry.Actor.TheVariants.{Engine}
 use Rattle.core_state.specs.declared.entry.Entry.{Entry}
 use Rattle.core_state.specs.declared.entry.MailWrite.{MailWrite}
@@ -24,7 +24,9 @@ use Rattle.core_state.specs.declared.entry.RowWrite.TheVariants.{Set}
 use Rattle.core_state.specs.declared.entry.What.TheVariants as what
 use Rattle.core_state.specs.Changes.{applied, with_point, put_point}
 use Rattle.core_state.specs.Reads.{item_at}
-use Rattle.core_state.specs.State.{StateData, stack_at, graph_at, row_at, job_at, put_row, put_job, put_stack, cut_job, cut_letter}
+use Rattle.row_table.specs.Rows.{row_at, put_row}
+use Rattle.mail_table.specs.Mails.{job_at, put_job, cut_job, cut_letter}
+use Rattle.core_state.specs.State.{StateData, stack_at, graph_at, put_stack}
 use Rattle.core_state.specs.declared.change.Change.TheVariants.{PutStack}
 use Rattle.core_state.specs.Turns.{token_of, by_engine, Takes, locked, new_job, taken_changes, taken_entries, Begins, begun_row, begun_changes, begun_entries, with_stage, Finishes, unlocked, done_point, completed, finished_changes, finished_entries, complete_mark_entry}
 use Rattle.provider.specs.Table.{TokenState}

@@ -2,9 +2,10 @@
 use Rattle.std.proofs.Common.{◌≡◌, inl, List, [], ◌∷◌, Some, None, refl, sym, ap, subst}
 use Rattle.std.specs.Prelude.{Contains}
 use Rattle.heat_plan.specs.declared.token.Token.{Token}
-use Rattle.core_state.specs.declared.row.Row.{Row}
+use Rattle.row_table.specs.declared.row.Row.{Row}
 use Rattle.core_state.specs.declared.entry.Entry.{Entry}
-use Rattle.core_state.specs.State.{StateData, row_at}
+use Rattle.row_table.specs.Rows.{row_at}
+use Rattle.core_state.specs.State.{StateData}
 use Rattle.core_state.specs.Turns.{token_of}
 use Rattle.provider.specs.Cloud.{Cloud, state_of}
 use Rattle.provider.specs.Table.{TokenState}

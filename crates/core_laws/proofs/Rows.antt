@@ -5,11 +5,13 @@ use Rattle.std.specs.Str.{bytes_eq}
 use Rattle.std.proofs.lemmas.Bool.Decides.{Decides-eqb, eqb_tells}
 use Rattle.std.proofs.lemmas.Slice.Eq.{bytes_eq-Decides}
 use Rattle.core_state.specs.declared.stack.Stack.{Stack}
-use Rattle.core_state.specs.declared.row.Row.{Row}
+use Rattle.row_table.specs.declared.row.Row.{Row}
 use Rattle.core_state.specs.declared.graph.Graph.{Graph}
-use Rattle.core_state.specs.declared.mail.Letter.{Letter}
-use Rattle.core_state.specs.declared.mail.Job.{Job}
-use Rattle.core_state.specs.State.{stack_key, graph_key, row_key, letter_key, job_key, row_at, job_at, letter_at, stack_at, graph_at, put_stack, put_graph, put_row, put_job, cut_job, put_letter, cut_letter}
+use Rattle.mail_table.specs.declared.mail.Letter.{Letter}
+use Rattle.mail_table.specs.declared.mail.Job.{Job}
+use Rattle.row_table.specs.Rows.{row_key, row_at, put_row}
+use Rattle.mail_table.specs.Mails.{letter_key, job_key, job_at, letter_at, put_job, cut_job, put_letter, cut_letter}
+use Rattle.core_state.specs.State.{stack_key, graph_key, stack_at, graph_at, put_stack, put_graph}
 use Rattle.core_laws.proofs.Tables.{cases, at-key, at-put_same, at-put_other, at-cut_other, put_found, cut_found}
 
 pub same_some : {A : Type 0} (x y : A) {o : Option A} → o ≡ Some x → o ≡ Some y → x ≡ y

@@ -5,7 +5,7 @@ use Rattle.heat_plan.specs.declared.token.Token.{Token}
 use Rattle.heat_plan.specs.declared.calls.Request.TheVariants as request
 use Rattle.heat_plan.specs.declared.calls.Answered.{Answered}
 use Rattle.heat_plan.specs.declared.calls.Answered.TheVariants as answer
-use Rattle.core_state.specs.declared.mail.Stage.TheVariants.{Asking, Polling}
+use Rattle.mail_table.specs.declared.mail.Stage.TheVariants.{Asking, Polling}
 use Rattle.core_state.specs.declared.change.Change.{Change}
 use Rattle.core_state.specs.declared.change.Change.TheVariants.{PutStack}
 use Rattle.core_state.specs.declared.entry.Actor.TheVariants.{Main}
@@ -118,7 +118,7 @@ module _ (o : Opening) (h : List Entry) (s : StateData) (g : Going s) (a : Agree
 
 -- nothing was said, and nothing stands
 pub opened_agreed : (leaving : Token → Bool) → Agreed (empty_opening leaving) [] opened
-unfolding Rattle.core_state.specs.Tables.at
+unfolding Rattle.heat_plan.specs.Tables.at
 opened_agreed leaving = record {
   stored_is = refl;
   newest_is = λ name. refl;

@@ -12,13 +12,14 @@ use Rattle.heat_plan.specs.declared.phase.Act.{Act}
 use Rattle.heat_plan.specs.declared.phase.Act.TheVariants.{Init}
 use Rattle.heat_plan.specs.declared.phase.Status.TheVariants.{Complete}
 use Rattle.core_state.specs.declared.stack.Stack.{Stack}
-use Rattle.core_state.specs.declared.row.Row.{Row}
+use Rattle.row_table.specs.declared.row.Row.{Row}
 use Rattle.core_state.specs.declared.entry.Actor.{Actor}
 use Rattle.core_state.specs.declared.entry.Cause.{Cause}
 use Rattle.core_state.specs.declared.entry.Entry.{Entry}
 use Rattle.core_state.specs.declared.entry.What.{What}
 use Rattle.core_state.specs.declared.entry.What.TheVariants as what
-use Rattle.core_state.specs.State.{stack_at, put_stack, row_at}
+use Rattle.row_table.specs.Rows.{row_at}
+use Rattle.core_state.specs.State.{stack_at, put_stack}
 use Rattle.core_state.specs.Turns.{token_of}
 use Rattle.provider.specs.Table.{TokenState}
 use Rattle.core_laws.specs.Opening.{Opening, first_of}
@@ -42,7 +43,8 @@ abbrev pub Says : Opening → List Entry → Actor → What → Type 0
 Says o before by (what.Call token request given) = mark_of o before token.stack ≢ Some Complete
 Says o before by (what.Mark stack trav act None) = IsOfNewest o before stack trav
 Says o before by (what.Mark stack trav act (Some cause)) = IsOfNewest o before stack trav × IsCaused o before by stack cause
-Says o before by (what.Command stack trav act plan) = Unit {0}
+Says o before by (what.Command stack trav act plan rollback) = Unit {0}
+Says o before by (what.Release token) = Unit {0}
 Says o before by (what.Rows writes) = Unit {0}
 Says o before by (what.Mail writes) = Unit {0}
 Says o before by (what.Engine change) = Unit {0}

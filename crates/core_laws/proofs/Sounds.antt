@@ -15,18 +15,21 @@ use Rattle.traversal_graph.specs.Builds.{Joins}
 use Rattle.traversal_graph.specs.declared.shape.Node.{Node}
 use Rattle.traversal_graph.specs.declared.shape.Node.TheVariants.{U, C}
 use Rattle.core_state.specs.declared.stack.Stack.{Stack}
-use Rattle.core_state.specs.declared.row.Row.{Row}
+use Rattle.row_table.specs.declared.row.Row.{Row}
 use Rattle.core_state.specs.declared.graph.Graph.{Graph}
-use Rattle.core_state.specs.declared.graph.Input.{Input}
-use Rattle.core_state.specs.declared.graph.Point.{Point}
-use Rattle.core_state.specs.declared.mail.Letter.{Letter}
-use Rattle.core_state.specs.declared.mail.Job.{Job}
-use Rattle.core_state.specs.declared.mail.Stage.{Stage}
-use Rattle.core_state.specs.declared.mail.Stage.TheVariants.{Taken, Asking, Polling, Ending}
+use Rattle.sync_points.specs.declared.point.Input.{Input}
+use Rattle.sync_points.specs.declared.point.Point.{Point}
+use Rattle.mail_table.specs.declared.mail.Letter.{Letter}
+use Rattle.mail_table.specs.declared.mail.Job.{Job}
+use Rattle.mail_table.specs.declared.mail.Stage.{Stage}
+use Rattle.mail_table.specs.declared.mail.Stage.TheVariants.{Taken, Asking, Polling, Ending}
 use Rattle.core_state.specs.declared.entry.Entry.{Entry}
-use Rattle.core_state.specs.Reads.{item_at, Leads, ends, goes, IsTarget, of_u, renewed, IsReady, IsDone, Names}
+use Rattle.row_table.specs.Chains.{Leads, ends, goes}
+use Rattle.core_state.specs.Reads.{item_at, IsTarget, of_u, renewed, IsReady, IsDone, Names}
 use Rattle.core_state.specs.Resolve.{Props}
-use Rattle.core_state.specs.State.{StateData, stack_at, graph_at, row_at, job_at}
+use Rattle.row_table.specs.Rows.{row_at}
+use Rattle.mail_table.specs.Mails.{job_at}
+use Rattle.core_state.specs.State.{StateData, stack_at, graph_at}
 use Rattle.core_state.specs.Turns.{token_of, AllDone}
 use Rattle.provider.specs.Table.{Living, TokenState}
 use Rattle.core_laws.specs.Opening.{Opening, first_of, opened}
@@ -550,7 +553,7 @@ module _ (o : Opening) (h : List Entry) (s : StateData) (g : Going s) (a : Agree
   }
 
 pub opened_further : Further opened
-unfolding Rattle.core_state.specs.Tables.at
+unfolding Rattle.heat_plan.specs.Tables.at
 opened_further = record {
   engine = omega arith;
   stacks = λ name st at. cc;

@@ -6,11 +6,11 @@ use Rattle.heat_plan.specs.declared.calls.Request.{Request}
 use Rattle.heat_plan.specs.declared.calls.Request.TheVariants as request
 use Rattle.heat_plan.specs.declared.calls.Answered.{Answered}
 use Rattle.heat_plan.specs.declared.calls.Answered.TheVariants as answer
-use Rattle.core_state.specs.declared.row.Row.{Row}
+use Rattle.row_table.specs.declared.row.Row.{Row}
 use Rattle.core_state.specs.declared.change.Change.{Change}
 use Rattle.core_state.specs.declared.entry.Actor.TheVariants.{Main, Engine}
 use Rattle.core_state.specs.declared.entry.Entry.{Entry}
-use Rattle.core_state.specs.declared.mail.Stage.TheVariants.{Asking, Polling}
+use Rattle.mail_table.specs.declared.mail.Stage.TheVariants.{Asking, Polling}
 use Rattle.core_state.specs.State.{StateData}
 use Rattle.core_state.specs.Steps.{AskingTurn, begun, refused, PollingTurn, waits, ready, broken, unstored as unstored_turn, Step, command, quiet, asking, polling, unstored, note}
 use Rattle.core_state.specs.Turns.{Creating, token_of, created_with, call_entry}

@@ -12,17 +12,19 @@ use Rattle.traversal_graph.specs.declared.shape.Node.{Node}
 use Rattle.traversal_graph.specs.declared.shape.Node.TheVariants.{U}
 use Rattle.core_state.specs.declared.stack.Stack.{Stack}
 use Rattle.core_state.specs.declared.graph.Graph.{Graph}
-use Rattle.core_state.specs.declared.graph.Point.{Point}
-use Rattle.core_state.specs.declared.mail.Letter.{Letter}
-use Rattle.core_state.specs.declared.mail.Job.{Job}
-use Rattle.core_state.specs.declared.mail.Stage.{Stage}
-use Rattle.core_state.specs.declared.mail.Stage.TheVariants.{Asking, Polling, Ending}
+use Rattle.sync_points.specs.declared.point.Point.{Point}
+use Rattle.mail_table.specs.declared.mail.Letter.{Letter}
+use Rattle.mail_table.specs.declared.mail.Job.{Job}
+use Rattle.mail_table.specs.declared.mail.Stage.{Stage}
+use Rattle.mail_table.specs.declared.mail.Stage.TheVariants.{Asking, Polling, Ending}
 use Rattle.core_state.specs.declared.change.Change.{Change}
 use Rattle.core_state.specs.declared.entry.Entry.{Entry}
 use Rattle.core_state.specs.Changes.{applied, with_point, put_point}
 use Rattle.core_state.specs.Commands.{Creates, created_changes, first_status, row_numbers}
 use Rattle.core_state.specs.Graphs.{fresh_points}
-use Rattle.core_state.specs.State.{StateData, stack_at, graph_at, letter_at, job_at, put_job, put_stack, put_row, cut_job, cut_letter}
+use Rattle.row_table.specs.Rows.{put_row}
+use Rattle.mail_table.specs.Mails.{letter_at, job_at, put_job, cut_job, cut_letter}
+use Rattle.core_state.specs.State.{StateData, stack_at, graph_at, put_stack}
 use Rattle.core_state.specs.Steps.{create, QuietTurn, take, begin, finish, finish_last, AskingTurn, begun, refused, PollingTurn, waits, ready, broken, unstored as unstored_turn, Step, command, quiet, asking, polling, unstored, note}
 use Rattle.core_state.specs.Turns.{Takes, new_job, with_stage, Creating, failed_row, failed_changes, Finishes, unlocked, done_point, AllDone, completed}
 use Rattle.core_laws.specs.Opening.{opened}
@@ -288,7 +290,7 @@ module _ (s : StateData) (g : Going s) (c : Covers s) where
   step_covers cs es (note it noted is made) free = by_changes cs _ is c
 
 pub opened_covers : Covers opened
-unfolding Rattle.core_state.specs.Tables.at
+unfolding Rattle.heat_plan.specs.Tables.at
 opened_covers = record { held = λ name st g i p at on at_g there open_. cc; some = λ name st g at on at_g. cc }
 
 -- ---- a held node stirs

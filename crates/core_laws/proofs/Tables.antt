@@ -1,7 +1,7 @@
 -- What a table has at a key, after a put and a cut.
 use Rattle.std.proofs.Common.{◌≡◌, ◌≢◌, ◌⊎◌, inl, inr, ℕ, zero, suc, Bool, true, false, cond, List, [], ◌∷◌, Some, None, refl, sym, ap, ◌∙◌}
 use Rattle.std.specs.Prelude.{Decides, IsSome, map, slice_get, slice_set}
-use Rattle.core_state.specs.Tables.{at, put, cut}
+use Rattle.heat_plan.specs.Tables.{at, put, cut}
 
 module _ {K A : Type 0} (same : K → K → Bool) (decides : (x y : K) → Decides (same x y) (x ≡ y)) (key : A → K) where
   pub cases : (x y : K) → ((same x y ≡ true) × (x ≡ y)) ⊎ ((same x y ≡ false) × (x ≢ y))

@@ -1,5 +1,5 @@
 -- Which steps tell of a call.
-use Rattle.std.proofs.Common.{◌≡◌, ℕ, List, [], ◌∷◌, map, Option, Some, None, refl, sym, ap, ◌∙◌, subst}
+use Rattle.std.proofs.Common.{◌≡◌, ℕ, false, List, [], ◌∷◌, map, Option, Some, None, refl, sym, ap, ◌∙◌, subst}
 use Rattle.heat_plan.specs.Plans.{PlanData}
 use Rattle.heat_plan.specs.declared.item.Item.{Item}
 use Rattle.heat_plan.specs.declared.calls.Request.{Request}
@@ -10,11 +10,11 @@ use Rattle.heat_plan.specs.declared.phase.Act.TheVariants.{Create}
 use Rattle.heat_plan.specs.declared.phase.Status.{Status}
 use Rattle.heat_plan.specs.declared.phase.Status.TheVariants.{Complete, InProgress, Failed}
 use Rattle.core_state.specs.declared.stack.Stack.{Stack}
-use Rattle.core_state.specs.declared.row.Row.{Row}
-use Rattle.core_state.specs.declared.mail.Letter.{Letter}
-use Rattle.core_state.specs.declared.mail.Job.{Job}
-use Rattle.core_state.specs.declared.mail.Stage.{Stage}
-use Rattle.core_state.specs.declared.mail.Stage.TheVariants.{Asking, Polling}
+use Rattle.row_table.specs.declared.row.Row.{Row}
+use Rattle.mail_table.specs.declared.mail.Letter.{Letter}
+use Rattle.mail_table.specs.declared.mail.Job.{Job}
+use Rattle.mail_table.specs.declared.mail.Stage.{Stage}
+use Rattle.mail_table.specs.declared.mail.Stage.TheVariants.{Asking, Polling}
 use Rattle.core_state.specs.declared.change.Change.{Change}
 use Rattle.core_state.specs.declared.entry.Actor.{Actor}
 use Rattle.core_state.specs.declared.entry.Actor.TheVariants.{Main, Engine}
@@ -27,7 +27,8 @@ use Rattle.core_state.specs.declared.entry.RowWrite.TheVariants.{Set}
 use Rattle.core_state.specs.declared.entry.MailWrite.{MailWrite}
 use Rattle.core_state.specs.declared.entry.MailWrite.TheVariants.{Sent}
 use Rattle.core_state.specs.Commands.{Creates, created_entries, set_entry, sent_entry, complete_entry, new_rows, letters_to}
-use Rattle.core_state.specs.State.{StateData, row_at}
+use Rattle.row_table.specs.Rows.{row_at}
+use Rattle.core_state.specs.State.{StateData}
 use Rattle.core_state.specs.Steps.{CommandStep, create, QuietTurn, take, begin, finish, finish_last, AskingTurn, begun, refused, PollingTurn, waits, ready, broken, UnstoredTurn, unstored as unstored_turn, IsNote, shows, notes, ran, turned}
 use Rattle.core_state.specs.Turns.{Creating, token_of, created_with, by_engine, failed_mark_entry, complete_mark_entry}
 use Rattle.core_laws.specs.Asked.{IsNoCall, HasNoCall, CallsOnce}
@@ -38,7 +39,8 @@ use Rattle.core_laws.proofs.Lists.{All-none, All-more, All-both}
 -- an entry of another sort
 abbrev Other : What → Type 0
 Other (what.Call token request given) = ⊥
-Other (what.Command stack trav act plan) = Unit {0}
+Other (what.Command stack trav act plan rollback) = Unit {0}
+Other (what.Release token) = Unit {0}
 Other (what.Mark stack trav act cause) = Unit {0}
 Other (what.Rows writes) = Unit {0}
 Other (what.Mail writes) = Unit {0}
@@ -84,7 +86,7 @@ complete-silent by stack trav [] = alone by (what.Mark stack trav Create None) t
 complete-silent by stack trav (x ∷ xs) = none
 
 pub created-silent : (s : StateData) (name : List ℕ) (plan : PlanData) (k : Creates s name plan) → HasNoCall (created_entries s name plan k)
-created-silent s name plan k = more Main (what.Command name s.next.trav Create (Some plan)) _ tt
+created-silent s name plan k = more Main (what.Command name s.next.trav Create (Some plan) false) _ tt
     (All-both IsNoCall (set_entry Main (new_rows name s.next.trav s.next.row plan.items)) _ (set-silent Main _)
     (All-both IsNoCall (sent_entry Main (letters_to name s.next.trav s.next.letter k.leaves)) _ (sent-silent Main _) (complete-silent Main name s.next.trav plan.items)))
 

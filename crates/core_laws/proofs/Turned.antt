@@ -3,13 +3,15 @@ use Rattle.std.proofs.Common.{◌≡◌, ◌≢◌, inl, inr, ℕ, List, Some, N
 use Rattle.heat_plan.specs.declared.phase.Act.TheVariants.{Create}
 use Rattle.heat_plan.specs.declared.phase.Status.TheVariants.{InProgress, Failed}
 use Rattle.core_state.specs.declared.stack.Stack.{Stack}
-use Rattle.core_state.specs.declared.row.Row.{Row}
-use Rattle.core_state.specs.declared.mail.Letter.{Letter}
-use Rattle.core_state.specs.declared.mail.Job.{Job}
-use Rattle.core_state.specs.declared.mail.Stage.{Stage}
-use Rattle.core_state.specs.declared.mail.Stage.TheVariants.{Polling}
+use Rattle.row_table.specs.declared.row.Row.{Row}
+use Rattle.mail_table.specs.declared.mail.Letter.{Letter}
+use Rattle.mail_table.specs.declared.mail.Job.{Job}
+use Rattle.mail_table.specs.declared.mail.Stage.{Stage}
+use Rattle.mail_table.specs.declared.mail.Stage.TheVariants.{Polling}
 use Rattle.core_state.specs.Changes.{applied}
-use Rattle.core_state.specs.State.{StateData, stack_at, row_at, letter_at, job_at, put_row, put_job, cut_letter}
+use Rattle.row_table.specs.Rows.{row_at, put_row}
+use Rattle.mail_table.specs.Mails.{letter_at, job_at, put_job, cut_letter}
+use Rattle.core_state.specs.State.{StateData, stack_at}
 use Rattle.core_state.specs.Turns.{locked, new_job, taken_changes, with_stage, asked_changes}
 use Rattle.core_laws.proofs.Rows.{same_some, row_here, row_else, job_put, letter_cut}
 use Rattle.core_laws.proofs.Going.{OnNode, Waits, StageFits, Holds, Aims, HasFailed, Settled, Going}

@@ -10,7 +10,7 @@ use Rattle.heat_plan.specs.declared.facts.KnownFacts.{KnownFacts}
 use Rattle.heat_plan.specs.declared.item.Item.{Item}
 use Rattle.heat_plan.specs.declared.phase.Act.{Act}
 use Rattle.heat_plan.specs.declared.token.Token.{Token}
-use Rattle.core_state.specs.declared.row.Row.{Row}
+use Rattle.row_table.specs.declared.row.Row.{Row}
 use Rattle.core_state.specs.declared.entry.Actor.{Actor}
 use Rattle.core_state.specs.declared.entry.Cause.{Cause}
 use Rattle.core_state.specs.declared.entry.Entry.{Entry}
@@ -21,7 +21,7 @@ use Rattle.core_state.specs.declared.entry.Why.{Why}
 use Rattle.core_state.specs.declared.entry.Why.TheVariants as why
 use Rattle.core_state.specs.Reads.{item_at}
 use Rattle.core_state.specs.Resolve.{Fault, resolve}
-use Rattle.core_state.specs.State.{row_at}
+use Rattle.row_table.specs.Rows.{row_at}
 use Rattle.provider.specs.Table.{Living}
 use Rattle.core_laws.specs.Opening.{Opening, first_of}
 use Rattle.core_laws.specs.Could.{could}

@@ -10,7 +10,8 @@ use Rattle.provider.specs.Table.{TokenState, after_each}
 -- a call to the token turns each state into those of its row
 abbrev pub could_by : Token → List TokenState → What → List TokenState
 could_by t states (what.Call token request given) = if same_token token t then after_each request given states else states
-could_by t states (what.Command stack trav act plan) = states
+could_by t states (what.Command stack trav act plan rollback) = states
+could_by t states (what.Release token) = states
 could_by t states (what.Mark stack trav act cause) = states
 could_by t states (what.Rows writes) = states
 could_by t states (what.Mail writes) = states

@@ -17,8 +17,8 @@ use Rattle.core_state.specs.declared.entry.Entry.{Entry}
 use Rattle.core_state.specs.declared.entry.RowWrite.TheVariants.{Set}
 use Rattle.core_state.specs.declared.entry.What.{What}
 use Rattle.core_state.specs.declared.entry.What.TheVariants as what
-use Rattle.core_state.specs.declared.row.Row.{Row}
-use Rattle.core_state.specs.State.{row_at}
+use Rattle.row_table.specs.declared.row.Row.{Row}
+use Rattle.row_table.specs.Rows.{row_at}
 use Rattle.core_laws.specs.Opening.{Opening, first_of}
 use Rattle.core_laws.specs.Could.{could}
 use Rattle.core_laws.specs.Newest.{newest}
@@ -77,7 +77,7 @@ abbrev pub written : Row → List Entry
 written row = by_one (what.Rows (Set row ∷ [])) ∷ []
 
 abbrev pub commanded : List Entry
-commanded = by_main (what.Command web 1 Create (Some plan)) ∷ by_main (what.Rows (Set (row_with Init Complete None None 0) ∷ [])) ∷ []
+commanded = by_main (what.Command web 1 Create (Some plan) false) ∷ by_main (what.Rows (Set (row_with Init Complete None None 0) ∷ [])) ∷ []
 
 abbrev pub begun : List Entry
 begun = written (row_with Init Complete None (Some 1) 1) ++ written (row_with Create InProgress None (Some 1) 1)
@@ -103,7 +103,7 @@ abbrev pub doubled : List Entry
 doubled = commanded ++ (begun ++ asked 1 ∷ asked 2 ∷ polled ∷ ended)
 
 abbrev pub unwritten : List Entry
-unwritten = by_main (what.Command web 1 Create (Some plan)) ∷ asked 1 ∷ polled ∷ by_one (what.Mark web 1 Create None) ∷ []
+unwritten = by_main (what.Command web 1 Create (Some plan) false) ∷ asked 1 ∷ polled ∷ by_one (what.Mark web 1 Create None) ∷ []
 
 -- what a reader expects of it
 pub record ReadsAsExpected (o : Opening) : Type 0 where

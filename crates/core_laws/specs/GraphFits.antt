@@ -8,12 +8,14 @@ use Rattle.traversal_graph.specs.Builds.{Joins}
 use Rattle.traversal_graph.specs.declared.shape.Node.{Node}
 use Rattle.traversal_graph.specs.declared.shape.Node.TheVariants.{U, C}
 use Rattle.core_state.specs.declared.stack.Stack.{Stack}
-use Rattle.core_state.specs.declared.row.Row.{Row}
+use Rattle.row_table.specs.declared.row.Row.{Row}
 use Rattle.core_state.specs.declared.graph.Graph.{Graph}
-use Rattle.core_state.specs.declared.graph.Input.{Input}
-use Rattle.core_state.specs.declared.graph.Point.{Point}
-use Rattle.core_state.specs.Reads.{item_at, IsCurrent, IsTarget, IsReady, IsDone, HasInput}
-use Rattle.core_state.specs.State.{StateData, row_at}
+use Rattle.sync_points.specs.declared.point.Input.{Input}
+use Rattle.sync_points.specs.declared.point.Point.{Point}
+use Rattle.row_table.specs.Chains.{IsCurrent}
+use Rattle.core_state.specs.Reads.{item_at, IsTarget, IsReady, IsDone, HasInput}
+use Rattle.row_table.specs.Rows.{row_at}
+use Rattle.core_state.specs.State.{StateData}
 use Rattle.core_laws.specs.Fits.{plan_of}
 
 -- the graph of a stack; the empty one where none was put

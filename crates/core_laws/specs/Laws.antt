@@ -9,7 +9,7 @@ use Rattle.core_state.specs.declared.entry.Actor.{Actor}
 use Rattle.core_state.specs.declared.entry.Entry.{Entry}
 use Rattle.core_state.specs.declared.entry.What.{What}
 use Rattle.core_state.specs.declared.entry.What.TheVariants as what
-use Rattle.core_state.specs.declared.mail.Stage.TheVariants.{Asking, Polling}
+use Rattle.mail_table.specs.declared.mail.Stage.TheVariants.{Asking, Polling}
 use Rattle.core_state.specs.Changes.{applied}
 use Rattle.core_state.specs.State.{StateData}
 use Rattle.core_state.specs.Steps.{Step, CommandStep, QuietTurn, AskingTurn, PollingTurn, UnstoredTurn, IsNote}

@@ -2,13 +2,15 @@
 use Rattle.std.specs.Prelude.{◌≡◌, ◌≢◌, ◌↔◌, ◌++◌, ℕ, List, Option, Some, None}
 use Rattle.heat_plan.specs.declared.token.Token.{Token}
 use Rattle.heat_plan.specs.declared.calls.Answered.{Answered}
-use Rattle.core_state.specs.declared.row.Row.{Row}
-use Rattle.core_state.specs.declared.mail.Letter.{Letter}
-use Rattle.core_state.specs.declared.mail.Job.{Job}
+use Rattle.row_table.specs.declared.row.Row.{Row}
+use Rattle.mail_table.specs.declared.mail.Letter.{Letter}
+use Rattle.mail_table.specs.declared.mail.Job.{Job}
 use Rattle.core_state.specs.declared.change.Change.{Change}
 use Rattle.core_state.specs.declared.entry.Entry.{Entry}
 use Rattle.core_state.specs.Changes.{applied}
-use Rattle.core_state.specs.State.{StateData, stack_at, graph_at, row_at, letter_at, job_at}
+use Rattle.row_table.specs.Rows.{row_at}
+use Rattle.mail_table.specs.Mails.{letter_at, job_at}
+use Rattle.core_state.specs.State.{StateData, stack_at, graph_at}
 use Rattle.core_state.specs.Steps.{CommandStep, create, QuietTurn, take, begin, finish, finish_last, AskingTurn, begun, refused, PollingTurn, waits, ready, broken, UnstoredTurn, unstored as unstored_turn, Step, command, quiet, asking, polling, unstored, note}
 use Rattle.provider.specs.Table.{TokenState}
 use Rattle.core_laws.specs.Opening.{opened}

@@ -1,11 +1,13 @@
 -- Rows, the rows that replaced them, and the engines that have them.
 use Rattle.std.specs.Prelude.{◌≡◌, ◌<◌, ◌≤◌, ℕ, List, Some, slice_get}
 use Rattle.traversal_graph.specs.declared.shape.Node.{Node}
-use Rattle.core_state.specs.declared.row.Row.{Row}
+use Rattle.row_table.specs.declared.row.Row.{Row}
 use Rattle.core_state.specs.declared.graph.Graph.{Graph}
-use Rattle.core_state.specs.declared.mail.Job.{Job}
-use Rattle.core_state.specs.Reads.{IsCurrent}
-use Rattle.core_state.specs.State.{StateData, graph_at, row_at, job_at}
+use Rattle.mail_table.specs.declared.mail.Job.{Job}
+use Rattle.row_table.specs.Chains.{IsCurrent}
+use Rattle.row_table.specs.Rows.{row_at}
+use Rattle.mail_table.specs.Mails.{job_at}
+use Rattle.core_state.specs.State.{StateData, graph_at}
 use Rattle.core_laws.specs.Numbered.{row_of}
 
 -- no row of a stack and name has a greater number than the current one, so that at most one is current

@@ -6,11 +6,12 @@ use Rattle.heat_plan.specs.declared.phase.Status.TheVariants.{Complete, Failed}
 use Rattle.traversal_graph.specs.declared.shape.Node.{Node}
 use Rattle.traversal_graph.specs.declared.shape.Node.TheVariants.{U, C}
 use Rattle.core_state.specs.declared.stack.Stack.{Stack}
-use Rattle.core_state.specs.declared.row.Row.{Row}
+use Rattle.row_table.specs.declared.row.Row.{Row}
 use Rattle.core_state.specs.declared.graph.Graph.{Graph}
 use Rattle.core_state.specs.Reads.{IsReady, IsDone}
 use Rattle.core_state.specs.Resolve.{Fault}
-use Rattle.core_state.specs.State.{StateData, row_at}
+use Rattle.row_table.specs.Rows.{row_at}
+use Rattle.core_state.specs.State.{StateData}
 use Rattle.core_laws.specs.GraphFits.{IsNode, HasTarget}
 use Rattle.core_laws.specs.RowsFit.{Resolves}
 

@@ -18,7 +18,8 @@ status_by (Some cause) = Failed
 
 -- a command takes the stack's mark away, and a mark sets it
 abbrev pub mark_by : List ℕ → Option Status → What → Option Status
-mark_by s before (what.Command stack trav act plan) = if bytes_eq stack s then Some InProgress else before
+mark_by s before (what.Command stack trav act plan rollback) = if bytes_eq stack s then Some InProgress else before
+mark_by s before (what.Release token) = before
 mark_by s before (what.Mark stack trav act cause) = if bytes_eq stack s then Some (status_by cause) else before
 mark_by s before (what.Call token request given) = before
 mark_by s before (what.Rows writes) = before

@@ -21,8 +21,9 @@ latest_of st = record { trav = st.trav; act = st.act; plan = st.plan }
 
 -- a command of the stack is the newest from then on
 abbrev pub newest_by : List ℕ → Option Latest → What → Option Latest
-newest_by s before (what.Command stack trav act plan) = if bytes_eq stack s then Some (record { trav = trav; act = act; plan = plan }) else before
+newest_by s before (what.Command stack trav act plan rollback) = if bytes_eq stack s then Some (record { trav = trav; act = act; plan = plan }) else before
 newest_by s before (what.Call token request given) = before
+newest_by s before (what.Release token) = before
 newest_by s before (what.Mark stack trav act cause) = before
 newest_by s before (what.Rows writes) = before
 newest_by s before (what.Mail writes) = before

@@ -1,10 +1,11 @@
 -- What an engine's next turn finds.
 use Rattle.std.specs.Prelude.{◌≡◌, ℕ, Some, None}
-use Rattle.core_state.specs.declared.mail.Letter.{Letter}
-use Rattle.core_state.specs.declared.mail.Job.{Job}
-use Rattle.core_state.specs.declared.mail.Stage.TheVariants.{Taken, Asking, Polling, Ending}
+use Rattle.mail_table.specs.declared.mail.Letter.{Letter}
+use Rattle.mail_table.specs.declared.mail.Job.{Job}
+use Rattle.mail_table.specs.declared.mail.Stage.TheVariants.{Taken, Asking, Polling, Ending}
 use Rattle.core_state.specs.Reads.{IsLowest}
-use Rattle.core_state.specs.State.{StateData, job_at}
+use Rattle.mail_table.specs.Mails.{job_at}
+use Rattle.core_state.specs.State.{StateData}
 use Rattle.core_state.specs.Turns.{Takes, Begins, Creating, Finishes}
 
 -- all that the engine's next step asks of the state is there: for the lowest letter, or for its job by its stage

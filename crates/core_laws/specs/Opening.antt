@@ -22,10 +22,12 @@ abbrev pub opened : StateData
 opened = record {
   stacks = [];
   graphs = [];
+  pasts = [];
   rows = [];
   letters = [];
   jobs = [];
   live = 1 ∷ [];
+  released = [];
   next = record { stack = 1; trav = 1; row = 1; engine = 2; letter = 1 };
 }
 

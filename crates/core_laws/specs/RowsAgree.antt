@@ -4,11 +4,13 @@ use Rattle.heat_value.specs.Data.{Members}
 use Rattle.heat_plan.specs.declared.phase.Act.TheVariants.{Init, Create, Update, Delete}
 use Rattle.heat_plan.specs.declared.phase.Status.TheVariants.{Complete, InProgress}
 use Rattle.heat_plan.specs.declared.token.Token.{Token}
-use Rattle.core_state.specs.declared.row.Row.{Row}
+use Rattle.row_table.specs.declared.row.Row.{Row}
 use Rattle.core_state.specs.declared.entry.Entry.{Entry}
-use Rattle.core_state.specs.declared.mail.Job.{Job}
-use Rattle.core_state.specs.declared.mail.Stage.TheVariants.{Polling}
-use Rattle.core_state.specs.State.{StateData, row_at, job_at}
+use Rattle.mail_table.specs.declared.mail.Job.{Job}
+use Rattle.mail_table.specs.declared.mail.Stage.TheVariants.{Polling}
+use Rattle.row_table.specs.Rows.{row_at}
+use Rattle.mail_table.specs.Mails.{job_at}
+use Rattle.core_state.specs.State.{StateData}
 use Rattle.core_state.specs.Turns.{token_of}
 use Rattle.provider.specs.Table.{Living, TokenState}
 use Rattle.core_laws.specs.Opening.{Opening, first_of}

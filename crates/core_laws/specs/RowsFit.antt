@@ -8,13 +8,15 @@ use Rattle.heat_plan.specs.declared.phase.Act.TheVariants.{Init, Create, Update,
 use Rattle.heat_plan.specs.declared.phase.Status.TheVariants.{Complete, InProgress}
 use Rattle.traversal_graph.specs.declared.shape.Node.TheVariants.{U, C}
 use Rattle.core_state.specs.declared.stack.Stack.{Stack}
-use Rattle.core_state.specs.declared.row.Row.{Row}
+use Rattle.row_table.specs.declared.row.Row.{Row}
 use Rattle.core_state.specs.declared.graph.Graph.{Graph}
-use Rattle.core_state.specs.declared.graph.Input.{Input}
-use Rattle.core_state.specs.declared.graph.Point.{Point}
-use Rattle.core_state.specs.Reads.{item_at, IsCurrent, IsReady, IsDone}
+use Rattle.sync_points.specs.declared.point.Input.{Input}
+use Rattle.sync_points.specs.declared.point.Point.{Point}
+use Rattle.row_table.specs.Chains.{IsCurrent}
+use Rattle.core_state.specs.Reads.{item_at, IsReady, IsDone}
 use Rattle.core_state.specs.Resolve.{Resolved, Props, resolve}
-use Rattle.core_state.specs.State.{StateData, row_at}
+use Rattle.row_table.specs.Rows.{row_at}
+use Rattle.core_state.specs.State.{StateData}
 use Rattle.core_laws.specs.Fits.{plan_of}
 use Rattle.core_laws.specs.GraphFits.{IsNode, HasTarget}
 

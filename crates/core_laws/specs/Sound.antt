@@ -1,10 +1,11 @@
 -- What holds of a state and its history after every step.
 use Rattle.std.specs.Prelude.{◌≡◌, ℕ, List, Some}
 use Rattle.core_state.specs.declared.stack.Stack.{Stack}
-use Rattle.core_state.specs.declared.row.Row.{Row}
+use Rattle.row_table.specs.declared.row.Row.{Row}
 use Rattle.core_state.specs.declared.graph.Graph.{Graph}
 use Rattle.core_state.specs.declared.entry.Entry.{Entry}
-use Rattle.core_state.specs.State.{StateData, stack_at, graph_at, row_at}
+use Rattle.row_table.specs.Rows.{row_at}
+use Rattle.core_state.specs.State.{StateData, stack_at, graph_at}
 use Rattle.core_laws.specs.Opening.{Opening}
 use Rattle.core_laws.specs.Numbered.{Numbered}
 use Rattle.core_laws.specs.Linked.{OneCurrent, Chained, Locked}

@@ -3,10 +3,11 @@ use Rattle.std.specs.Prelude.{◌≡◌, ℕ, Some, slice_get}
 use Rattle.traversal_graph.specs.declared.shape.Node.{Node}
 use Rattle.core_state.specs.declared.stack.Stack.{Stack}
 use Rattle.core_state.specs.declared.graph.Graph.{Graph}
-use Rattle.core_state.specs.declared.mail.Letter.{Letter}
-use Rattle.core_state.specs.declared.mail.Job.{Job}
+use Rattle.mail_table.specs.declared.mail.Letter.{Letter}
+use Rattle.mail_table.specs.declared.mail.Job.{Job}
 use Rattle.core_state.specs.Reads.{IsReady, IsDone, IsStale, IsTarget}
-use Rattle.core_state.specs.State.{StateData, graph_at, letter_at, job_at}
+use Rattle.mail_table.specs.Mails.{letter_at, job_at}
+use Rattle.core_state.specs.State.{StateData, graph_at}
 
 -- the letter is one of the traversal, to that node
 pub record IsTo (st : Stack) (node : ℕ) (l : Letter) : Type 0 where

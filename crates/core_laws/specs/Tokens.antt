@@ -2,9 +2,9 @@
 use Rattle.std.specs.Prelude.{◌≡◌, ◌≢◌, ℕ, List, [], ◌∷◌, Some, Contains}
 use Rattle.heat_plan.specs.declared.phase.Act.TheVariants.{Init}
 use Rattle.heat_plan.specs.declared.token.Token.{Token}
-use Rattle.core_state.specs.declared.row.Row.{Row}
+use Rattle.row_table.specs.declared.row.Row.{Row}
 use Rattle.core_state.specs.declared.entry.Entry.{Entry}
-use Rattle.core_state.specs.State.{row_at}
+use Rattle.row_table.specs.Rows.{row_at}
 use Rattle.core_state.specs.Turns.{token_of}
 use Rattle.provider.specs.Table.{Living, TokenState}
 use Rattle.core_laws.specs.Opening.{Opening, first_of}

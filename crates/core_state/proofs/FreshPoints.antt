@@ -2,7 +2,7 @@
 use Rattle.std.proofs.Common.{◌≡◌, ◌<◌, ◌+◌, ◌∙◌, ℕ, false, List, [], ◌∷◌, ◌++◌, length, get_or, take, ap, arith}
 use Rattle.std.proofs.lemmas.List.{take_more, length-take-le}
 use Rattle.traversal_graph.specs.declared.shape.Node.{Node}
-use Rattle.core_state.specs.declared.graph.Point.{Point}
+use Rattle.sync_points.specs.declared.point.Point.{Point}
 use Rattle.core_state.specs.Graphs.{fresh_points}
 
 abbrev point : List ℕ → ℕ → Point

@@ -4,7 +4,7 @@ use Rattle.std.specs.Prelude.{◌+◌, slice_get, remove, insert}
 use Rattle.std.specs.Str.{bytes_eq}
 use Rattle.std.specs.List.{position_from}
 use Rattle.core_state.specs.declared.graph.Graph.{Graph}
-use Rattle.core_state.specs.declared.graph.Point.{Point}
+use Rattle.sync_points.specs.declared.point.Point.{Point}
 use Rattle.core_state.specs.Changes.{put_point, with_point}
 use Rattle.core_state.proofs.Puts.{position_from-shift, position_from-none}
 

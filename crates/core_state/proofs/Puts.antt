@@ -3,7 +3,7 @@ use Rattle.std.proofs.Common.{◌≡◌, ℕ, Bool, true, false, cond, List, [],
 use Rattle.std.specs.Prelude.{◌+◌}
 use Rattle.std.specs.List.{position_from}
 use native.Mathlib.Omega.{arith}
-use Rattle.core_state.specs.Tables.{put}
+use Rattle.heat_plan.specs.Tables.{put}
 
 -- the place of the first that passes, counted from another number
 pub position_from-shift : {A : Type 0} (t : A → Bool) (k : ℕ) (xs : List A) (i : ℕ) → position_from t (k + 1) xs ≡ Some i → (j : ℕ) × (i ≡ j + 1) × (position_from t k xs ≡ Some j)

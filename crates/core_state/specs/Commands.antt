@@ -1,5 +1,5 @@
 -- The step of a create command: its conditions, its changes and its entries.
-use Rattle.std.specs.Prelude.{◌≡◌, ◌<◌, ◌≤◌, ◌+◌, ◌^◌, ℕ, List, [], ◌∷◌, ◌++◌, Some, None, length, map}
+use Rattle.std.specs.Prelude.{◌≡◌, ◌<◌, ◌≤◌, ◌+◌, ◌^◌, ℕ, false, List, [], ◌∷◌, ◌++◌, Some, None, length, map}
 use Rattle.dep_graph.specs.Lists.{ListsAll}
 use Rattle.heat_value.specs.Data.{no_members}
 use Rattle.heat_plan.specs.Plans.{PlanData}
@@ -11,18 +11,18 @@ use Rattle.traversal_graph.specs.Builds.{Joins}
 use Rattle.traversal_graph.specs.Nodes.{IsBuilt}
 use Rattle.traversal_graph.specs.declared.shape.TravGraph.{TravGraph}
 use Rattle.core_state.specs.declared.stack.Stack.{Stack}
-use Rattle.core_state.specs.declared.row.Row.{Row}
-use Rattle.core_state.specs.declared.mail.Letter.{Letter}
+use Rattle.core_state.specs.declared.past.Past.{Past}
+use Rattle.row_table.specs.declared.row.Row.{Row}
+use Rattle.mail_table.specs.declared.mail.Letter.{Letter}
 use Rattle.core_state.specs.declared.numbers.Numbers.{Numbers}
 use Rattle.core_state.specs.declared.change.Change.{Change}
-use Rattle.core_state.specs.declared.change.Change.TheVariants.{PutStack, PutRow, PutGraph, Send, SetNumbers}
+use Rattle.core_state.specs.declared.change.Change.TheVariants as change
 use Rattle.core_state.specs.declared.entry.Actor.{Actor}
 use Rattle.core_state.specs.declared.entry.Actor.TheVariants.{Main}
 use Rattle.core_state.specs.declared.entry.Entry.{Entry}
 use Rattle.core_state.specs.declared.entry.What.TheVariants as what
 use Rattle.core_state.specs.declared.entry.RowWrite.TheVariants.{Set}
 use Rattle.core_state.specs.declared.entry.MailWrite.TheVariants.{Sent}
-use Rattle.core_state.specs.Graphs.{fresh_points}
 use Rattle.core_state.specs.State.{StateData, stack_at}
 
 -- a row for an item on which nothing has been done
@@ -130,19 +130,24 @@ drawn next rows letters = record {
   letter = next.letter + letters;
 }
 
--- numbers, the stack, its rows, its graph and its letters
+-- no rollback, and nothing to go back to
+abbrev pub new_past : List ℕ → Past
+new_past name = record { stack = name; rollback = false; back = None }
+
+-- numbers, the stack, its past, its rows, its graph and its letters
 abbrev pub created_changes : (s : StateData) (name : List ℕ) (plan : PlanData) → Creates s name plan → List Change
 created_changes s name plan k =
-    SetNumbers (drawn s.next (length plan.items) (length k.leaves))
-    ∷ PutStack (new_stack s.next name plan)
-    ∷ (map PutRow (new_rows name s.next.trav s.next.row plan.items)
-    ++ (PutGraph (record { stack = name; graph = k.graph; points = fresh_points name 0 k.graph.nodes })
-    ∷ map Send (letters_to name s.next.trav s.next.letter k.leaves)))
+    change.Numbers (drawn s.next (length plan.items) (length k.leaves))
+    ∷ change.PutStack (new_stack s.next name plan)
+    ∷ change.PutPast (new_past name)
+    ∷ (map change.PutRow (new_rows name s.next.trav s.next.row plan.items)
+    ++ (change.PutGraph name k.graph
+    ∷ map change.Send (letters_to name s.next.trav s.next.letter k.leaves)))
 
 -- the command, the rows, the letters, and the mark where there is nothing to do
 abbrev pub created_entries : (s : StateData) (name : List ℕ) (plan : PlanData) → Creates s name plan → List Entry
 created_entries s name plan k =
-    record { by = Main; what = what.Command name s.next.trav Create (Some plan) }
+    record { by = Main; what = what.Command name s.next.trav Create (Some plan) false }
     ∷ (set_entry Main (new_rows name s.next.trav s.next.row plan.items)
     ++ (sent_entry Main (letters_to name s.next.trav s.next.letter k.leaves)
     ++ complete_entry Main name s.next.trav plan.items))

@@ -1,7 +1,7 @@
 -- The points of a graph.
 use Rattle.std.specs.Prelude.{ℕ, ◌+◌, false, List, [], ◌∷◌}
 use Rattle.traversal_graph.specs.declared.shape.Node.{Node}
-use Rattle.core_state.specs.declared.graph.Point.{Point}
+use Rattle.sync_points.specs.declared.point.Point.{Point}
 
 -- a point without inputs for each node, from a place on
 abbrev pub fresh_points : List ℕ → ℕ → List Node → List Point

@@ -1,8 +1,8 @@
 pub mod Rooms
-pub mod Tables
 pub mod Graphs
 pub mod State
 pub mod Changes
+pub mod Applies
 pub mod Reads
 pub mod Resolve
 pub mod Commands

@@ -1,39 +1,26 @@
 -- What the words of the steps mean in a state.
 use Rattle.std.specs.Prelude.{◌≡◌, ◌≢◌, ◌<◌, ℕ, true, List, Option, Some, None, Contains, slice_get}
 use Rattle.std.specs.Str.{bytes_eq}
-use Rattle.heat_plan.specs.declared.phase.Act.TheVariants.{Delete}
 use Rattle.heat_plan.specs.declared.item.Item.{Item}
 use Rattle.traversal_graph.specs.declared.shape.Node.{Node}
 use Rattle.traversal_graph.specs.declared.shape.Node.TheVariants.{U, C}
 use Rattle.core_state.specs.declared.stack.Stack.{Stack}
-use Rattle.core_state.specs.declared.row.Row.{Row}
+use Rattle.row_table.specs.declared.row.Row.{Row}
 use Rattle.core_state.specs.declared.graph.Graph.{Graph}
-use Rattle.core_state.specs.declared.graph.Input.{Input}
-use Rattle.core_state.specs.declared.graph.Point.{Point}
-use Rattle.core_state.specs.declared.mail.Letter.{Letter}
-use Rattle.core_state.specs.declared.mail.Job.{Job}
-use Rattle.core_state.specs.declared.mail.Stage.{Stage}
-use Rattle.core_state.specs.Tables.{at}
-use Rattle.core_state.specs.State.{StateData, stack_at, graph_at, row_at, letter_at, job_at}
+use Rattle.sync_points.specs.declared.point.Input.{Input}
+use Rattle.sync_points.specs.declared.point.Point.{Point}
+use Rattle.mail_table.specs.declared.mail.Letter.{Letter}
+use Rattle.mail_table.specs.declared.mail.Job.{Job}
+use Rattle.mail_table.specs.declared.mail.Stage.{Stage}
+use Rattle.heat_plan.specs.Tables.{at}
+use Rattle.row_table.specs.Rows.{row_at}
+use Rattle.mail_table.specs.Mails.{letter_at, job_at}
+use Rattle.row_table.specs.Chains.{IsCurrent, Leads}
+use Rattle.core_state.specs.State.{StateData, stack_at, graph_at}
 
 -- the item of this name
 abbrev pub item_at : List Item → List ℕ → Option Item
 item_at = at bytes_eq (λ (i : Item). i.name)
-
--- the row in which a resource of this name stands now
-pub record IsCurrent (r : Row) : Type 0 where
-  pub kept : r.act ≢ Delete
-  pub last : r.replaced_by ≡ None
-
--- no greater row stands that replaced this one
-abbrev pub IsLast : List Row → Row → Type 0
-IsLast rows r = (m : ℕ) (q : Row) → r.replaced_by ≡ Some m → r.no < m → ¬ row_at rows m ≡ Some q
-
--- following replaced_by from the row n ends at t
-pub data Leads (rows : List Row) : ℕ → ℕ → Type 0 where
-  ends : (n : ℕ) (r : Row) → row_at rows n ≡ Some r → IsLast rows r → Leads rows n n
-  goes : (n m t : ℕ) (r : Row) → row_at rows n ≡ Some r → r.replaced_by ≡ Some m → n < m
-      → Leads rows m t → Leads rows n t
 
 -- the row that a node is about
 pub data IsTarget (rows : List Row) (stack : List ℕ) : Node → ℕ → Type 0 where

@@ -1,24 +1,32 @@
 //! The changes that a step makes to a state.
 
-use crate::graph::{Graph, Point};
-use crate::mail::{Job, Letter};
 use crate::numbers::Numbers;
-use crate::row::Row;
+use crate::past::Past;
 use crate::stack::Stack;
-use heat_plan::{EngineNo, LetterNo};
+use heat_plan::{EngineNo, LetterNo, RowNo, StackName, Token};
+use mail_table::{Job, Letter};
+use row_table::Row;
+use sync_points::Point;
+use traversal_graph::TravGraph;
 
-/// One change of a state. A graph that is put is one on which nothing has been done; a point that is
-/// put belongs to a node that is there.
+/// One change of a state. A stack that is dropped takes its graph, its points and its past along. A
+/// graph that is put gets a point without inputs for each node, in the place of the old graph and its
+/// points. A point that is put belongs to a node that is there.
 #[derive(Debug, Drop)]
 pub enum Change {
     PutStack(Stack),
+    DropStack(StackName),
     PutRow(Row),
-    PutGraph(Graph),
+    DropRow(RowNo),
+    PutGraph(StackName, TravGraph),
     PutPoint(Point),
     Send(Letter),
     Drop(LetterNo),
     PutJob(Job),
     EndJob(EngineNo),
     Enlist(EngineNo),
-    SetNumbers(Numbers),
+    Stop(EngineNo),
+    Numbers(Numbers),
+    PutPast(Past),
+    Release(Token),
 }

@@ -1,12 +1,11 @@
 //! The entries of the history: what each step did, in the order in which it did it.
 
-use crate::copying::copy_option;
-use crate::mail::{Job, Letter};
-use crate::row::Row;
 use heat_plan::{
     Act, Answered, EngineNo, LetterNo, Plan, Request, ResName, RowNo, StackName, Token, TravNo,
 };
-use heat_value::{Path, Seq, Text, TryCopy};
+use heat_value::{Path, Seq, Text, TryCopy, copy_option};
+use mail_table::{Job, Letter};
+use row_table::Row;
 use std::alloc::AllocError;
 
 /// Who made an entry: the reader of commands, or an engine.
@@ -65,7 +64,8 @@ pub enum MailWrite {
     Ended(EngineNo),
 }
 
-/// What happened. A mark without a cause says that the traversal is complete.
+/// What happened. A command tells whether a failure of it is rolled back. A resource whose token is
+/// released stays, and the engine gives it up. A mark without a cause says that the traversal is complete.
 #[derive(Debug, Drop)]
 pub enum What {
     Command {
@@ -73,11 +73,15 @@ pub enum What {
         trav: TravNo,
         act: Act,
         plan: Option<Plan>,
+        rollback: bool,
     },
     Call {
         token: Token,
         request: Request,
         answer: Answered,
+    },
+    Release {
+        token: Token,
     },
     Mark {
         stack: StackName,

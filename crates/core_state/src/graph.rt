@@ -1,32 +1,14 @@
-//! The graph of a stack's newest traversal, and what each node was given.
+//! The graph of a stack's newest traversal, with what each node was given.
 ghost use Rattle.std.specs.Prelude.{◌≡◌, [], false, IfOk};
 ghost use Rattle.std.specs.Str.{bytes_eq};
 ghost use Rattle.core_state.specs.Graphs.{fresh_points};
 
-use crate::copying::copy_option;
 use crate::table::Keyed;
-use heat_plan::{Facts, ResName, RowNo, StackName};
+use heat_plan::StackName;
 use heat_value::{Seq, TryCopy};
 use std::alloc::{AllocError, Global};
+use sync_points::Point;
 use traversal_graph::TravGraph;
-
-/// What the node at the place `from` gave: the name and the facts are those of an update node.
-#[derive(Debug, Drop)]
-pub struct Input {
-    pub from: u32,
-    pub name: Option<ResName>,
-    pub row: RowNo,
-    pub facts: Option<Facts>,
-}
-
-/// What one node of a stack's graph was given, and whether it is done.
-#[derive(Debug, Drop)]
-pub struct Point {
-    pub stack: StackName,
-    pub node: u32,
-    pub inputs: Seq<Input>,
-    pub done: bool,
-}
 
 /// A stack's newest graph, with a point for each of its nodes.
 #[derive(Debug, Drop)]
@@ -36,26 +18,12 @@ pub struct Graph {
     pub points: Seq<Point>,
 }
 
-impl Graph {
-    /// A graph on which nothing has been done: each node has a point without inputs.
-    pub fn new(alloc: Global, stack: StackName, graph: TravGraph) -> Result<Graph, AllocError>
-        ensures { IfOk result (λ g. g ≡ record {
-          stack = stack;
-          graph = graph;
-          points = fresh_points stack 0 graph.nodes;
-        }) }
-    {
-        let points = points_of(alloc, &stack, &graph)?;
-        Ok(Graph {
-            stack,
-            graph,
-            points,
-        })
-    }
-}
-
-// A point for each node.
-fn points_of(alloc: Global, stack: &StackName, graph: &TravGraph) -> Result<Seq<Point>, AllocError>
+/// A point for each node of a graph on which nothing has been done.
+pub(crate) fn fresh_points(
+    alloc: Global,
+    stack: &StackName,
+    graph: &TravGraph,
+) -> Result<Seq<Point>, AllocError>
     ensures { IfOk result (λ points. points ≡ fresh_points stack.now 0 graph.now.nodes) }
 {
     let Ok(count) = u32::try_from(graph.nodes.len()) else {
@@ -93,28 +61,6 @@ impl Keyed for Graph {
 
     fn shares_key(&self, other: &Graph) -> bool {
         self.stack == other.stack
-    }
-}
-
-impl TryCopy for Input {
-    fn copy(&self) -> Result<Input, AllocError> {
-        Ok(Input {
-            from: self.from,
-            name: copy_option(&self.name)?,
-            row: self.row,
-            facts: copy_option(&self.facts)?,
-        })
-    }
-}
-
-impl TryCopy for Point {
-    fn copy(&self) -> Result<Point, AllocError> {
-        Ok(Point {
-            stack: self.stack.copy()?,
-            node: self.node,
-            inputs: self.inputs.copy()?,
-            done: self.done,
-        })
     }
 }
 

@@ -3,16 +3,18 @@
 //! or writes. It answers to `specs/State.antt`, `Changes.antt` and `Steps.antt`.
 #![tactic(auto)]
 
+mod apply_fault;
+mod applying;
 mod batch;
 mod change;
-mod copying;
 mod entry;
 mod graph;
+mod keys;
 mod made;
-mod mail;
 mod numbers;
+mod past;
+mod ready;
 mod roomed;
-mod row;
 mod shared_plan;
 mod stack;
 mod state;
@@ -20,17 +22,20 @@ mod table;
 #[cfg(test)]
 mod tests;
 
+pub use apply_fault::ApplyFault;
 pub use batch::Batch;
 pub use change::Change;
-pub use copying::copy_option;
 pub use entry::{Actor, Cause, EngineChange, Entry, MailWrite, RowWrite, ShowWhat, What, Why};
-pub use graph::{Graph, Input, Point};
+pub use graph::Graph;
 pub use made::Made;
-pub use mail::{Job, Letter, Stage};
+pub use mail_table::{Job, Letter, Stage};
 pub use numbers::{Next, Numbers};
+pub use past::Past;
+pub use ready::{Ready, ready_all};
 pub use roomed::Roomed;
-pub use row::Row;
+pub use row_table::Row;
 pub use shared_plan::SharedPlan;
 pub use stack::Stack;
 pub use state::State;
+pub use sync_points::{Input, Point};
 pub use table::{Keyed, Table};

@@ -1,11 +1,10 @@
 //! A stack and its newest traversal.
 ghost use Rattle.std.specs.Str.{bytes_eq};
 
-use crate::copying::copy_option;
 use crate::shared_plan::SharedPlan;
 use crate::table::Keyed;
 use heat_plan::{Act, StackName, StackNo, Status, TravNo};
-use heat_value::TryCopy;
+use heat_value::{TryCopy, copy_option};
 use std::alloc::AllocError;
 
 /// A stack: the number of its newest traversal, what that does and how far it is, and its plan. A plan

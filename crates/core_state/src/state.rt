@@ -1,31 +1,38 @@
-//! The engine's state: tables, the live engines, and the next numbers.
-ghost use Rattle.std.specs.Prelude.{◌≡◌, ◌<◌, ◌≤◌, ◌+◌, [], OnOk, IfOk, length, option_map};
-ghost use Rattle.core_state.specs.State.{StateData, stack_at, graph_at, row_at, job_at};
+//! The engine's state: tables, the live engines, the released tokens, and the next numbers.
+ghost use Rattle.std.specs.Prelude.{◌≡◌, ◌<◌, ◌≤◌, ◌+◌, [], OnOk, IfOk, filter, length, nat_eq, not, option_map};
+ghost use Rattle.row_table.specs.Rows.{row_at};
+ghost use Rattle.mail_table.specs.Mails.{letter_at, job_at};
+ghost use Rattle.core_state.specs.State.{StateData, stack_at, graph_at, past_at};
 ghost use Rattle.core_state.specs.Changes.{apply, applied, put_point, with_point};
 
 use crate::batch::Batch;
 use crate::change::Change;
-use crate::graph::{Graph, Point};
-use crate::mail::{Job, Letter};
+use crate::graph::Graph;
 use crate::numbers::Numbers;
+use crate::past::Past;
+use crate::ready::Ready;
 use crate::roomed::Roomed;
-use crate::row::Row;
 use crate::stack::Stack;
 use crate::table::Table;
-use heat_plan::{EngineNo, RowNo, StackName};
+use heat_plan::{EngineNo, LetterNo, RowNo, StackName, Token};
+use mail_table::{Job, Letter};
+use row_table::Row;
 use std::alloc::{AllocError, Global};
 use std::marker::Model;
+use sync_points::Point;
 
-/// The stacks with their newest graphs, the rows, the waiting letters, the jobs, the live engines by
-/// rising number, and the next numbers.
+/// The stacks with their newest graphs and their pasts, the rows, the waiting letters, the jobs, the live
+/// engines by rising number, the tokens that were released, and the next numbers.
 #[derive(Debug, Drop)]
 pub struct State {
     stacks: Table<Stack>,
     graphs: Table<Graph>,
+    pasts: Table<Past>,
     rows: Table<Row>,
     letters: Table<Letter>,
     jobs: Table<Job>,
-    live: Roomed<EngineNo>,
+    live: Table<EngineNo>,
+    released: Roomed<Token>,
     next: Numbers,
 }
 
@@ -43,14 +50,16 @@ impl Model for State {
       state = record {
         stacks = s.stacks.items;
         graphs = s.graphs.items;
+        pasts = s.pasts.items;
         rows = s.rows.items;
         letters = s.letters.items;
         jobs = s.jobs.items;
         live = s.live.items;
+        released = s.released.items;
         next = s.next;
       };
-      spare = min s.stacks.spare (min s.graphs.spare (min s.rows.spare
-          (min s.letters.spare (min s.jobs.spare s.live.spare))));
+      spare = min s.stacks.spare (min s.graphs.spare (min s.pasts.spare (min s.rows.spare
+          (min s.letters.spare (min s.jobs.spare (min s.live.spare s.released.spare))))));
     } };
 }
 
@@ -60,20 +69,24 @@ impl State {
         ensures { result.state ≡ record {
           stacks = [];
           graphs = [];
+          pasts = [];
           rows = [];
           letters = [];
           jobs = [];
           live = [];
+          released = [];
           next = record { stack = 1; trav = 1; row = 1; engine = 1; letter = 1 };
         } }
     {
         State {
             stacks: Table::new(alloc),
             graphs: Table::new(alloc),
+            pasts: Table::new(alloc),
             rows: Table::new(alloc),
             letters: Table::new(alloc),
             jobs: Table::new(alloc),
-            live: Roomed::new(alloc),
+            live: Table::new(alloc),
+            released: Roomed::new(alloc),
             next: Numbers::first(),
         }
     }
@@ -113,6 +126,13 @@ impl State {
         self.live.as_slice()
     }
 
+    /// The tokens that were released.
+    pub fn released(&self) -> &[Token]
+        ensures { result.now ≡ self.now.state.released }
+    {
+        self.released.as_slice()
+    }
+
     /// The next number of each sort.
     pub fn next(&self) -> &Numbers
         ensures { result.now ≡ self.now.state.next }
@@ -134,11 +154,25 @@ impl State {
         self.graphs.get(stack)
     }
 
+    /// What a stack could go back to; none where nothing was put.
+    pub fn past(&self, stack: &StackName) -> Option<&Past>
+        ensures { option_map (λ p. p.now) result ≡ past_at self.now.state.pasts stack.now }
+    {
+        self.pasts.get(stack)
+    }
+
     /// The row of this number; none where it doesn't stand.
     pub fn row(&self, no: &RowNo) -> Option<&Row>
         ensures { option_map (λ r. r.now) result ≡ row_at self.now.state.rows no.now }
     {
         self.rows.get(no)
+    }
+
+    /// The waiting letter of this number; none where it doesn't wait.
+    pub fn letter(&self, no: &LetterNo) -> Option<&Letter>
+        ensures { option_map (λ l. l.now) result ≡ letter_at self.now.state.letters no.now }
+    {
+        self.letters.get(no)
     }
 
     /// An engine's job; none where it has none.
@@ -155,10 +189,12 @@ impl State {
         Ok(State {
             stacks: self.stacks.copy()?,
             graphs: self.graphs.copy()?,
+            pasts: self.pasts.copy()?,
             rows: self.rows.copy()?,
             letters: self.letters.copy()?,
             jobs: self.jobs.copy()?,
             live: self.live.copied()?,
+            released: self.released.copy()?,
             next: self.next,
         })
     }
@@ -171,42 +207,67 @@ impl State {
     {
         self.stacks.reserve(more)?;
         self.graphs.reserve(more)?;
+        self.pasts.reserve(more)?;
         self.rows.reserve(more)?;
         self.letters.reserve(more)?;
         self.jobs.reserve(more)?;
-        self.live.reserve(more)
+        self.live.reserve(more)?;
+        self.released.reserve(more)
     }
 
-    /// Makes one change, within the room.
-    pub fn apply(&mut self, change: Change)
+    /// Makes one change, within the room, be it one that applies or not.
+    pub fn make(&mut self, ready: Ready)
         requires { 0 < self.old.spare }
-        ensures exact { self.new.state ≡ apply change self.old.state }
+        ensures exact { self.new.state ≡ apply ready self.old.state }
         ensures room { self.old.spare ≤ self.new.spare + 1 }
     {
+        let (change, points) = ready.into_parts();
         match change {
             Change::PutStack(stack) => self.stacks.put(stack),
+            Change::DropStack(name) => {
+                self.stacks.cut(&name);
+                self.graphs.cut(&name);
+                self.pasts.cut(&name);
+            }
             Change::PutRow(row) => self.rows.put(row),
-            Change::PutGraph(graph) => self.graphs.put(graph),
+            Change::DropRow(no) => self.rows.cut(&no),
+            Change::PutGraph(stack, graph) => self.graphs.put(Graph {
+                stack,
+                graph,
+                points,
+            }),
             Change::PutPoint(point) => put_point(&mut self.graphs, point),
             Change::Send(letter) => self.letters.put(letter),
             Change::Drop(no) => self.letters.cut(&no),
             Change::PutJob(job) => self.jobs.put(job),
             Change::EndJob(engine) => self.jobs.cut(&engine),
             Change::Enlist(engine) => self.live.push(engine),
-            Change::SetNumbers(numbers) => self.next = numbers,
+            Change::Stop(engine) => stop(&mut self.live, engine),
+            Change::Numbers(numbers) => self.next = numbers,
+            Change::PutPast(past) => self.pasts.put(past),
+            Change::Release(token) => self.released.push(token),
         }
     }
 
     /// Makes all changes in order, within the room.
-    pub fn apply_all(&mut self, changes: Batch<Change>)
+    pub fn apply_all(&mut self, changes: Batch<Ready>)
         requires { length changes ≤ self.old.spare }
         ensures exact { self.new.state ≡ applied changes self.old.state }
         ensures room { self.old.spare ≤ self.new.spare + length changes }
     {
         for change in changes.into_vec() {
-            self.apply(change);
+            self.make(change);
         }
     }
+}
+
+// Takes an engine from the live ones.
+#[tactic(auto, unfolding(heat_plan::specs::Tables::cut))]
+fn stop(live: &mut Table<EngineNo>, engine: EngineNo)
+    ensures items { live.new.items ≡ filter (λ x. not (nat_eq x engine)) live.old.items }
+    ensures room { live.old.spare ≤ live.new.spare }
+{
+    live.cut(&engine);
 }
 
 // Writes a node's point into its stack's graph.

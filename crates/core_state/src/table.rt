@@ -1,8 +1,8 @@
 //! Tables of records, each found by its key.
-ghost use Rattle.std.specs.Prelude.{ℕ, Bool, ◌≡◌, ◌<◌, ◌≤◌, ◌+◌, [], OnOk, IfOk, Some, option_map, length, slice_get, remove, insert};
+ghost use Rattle.std.specs.Prelude.{ℕ, Bool, ◌≡◌, ◌<◌, ◌≤◌, ◌+◌, ◌++◌, ◌∷◌, [], OnOk, IfOk, Some, option_map, length, slice_get, remove, insert};
 ghost use Rattle.std.specs.List.{position_from};
 ghost use Rattle.core_state.specs.Rooms.{Roomy};
-ghost use Rattle.core_state.specs.Tables.{at, put, cut};
+ghost use Rattle.heat_plan.specs.Tables.{at, put, cut};
 
 use crate::roomed::Roomed;
 use heat_value::TryCopy;
@@ -68,7 +68,7 @@ impl<T: Keyed> Table<T> {
     }
 
     /// The record of a key; none where there is none.
-    #[tactic(auto, unfolding(crate::specs::Tables::at))]
+    #[tactic(auto, unfolding(heat_plan::specs::Tables::at))]
     pub fn get(&self, key: &T::Key) -> Option<&T>
         ensures { option_map (λ r. r.now) result ≡ at T.same T.key_of self.now.items key.now }
     {
@@ -110,6 +110,15 @@ impl<T: Keyed> Table<T> {
         ensures room { self.old.spare ≤ self.new.spare + 1 }
     {
         self.all.insert(at, item);
+    }
+
+    /// Puts a record behind all others, within the room.
+    pub fn push(&mut self, item: T)
+        requires { 0 < self.old.spare }
+        ensures items { self.new.items ≡ self.old.items ++ item ∷ [] }
+        ensures room { self.old.spare ≤ self.new.spare + 1 }
+    {
+        self.all.push(item);
     }
 
     // At which place the record of another's key is.
@@ -157,6 +166,17 @@ impl<T: Keyed + TryCopy> Table<T> {
     {
         Ok(Table {
             all: self.all.copy()?,
+        })
+    }
+}
+
+impl<T: Keyed + Copy> Table<T> {
+    /// The same records, with room of its own.
+    pub fn copied(&self) -> Result<Self, AllocError>
+        ensures { IfOk result (λ copy. copy.items ≡ self.now.items) }
+    {
+        Ok(Table {
+            all: self.all.copied()?,
         })
     }
 }

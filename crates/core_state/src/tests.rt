@@ -1,6 +1,6 @@
 //! That each call succeeds with ample memory, and what a few changes leave.
 
-use crate::{Batch, Change, Graph, Job, Letter, Next, Numbers, Point, Stack, Stage, State};
+use crate::{Batch, Change, Job, Letter, Next, Numbers, Point, Stack, Stage, State, ready_all};
 use heat_plan::{Act, EngineNo, LetterNo, ResName, RowNo, StackName, StackNo, Status, TravNo};
 use heat_value::Seq;
 use std::test::Fail;
@@ -52,31 +52,30 @@ fn node(rt: &impl AllocGlobal) -> Result<Node, Fail> {
 }
 
 /// A graph of one node.
-fn graph(rt: &impl AllocGlobal) -> Result<Graph, Fail> {
+fn graph(rt: &impl AllocGlobal) -> Result<TravGraph, Fail> {
     let mut nodes = Seq::new(rt.alloc());
     nodes.push(node(rt)?)?;
-    let graph = TravGraph {
+    Ok(TravGraph {
         nodes,
         edges: Seq::new(rt.alloc()),
-    };
-    Ok(Graph::new(rt.alloc(), stack_name(rt, b's')?, graph)?)
+    })
 }
 
-/// Makes one change, with room for it.
-fn change(state: &mut State, change: Change) -> Result<(), Fail> {
-    state.reserve(1)?;
-    state.apply(change);
+/// Makes one change that applies.
+fn change(rt: &impl AllocGlobal, state: &mut State, change: Change) -> Result<(), Fail> {
+    let made = state.apply(rt.alloc(), change);
+    made.ok().ok_or("a change that applies")?;
     Ok(())
 }
 
 fn put_stack(rt: &impl AllocGlobal, state: &mut State, name: u8, no: u64) -> Result<(), Fail> {
     let put = stack(rt, name, no)?;
-    change(state, Change::PutStack(put))
+    change(rt, state, Change::PutStack(put))
 }
 
 fn send(rt: &impl AllocGlobal, state: &mut State, no: u64) -> Result<(), Fail> {
     let sent = letter(rt, no)?;
-    change(state, Change::Send(sent))
+    change(rt, state, Change::Send(sent))
 }
 
 fn hold(rt: &impl AllocGlobal, state: &mut State) -> Result<(), Fail> {
@@ -89,12 +88,13 @@ fn hold(rt: &impl AllocGlobal, state: &mut State) -> Result<(), Fail> {
         row,
         stage: Stage::Taken,
     };
-    change(state, Change::PutJob(job))
+    change(rt, state, Change::PutJob(job))
 }
 
 fn put_graph(rt: &impl AllocGlobal, state: &mut State) -> Result<(), Fail> {
     let put = graph(rt)?;
-    change(state, Change::PutGraph(put))
+    let name = stack_name(rt, b's')?;
+    change(rt, state, Change::PutGraph(name, put))
 }
 
 fn put_point(rt: &impl AllocGlobal, state: &mut State) -> Result<(), Fail> {
@@ -105,7 +105,7 @@ fn put_point(rt: &impl AllocGlobal, state: &mut State) -> Result<(), Fail> {
         inputs: Seq::new(rt.alloc()),
         done: true,
     };
-    change(state, Change::PutPoint(point))
+    change(rt, state, Change::PutPoint(point))
 }
 
 /// Whether the stacks have these numbers, in the table's order.
@@ -148,7 +148,7 @@ fn a_record_is_put_in_the_place_of_its_key(rt: HostRuntime) -> Result<(), Fail> 
 fn send_and_drop(rt: &impl AllocGlobal, state: &mut State) -> Result<(), Fail> {
     send(rt, state, 1)?;
     send(rt, state, 2)?;
-    change(state, Change::Drop(LetterNo::new(1).ok_or("a number")?))
+    change(rt, state, Change::Drop(LetterNo::new(1).ok_or("a number")?))
 }
 
 #[test]
@@ -166,7 +166,7 @@ fn held_and_ended(rt: &impl AllocGlobal, state: &mut State) -> Result<(bool, boo
     let engine = engine(1)?;
     hold(rt, state)?;
     let held = state.job(&engine).is_some();
-    change(state, Change::EndJob(engine))?;
+    change(rt, state, Change::EndJob(engine))?;
     Ok((held, state.job(&engine).is_none()))
 }
 
@@ -183,12 +183,12 @@ fn opening(rt: &impl AllocGlobal) -> Result<Batch<Change>, Fail> {
     let engine = engine(1)?;
     let mut changes = Batch::new(rt.alloc());
     changes.push(Change::Enlist(engine))?;
-    changes.push(Change::SetNumbers(Numbers::first()))?;
+    changes.push(Change::Numbers(Numbers::first()))?;
     Ok(changes)
 }
 
 fn open(rt: &impl AllocGlobal, state: &mut State) -> Result<(), Fail> {
-    let changes = opening(rt)?;
+    let changes = ready_all(rt.alloc(), opening(rt)?)?;
     if state.reserve(changes.len()).is_ok() {
         state.apply_all(changes);
     }
@@ -207,8 +207,9 @@ fn changes_are_made_in_order(rt: HostRuntime) -> Result<(), Fail> {
     Ok(())
 }
 
-/// Puts a graph and its node's point.
+/// Puts a stack, its graph and its node's point.
 fn put_both(rt: &impl AllocGlobal, state: &mut State) -> Result<(), Fail> {
+    put_stack(rt, state, b's', 1)?;
     put_graph(rt, state)?;
     put_point(rt, state)
 }

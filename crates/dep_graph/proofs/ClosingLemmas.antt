@@ -1,5 +1,5 @@
 -- What one edge more means for paths and cycles, and how long a path can be.
-use Rattle.std.proofs.Common.{◌≡◌, ◌⊎◌, ℕ, ◌<◌, ◌≤◌, Bool, false, eqb, List, [], ◌∷◌, length, refl, sym, subst, inl, inr, arith}
+use Rattle.std.proofs.Common.{◌≡◌, ◌⊎◌, ◌↔◌, ℕ, ◌<◌, ◌≤◌, Bool, false, eqb, List, [], ◌∷◌, length, refl, sym, subst, inl, inr, arith}
 use Rattle.std.specs.Prelude.{All}
 use Rattle.std.specs.List.{IsDistinct, AllByRecursion}
 use Rattle.std.proofs.lemmas.Bool.{eqb-true, false_from_ne_true}
@@ -12,7 +12,7 @@ use Rattle.dep_graph.specs.Paths.{Leads, IsPath, HasPath, IsAcyclic}
 use Rattle.dep_graph.specs.Edges.{Links, HasEdge, JoinsNodes, IsBare, AddsEdge}
 use Rattle.dep_graph.specs.Marks.{IsMarked, MarksAll}
 use Rattle.dep_graph.specs.Closings.{GoesTowards, Closes}
-use Rattle.dep_graph.proofs.PathLemmas.{HasPath-refl, HasPath-same, HasPath-step, HasPath-append, HasPath-push, HasPath-first, HasPath-last, IsPath-weaker, leads_of, Loops, acyclic_from, no_loop}
+use Rattle.dep_graph.proofs.PathLemmas.{HasPath-refl, HasPath-same, HasPath-step, HasPath-append, HasPath-push, HasPath-first, HasPath-last, HasPath-leads, Leads-weaker, IsPath-weaker, leads_of, Loops, acyclic_from, no_loop}
 use Rattle.dep_graph.proofs.MarkLemmas.{IsMarked-within}
 
 -- the edges of one relation are those of another and one more
@@ -33,6 +33,12 @@ paths_with E F before after more a (x ∷ p) b (e, r) =
     by (inl s) (inr (g, h)) = inr (HasPath-step E a x before s g, h)
     by (inr (at, to)) (inl h) = let P : ℕ → Type 0 = λ z. HasPath E z b in inr (HasPath-same E a before at, subst P to h)
     by (inr (at, to)) (inr (g, h)) = inr (HasPath-same E a before at, h)
+
+path_more : (old new : Links) (before after : ℕ) → AddsEdge before after old new
+    → (a b : ℕ) → HasPath (HasEdge old) a b → HasPath (HasEdge new) a b
+path_more old new before after adds a b h =
+    let p = leads_of (HasEdge old) a b h in
+    HasPath-leads (HasEdge new) a p.0 b (Leads-weaker (HasEdge old) (HasEdge new) (λ x y e. (adds.edges x y).1 (inl e)) a p.0 b p.1)
 
 -- an edge whose before isn't reached from its after closes no cycle
 pub acyclic_with : (E F : ℕ → ℕ → Type 0) (before after : ℕ) → HasOneMore E F before after
@@ -144,6 +150,31 @@ pub acyclic_added : (old new : Links) (before after : ℕ) → AddsEdge before a
     → IsAcyclic (HasEdge old) → ¬ HasPath (HasEdge old) after before → IsAcyclic (HasEdge new)
 acyclic_added old new before after adds acyclic open' =
     acyclic_with (HasEdge old) (HasEdge new) before after (λ x y h. (adds.edges x y).0 h) acyclic open'
+
+-- an edge that closes no cycle doesn't change what is reached from its after, nor what reaches its before
+pub reached_same : (old new : Links) (before after : ℕ) → AddsEdge before after old new → ¬ HasPath (HasEdge old) after before
+    → (x : ℕ) → HasPath (HasEdge old) after x ↔ HasPath (HasEdge new) after x
+reached_same old new before after adds open' x = (path_more old new before after adds after x, there)
+  where
+    there : HasPath (HasEdge new) after x → HasPath (HasEdge old) after x
+    there h =
+        let p = leads_of (HasEdge new) after x h in
+        elim (paths_with (HasEdge old) (HasEdge new) before after (λ y z e. (adds.edges y z).0 e) after p.0 x p.1) [
+          | inl k ↦ k
+          | inr k ↦ absurd (open' k.0)
+        ]
+
+pub reaching_same : (old new : Links) (before after : ℕ) → AddsEdge before after old new
+    → (x : ℕ) → HasPath (HasEdge old) x before ↔ HasPath (HasEdge new) x before
+reaching_same old new before after adds x = (path_more old new before after adds x before, there)
+  where
+    there : HasPath (HasEdge new) x before → HasPath (HasEdge old) x before
+    there h =
+        let p = leads_of (HasEdge new) x before h in
+        elim (paths_with (HasEdge old) (HasEdge new) before after (λ y z e. (adds.edges y z).0 e) x p.0 before p.1) [
+          | inl k ↦ k
+          | inr k ↦ k.0
+        ]
 
 -- where there is no edge there is no cycle
 pub acyclic_bare : (graph : Links) (n : ℕ) → IsBare n graph → IsAcyclic (HasEdge graph)

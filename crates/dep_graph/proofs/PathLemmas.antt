@@ -83,6 +83,10 @@ pub HasPath-against : (E : ℕ → ℕ → Type 0) (a : ℕ) (p : List ℕ) (b :
 HasPath-against E a [] b e = HasPath-same E b a (sym e)
 HasPath-against E a (x ∷ p) b (e, r) = HasPath-push E b x a (HasPath-against E x p b r) e
 
+-- a path read backwards
+pub turned : (E : ℕ → ℕ → Type 0) (a b : ℕ) → HasPath (Against E) a b → HasPath E b a
+turned E a b h = let p = leads_of (Against E) a b h in HasPath-against E a p.0 b p.1
+
 -- a step from which the node is reached again
 abbrev pub Loops : (ℕ → ℕ → Type 0) → ℕ → Type 0
 Loops E a = (x : ℕ) × E a x × HasPath E x a

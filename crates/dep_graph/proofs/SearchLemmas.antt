@@ -5,11 +5,10 @@ use Rattle.std.proofs.lemmas.Bool.{cases_eq, false≢true}
 use Rattle.std.proofs.lemmas.List.{get_or-set_same, get_or-set_other, length-set, get_or-replicate, length-replicate, length_push}
 use Rattle.std.proofs.lemmas.List.Elements.{Contains-push, Contains-push_cases, Contains-append_left}
 use Rattle.std.proofs.lemmas.List.Sums.{sum_by-set}
-use Rattle.dep_graph.specs.Paths.{Leads, HasPath}
-use Rattle.dep_graph.specs.Edges.{Links, HasEdge}
+use Rattle.dep_graph.specs.Paths.{Leads, HasPath, Against}
 use Rattle.dep_graph.specs.Lists.{ListsAll}
 use Rattle.dep_graph.specs.Marks.{IsMarked, MarksAll, MarksNew, unmarked_count}
-use Rattle.dep_graph.proofs.PathLemmas.{HasPath-refl, HasPath-step, leads_of}
+use Rattle.dep_graph.proofs.PathLemmas.{HasPath-refl, HasPath-step, leads_of, turned}
 use Rattle.dep_graph.proofs.MarkLemmas.{IsMarked-within}
 
 none_in : (x : ℕ) → Contains {X = ℕ} [] x → ⊥
@@ -115,33 +114,33 @@ MarksNew-push nodes old waiting new pending x h lt m = record {
     ]
 
 -- marks that reach the goal; where one is on a node that doesn't wait, its predecessors have theirs
-pub record IsSearch (graph : Links) (goal : ℕ) (marks : List Bool) (pending : List ℕ) : Type 0 where
-  pub size : length marks ≡ length graph
+pub record IsSearch (Edge : ℕ → ℕ → Type 0) (count goal : ℕ) (marks : List Bool) (pending : List ℕ) : Type 0 where
+  pub size : length marks ≡ count
   pub goal_is : IsMarked marks goal
-  pub reaches : (x : ℕ) → IsMarked marks x → HasPath (HasEdge graph) x goal
+  pub reaches : (x : ℕ) → IsMarked marks x → HasPath Edge x goal
   pub waits : (x : ℕ) → Contains pending x → IsMarked marks x
-  pub done : (x y : ℕ) → IsMarked marks y → HasEdge graph x y → IsMarked marks x ⊎ Contains pending y
+  pub done : (x y : ℕ) → IsMarked marks y → Edge x y → IsMarked marks x ⊎ Contains pending y
 
-pub IsSearch-start : (graph : Links) (goal : ℕ) → goal < length graph
-    → IsSearch graph goal (set (replicate (length graph) false) goal true) ([] ++ goal ∷ [])
-IsSearch-start graph goal lt = record {
-  size = length-set _ goal true ∙ length-replicate (length graph) false;
+pub IsSearch-start : (Edge : ℕ → ℕ → Type 0) (count goal : ℕ) → goal < count
+    → IsSearch Edge count goal (set (replicate count false) goal true) ([] ++ goal ∷ [])
+IsSearch-start Edge count goal lt = record {
+  size = length-set _ goal true ∙ length-replicate count false;
   goal_is = IsMarked-set_same bare goal inside;
-  reaches = λ x m. (let P : ℕ → Type 0 = λ z. HasPath (HasEdge graph) z goal in subst P (sym (only x m)) (HasPath-refl (HasEdge graph) goal));
+  reaches = λ x m. (let P : ℕ → Type 0 = λ z. HasPath Edge z goal in subst P (sym (only x m)) (HasPath-refl Edge goal));
   waits = waits;
   done = λ x y m e. inr (let C : ℕ → Type 0 = λ z. Contains ([] ++ goal ∷ []) z in subst C (sym (only y m)) (Contains-push [] goal));
 }
   where
     bare : List Bool
-    bare = replicate (length graph) false
+    bare = replicate count false
 
     inside : goal < length bare
-    inside = rw (length-replicate (length graph) false) lt
+    inside = rw (length-replicate count false) lt
 
     bare_none : (x : ℕ) → IsMarked bare x → ⊥
     bare_none x m =
-        let in' : x < length graph = rw (length-replicate (length graph) false) at (IsMarked-within bare x m) in
-        false≢true (sym (get_or-replicate (length graph) x false false in') ∙ m)
+        let in' : x < count = rw (length-replicate count false) at (IsMarked-within bare x m) in
+        false≢true (sym (get_or-replicate count x false false in') ∙ m)
 
     only : (x : ℕ) → IsMarked (set bare goal true) x → x ≡ goal
     only x m = elim (IsMarked-set bare goal x inside m) [ inl e ↦ e | inr k ↦ absurd (bare_none x k) ]
@@ -153,11 +152,11 @@ IsSearch-start graph goal lt = record {
     ]
 
 -- one node's predecessors have their marks
-pub IsSearch-more : (graph : Links) (goal : ℕ) (marks new : List Bool) (pending rest next nodes : List ℕ) (node : ℕ)
-    → IsSearch graph goal marks pending → pending ≡ rest ++ node ∷ []
-    → ListsAll (λ pred. HasEdge graph pred node) nodes → MarksNew nodes marks rest new next
-    → IsSearch graph goal new next
-IsSearch-more graph goal marks new pending rest next nodes node s is lists h = record {
+pub IsSearch-more : (Edge : ℕ → ℕ → Type 0) (count goal : ℕ) (marks new : List Bool) (pending rest next nodes : List ℕ) (node : ℕ)
+    → IsSearch Edge count goal marks pending → pending ≡ rest ++ node ∷ []
+    → ListsAll (λ pred. Edge pred node) nodes → MarksNew nodes marks rest new next
+    → IsSearch Edge count goal new next
+IsSearch-more Edge count goal marks new pending rest next nodes node s is lists h = record {
   size = h.size ∙ s.size;
   goal_is = h.kept goal s.goal_is;
   reaches = reaches;
@@ -171,10 +170,10 @@ IsSearch-more graph goal marks new pending rest next nodes node s is lists h = r
     last : Contains pending node
     last = rw is (Contains-push rest node)
 
-    reaches : (x : ℕ) → IsMarked new x → HasPath (HasEdge graph) x goal
+    reaches : (x : ℕ) → IsMarked new x → HasPath Edge x goal
     reaches x m = elim (h.only x m) [
       | inl o ↦ s.reaches x o
-      | inr c ↦ HasPath-step (HasEdge graph) x node goal ((lists.each x).0 c.0) (s.reaches node (s.waits node last))
+      | inr c ↦ HasPath-step Edge x node goal ((lists.each x).0 c.0) (s.reaches node (s.waits node last))
     ]
 
     waits : (x : ℕ) → Contains next x → IsMarked new x
@@ -183,7 +182,7 @@ IsSearch-more graph goal marks new pending rest next nodes node s is lists h = r
       | inr d ↦ h.all x d
     ]
 
-    done : (x y : ℕ) → IsMarked new y → HasEdge graph x y → IsMarked new x ⊎ Contains next y
+    done : (x y : ℕ) → IsMarked new y → Edge x y → IsMarked new x ⊎ Contains next y
     done x y m e = elim (h.only y m) [
       | inl o ↦ old (s.done x y o e)
       | inr c ↦ inr c.1
@@ -193,14 +192,21 @@ IsSearch-more graph goal marks new pending rest next nodes node s is lists h = r
         old (inl k) = inl (h.kept x k)
         old (inr k) = elim (Contains-push_cases rest node y (rw is at k)) [
           | inl c ↦ inr (h.waits y c)
-          | inr same ↦ inl (h.all x ((lists.each x).1 (let F : ℕ → Type 0 = λ z. HasEdge graph x z in subst F (sym same) e)))
+          | inr same ↦ inl (h.all x ((lists.each x).1 (let F : ℕ → Type 0 = λ z. Edge x z in subst F (sym same) e)))
         ]
 
 -- where none waits, exactly what reaches the goal is marked
-pub MarksAll-search : (graph : Links) (goal : ℕ) (marks : List Bool) → IsSearch graph goal marks []
-    → MarksAll (λ node. HasPath (HasEdge graph) node goal) marks
-MarksAll-search graph goal marks s x lt = (s.reaches x, (λ h. let p = leads_of (HasEdge graph) x goal h in back x p.0 p.1))
+pub MarksAll-search : (Edge : ℕ → ℕ → Type 0) (count goal : ℕ) (marks : List Bool) → IsSearch Edge count goal marks []
+    → MarksAll (λ node. HasPath Edge node goal) marks
+MarksAll-search Edge count goal marks s x lt = (s.reaches x, (λ h. let p = leads_of Edge x goal h in back x p.0 p.1))
   where
-    back : (x : ℕ) (p : List ℕ) → Leads (HasEdge graph) x p goal → IsMarked marks x
+    back : (x : ℕ) (p : List ℕ) → Leads Edge x p goal → IsMarked marks x
     back x [] e = let M : ℕ → Type 0 = λ z. IsMarked marks z in subst M (sym e) s.goal_is
     back x (y ∷ p) (e, r) = elim (s.done x y (back y p r) e) [ inl m ↦ m | inr c ↦ absurd (none_in y c) ]
+
+-- the same along the edges
+pub MarksAll-along : (Edge : ℕ → ℕ → Type 0) (count from : ℕ) (marks : List Bool) → IsSearch (Against Edge) count from marks []
+    → MarksAll (λ node. HasPath Edge from node) marks
+MarksAll-along Edge count from marks s x lt =
+    let all = MarksAll-search (Against Edge) count from marks s x lt in
+    (λ m. turned Edge x from (all.0 m), λ h. all.1 (turned (Against Edge) from x h))

@@ -10,7 +10,6 @@ ghost use Rattle.dep_graph.specs.Answers.{IsAddedAnswer};
 
 use crate::Graph;
 use crate::marks::first_marked;
-use crate::searching::nodes_reaching;
 use heat_value::Seq;
 use std::alloc::AllocError;
 
@@ -53,10 +52,10 @@ fn closing_path(graph: &Graph, before: u32, after: u32) -> Result<Option<Seq<u32
     if !may_close(graph, before, after) {
         return Ok(None);
     }
-    let reaching = nodes_reaching(graph, before)?;
-    if !reaching.as_slice()[after as usize] {
+    if !graph.reached(after)?.has(before) {
         return Ok(None);
     }
+    let reaching = graph.reaching(before)?;
     Ok(Some(least_path(graph, reaching.as_slice(), after, before)?))
 }
 

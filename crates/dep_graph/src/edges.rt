@@ -1,11 +1,11 @@
 //! A graph: each node's predecessors and successors, both rising.
 
 ghost use Rattle.std.specs.Prelude.{◌≡◌, ◌<◌, [], length, replicate, IfOk, OnOk, OnErr};
-ghost use Rattle.dep_graph.specs.Lists.{IsRising, ListsAll, PutsIn};
+ghost use Rattle.dep_graph.specs.Lists.{ListsAll};
 ghost use Rattle.dep_graph.specs.Paths.{IsAcyclic};
 ghost use Rattle.dep_graph.specs.Edges.{HasEdge, JoinsNodes, IsBare, AddsEdge};
 
-use crate::put_in;
+use crate::with_node;
 use heat_value::Seq;
 use std::alloc::{AllocError, Global};
 use std::marker::Model;
@@ -78,8 +78,8 @@ impl Graph {
         ensures err { OnErr result (self.new ≡ self.old) }
     {
         // Both lists are made before either is stored, so that want of memory changes nothing.
-        let preds = with(&self.preds[after as usize], before)?;
-        let succs = with(&self.succs[before as usize], after)?;
+        let preds = with_node(&self.preds[after as usize], before)?;
+        let succs = with_node(&self.succs[before as usize], after)?;
         self.preds[after as usize] = preds;
         self.succs[before as usize] = succs;
         Ok(())
@@ -95,14 +95,4 @@ fn empty_lists(alloc: Global, n: u32) -> Result<Vec<Seq<u32>>, AllocError>
         lists.push(Seq::new(alloc))?;
     }
     Ok(lists)
-}
-
-/// A copy of a rising list with one node put in.
-fn with(list: &Seq<u32>, node: u32) -> Result<Seq<u32>, AllocError>
-    requires { IsRising list.now }
-    ensures { IfOk result (PutsIn list.now node) }
-{
-    let mut nodes = Seq::from_vec(Vec::from_slice(list.allocator(), list.as_slice())?);
-    put_in(&mut nodes, node)?;
-    Ok(nodes)
 }

@@ -16,5 +16,6 @@ mod tests;
 pub use closing::Added;
 pub use edges::Graph;
 pub use listing::Order;
+pub use marks::Marks;
 pub use numbering::Names;
-pub use rising::put_in;
+pub use rising::{put_in, with_node};

@@ -1,6 +1,6 @@
 //! Marks on nodes, and the first of a list, or of all, that has one.
 
-ghost use Rattle.std.specs.Prelude.{◌≡◌, ◌<◌, ◌^◌, ℕ, All, Contains, IfOk, MatchOption, length, replicate, slice_set};
+ghost use Rattle.std.specs.Prelude.{◌≡◌, ◌↔◌, ◌<◌, ◌^◌, ℕ, All, Contains, IsTrue, IfOk, MatchOption, length, replicate, slice_set};
 ghost use Rattle.dep_graph.specs.Lists.{IsRising, IsLeast};
 ghost use Rattle.dep_graph.specs.Marks.{IsMarked};
 
@@ -9,7 +9,7 @@ use std::marker::Model;
 
 /// A mark or none on each node.
 #[derive(Drop)]
-pub(crate) struct Marks {
+pub struct Marks {
     all: Vec<bool>,
 }
 
@@ -29,6 +29,16 @@ impl Marks {
         Ok(Marks {
             all: vec![in alloc; mark; size as usize]?,
         })
+    }
+
+    /// Whether a node has its mark; a number past the nodes has none.
+    pub fn has(&self, node: u32) -> bool
+        ensures { IsTrue result ↔ IsMarked self.now node }
+    {
+        match self.all.get(node as usize) {
+            Some(mark) => *mark,
+            None => false,
+        }
     }
 
     /// The marks themselves.

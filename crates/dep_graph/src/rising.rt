@@ -1,6 +1,6 @@
 //! Rising lists of nodes.
 
-ghost use Rattle.std.specs.Prelude.{◌≡◌, OnErr, OnOk};
+ghost use Rattle.std.specs.Prelude.{◌≡◌, IfOk, OnErr, OnOk};
 ghost use Rattle.dep_graph.specs.Lists.{IsRising, PutsIn};
 
 use heat_value::Seq;
@@ -16,4 +16,14 @@ pub fn put_in(nodes: &mut Seq<u32>, node: u32) -> Result<(), AllocError>
         nodes.insert(place, node)?;
     }
     Ok(())
+}
+
+/// A copy of a rising list with one node put in.
+pub fn with_node(list: &Seq<u32>, node: u32) -> Result<Seq<u32>, AllocError>
+    requires { IsRising list.now }
+    ensures { IfOk result (PutsIn list.now node) }
+{
+    let mut nodes = Seq::from_vec(Vec::from_slice(list.allocator(), list.as_slice())?);
+    put_in(&mut nodes, node)?;
+    Ok(nodes)
 }

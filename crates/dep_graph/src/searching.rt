@@ -1,4 +1,4 @@
-//! Which nodes reach a given one: a search against the edges that marks what it meets.
+//! Which nodes a path joins to one: a search that marks what it meets, against the edges or along them.
 
 ghost use Rattle.std.specs.Prelude.{◌≡◌, ◌<◌, ◌≤◌, All, IfOk, OnOk, length};
 ghost use Rattle.dep_graph.specs.Paths.{HasPath};
@@ -9,20 +9,38 @@ use crate::Graph;
 use crate::marks::Marks;
 use std::alloc::AllocError;
 
-/// Marks exactly the nodes from which a path leads to the goal.
-pub(crate) fn nodes_reaching(graph: &Graph, goal: u32) -> Result<Marks, AllocError>
-    requires { goal < length graph.now }
-    ensures size { IfOk result (λ marks. length marks ≡ length graph.now) }
-    ensures exact { IfOk result (MarksAll (λ node. HasPath (HasEdge graph.now) node goal)) }
-{
-    let mut marks = Marks::new(graph.allocator(), graph.size(), false)?;
-    let mut pending = Vec::new(graph.allocator());
-    pending.push(goal)?;
-    marks.put(goal, true);
-    while let Some(node) = pending.pop() {
-        mark_new(graph.preds(node), &mut marks, &mut pending)?;
+impl Graph {
+    /// Marks exactly the nodes from which a path leads to this one, itself among them.
+    pub fn reaching(&self, goal: u32) -> Result<Marks, AllocError>
+        requires { goal < length self.now }
+        ensures size { IfOk result (λ marks. length marks ≡ length self.now) }
+        ensures exact { IfOk result (MarksAll (λ node. HasPath (HasEdge self.now) node goal)) }
+    {
+        let mut marks = Marks::new(self.allocator(), self.size(), false)?;
+        let mut pending = Vec::new(self.allocator());
+        pending.push(goal)?;
+        marks.put(goal, true);
+        while let Some(node) = pending.pop() {
+            mark_new(self.preds(node), &mut marks, &mut pending)?;
+        }
+        Ok(marks)
     }
-    Ok(marks)
+
+    /// Marks exactly the nodes to which a path leads from this one, itself among them.
+    pub fn reached(&self, from: u32) -> Result<Marks, AllocError>
+        requires { from < length self.now }
+        ensures size { IfOk result (λ marks. length marks ≡ length self.now) }
+        ensures exact { IfOk result (MarksAll (λ node. HasPath (HasEdge self.now) from node)) }
+    {
+        let mut marks = Marks::new(self.allocator(), self.size(), false)?;
+        let mut pending = Vec::new(self.allocator());
+        pending.push(from)?;
+        marks.put(from, true);
+        while let Some(node) = pending.pop() {
+            mark_new(self.succs(node), &mut marks, &mut pending)?;
+        }
+        Ok(marks)
+    }
 }
 
 /// Marks those of the nodes that have no mark yet, and lets them wait for their turn.

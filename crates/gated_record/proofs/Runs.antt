@@ -3,18 +3,18 @@ use Rattle.std.proofs.Common.{◌≡◌, ℕ, ◌+◌, ◌<◌, List, [], ◌∷
 use Rattle.std.proofs.lemmas.List.{append-nil, take_more}
 use Rattle.heat_disk.specs.declared.half.Half.{Half}
 use Rattle.heat_disk.specs.Halves.{Pair, part}
-use Rattle.heat_disk.specs.Shown.{Shown, IsLawful, LeavesOnly}
+use Rattle.heat_disk.specs.Shown.{ShownDisk, IsLawful, LeavesOnly}
 use Rattle.heat_disk.proofs.Moments.{started, joined}
 use Rattle.gated_record.specs.Records.{Record, recovered, IsWithOrWithout, IsGrown}
 use Rattle.gated_record.specs.Rest.{records_of, IsAtRest}
 
 -- so many of the records were added, and a crash left some of them
-pub record IsRun (half : Half) (count : ℕ) (old now : Shown) (others : List Record) (i : ℕ) : Type 0 where
+pub record IsRun (half : Half) (count : ℕ) (old now : ShownDisk) (others : List Record) (i : ℕ) : Type 0 where
   pub rest : IsAtRest half count now
   pub records : records_of half now ≡ records_of half old ++ take i others
   pub leaves : LeavesOnly old now (λ c. IsGrown (records_of half old) others (part half c))
 
-pub begins : (half : Half) (count : ℕ) (old : Shown) (others : List Record) → IsLawful old → IsAtRest half count old → IsRun half count old old others 0
+pub begins : (half : Half) (count : ℕ) (old : ShownDisk) (others : List Record) → IsLawful old → IsAtRest half count old → IsRun half count old old others 0
 begins half count old others law rest = record {
   rest = rest;
   records = sym (append-nil (records_of half old));
@@ -22,7 +22,7 @@ begins half count old others law rest = record {
       (λ c now. (0, omega arith, ap recovered (rest.durable c now) ∙ sym (append-nil (records_of half old))));
 }
 
-module _ (half : Half) (count : ℕ) (old mid new : Shown) (others : List Record) (i : ℕ) (d : Record) (less : i < length others) (so_far : IsRun half count old mid others i)
+module _ (half : Half) (count : ℕ) (old mid new : ShownDisk) (others : List Record) (i : ℕ) (d : Record) (less : i < length others) (so_far : IsRun half count old mid others i)
     (leaves : LeavesOnly mid new (λ c. IsWithOrWithout (records_of half mid) (get_or others i d) (part half c))) where
   more : records_of half mid ++ get_or others i d ∷ [] ≡ records_of half old ++ take (i + 1) others
   more =

@@ -4,7 +4,7 @@ use Rattle.heat_disk.specs.declared.half.Half.{Half}
 use Rattle.heat_disk.specs.declared.disk.DiskFailed.{DiskFailed}
 use Rattle.heat_disk.specs.Halves.{Pair, part, changed}
 use Rattle.heat_disk.specs.Images.{overwritten, Torn, Only}
-use Rattle.heat_disk.specs.Shown.{Shown, Elapses, SameContent, IsLawful, LeavesOnly}
+use Rattle.heat_disk.specs.Shown.{ShownDisk, Elapses, SameContent, IsLawful, LeavesOnly}
 use Rattle.heat_disk.specs.Calls.{Writes, Syncs}
 use Rattle.heat_disk.proofs.Moments.{started, goes_on, stays_same}
 use Rattle.heat_disk.proofs.Parts.{part-changed}
@@ -14,14 +14,14 @@ use Rattle.gated_record.proofs.Blocks.{recovered_closed}
 use Rattle.gated_record.proofs.Crash.{staged, length-at_rest, torn_behind, written_behind, length-staged, torn_gate, written_gate}
 
 -- a run so far, and what a crash may leave at its end
-pub record SoFar (old now : Shown) (P : Pair → Type 0) : Type 0 where
+pub record SoFar (old now : ShownDisk) (P : Pair → Type 0) : Type 0 where
   pub leaves : LeavesOnly old now P
   pub here : (c : Pair) → now.may_leave c → P c
 
-next : (old mid new : Shown) (P : Pair → Type 0) → SoFar old mid P → Elapses mid new → ((c : Pair) → new.may_leave c → P c) → SoFar old new P
+next : (old mid new : ShownDisk) (P : Pair → Type 0) → SoFar old mid P → Elapses mid new → ((c : Pair) → new.may_leave c → P c) → SoFar old new P
 next old mid new P so_far time here = record { leaves = goes_on old mid new P so_far.leaves time here; here = here }
 
-module _ (half : Half) (count key value : ℕ) (old : Shown) (law : IsLawful old) (rest : IsAtRest half count old) where
+module _ (half : Half) (count key value : ℕ) (old : ShownDisk) (law : IsLawful old) (rest : IsAtRest half count old) where
   records : List Record
   records = records_of half old
 
@@ -36,7 +36,7 @@ module _ (half : Half) (count key value : ℕ) (old : Shown) (law : IsLawful old
   either : (c : Pair) → Without c → Either c
   either c same = inl same
 
-  module _ (roomed : Shown) (takes : SameContent old roomed) where
+  module _ (roomed : ShownDisk) (takes : SameContent old roomed) where
     at_roomed : SoFar old roomed Either
     at_roomed =
         let first : SoFar old old Either = record { leaves = started old Either law (λ c now. inl (ap recovered (rest.durable c now))); here = λ c now. inl (ap recovered (rest.durable c now)) } in
@@ -51,7 +51,7 @@ module _ (half : Half) (count key value : ℕ) (old : Shown) (law : IsLawful old
     pub fits : 3 * count + 1 ≤ length (part half roomed.seen)
     fits = omega (arith, ap length bytes_are, length-at_rest (records_of half old) count rest.count_is)
 
-    module _ (first : Shown) (one : Result (Unit {0}) DiskFailed) (writes : Writes half (3 * count + 1) (key ∷ value ∷ 0 ∷ []) one roomed first) where
+    module _ (first : ShownDisk) (one : Result (Unit {0}) DiskFailed) (writes : Writes half (3 * count + 1) (key ∷ value ∷ 0 ∷ []) one roomed first) where
       without : (c : Pair) → first.may_leave c → Without c
       without c now =
           let from = writes.crash c now in
@@ -64,7 +64,7 @@ module _ (half : Half) (count key value : ℕ) (old : Shown) (law : IsLawful old
       pub leaves_first : LeavesOnly old first Either
       leaves_first = at_first.leaves
 
-      module _ (staged_on : Shown) (two : Result (Unit {0}) DiskFailed) (syncs : Syncs half two first staged_on) where
+      module _ (staged_on : ShownDisk) (two : Result (Unit {0}) DiskFailed) (syncs : Syncs half two first staged_on) where
         at_staged : SoFar old staged_on Either
         at_staged = next old first staged_on Either at_first syncs.alike.time (λ c now. inl (without c (syncs.alike.crash c now)))
 
@@ -85,7 +85,7 @@ module _ (half : Half) (count key value : ℕ) (old : Shown) (law : IsLawful old
           pub fits_gate : 3 * count ≤ length (part half staged_on.seen)
           fits_gate = omega (arith, ap length staged_is, length-staged (records_of half old) count rest.count_is key value)
 
-          module _ (durable : Only half (part half first.seen) staged_on.may_leave) (third : Shown) (three : Result (Unit {0}) DiskFailed) (opens : Writes half (3 * count) (1 ∷ []) three staged_on third) where
+          module _ (durable : Only half (part half first.seen) staged_on.may_leave) (third : ShownDisk) (three : Result (Unit {0}) DiskFailed) (opens : Writes half (3 * count) (1 ∷ []) three staged_on third) where
             with_or_without : (c : Pair) → third.may_leave c → Either c
             with_or_without c now =
                 let from = opens.crash c now in
@@ -98,7 +98,7 @@ module _ (half : Half) (count key value : ℕ) (old : Shown) (law : IsLawful old
             pub leaves_third : LeavesOnly old third Either
             leaves_third = at_third.leaves
 
-            module _ (last : Shown) (four : Result (Unit {0}) DiskFailed) (ends : Syncs half four third last) where
+            module _ (last : ShownDisk) (four : Result (Unit {0}) DiskFailed) (ends : Syncs half four third last) where
               pub leaves_last : LeavesOnly old last Either
               leaves_last = goes_on old third last Either at_third.leaves ends.alike.time (λ c now. with_or_without c (ends.alike.crash c now))
 

@@ -2,7 +2,7 @@
 ghost use Rattle.std.specs.Prelude.{◌≡◌, ◌+◌, ◌*◌, ◌<◌, ◌≤◌, ◌^◌, ◌↔◌, ◌++◌, [], ◌∷◌, length, IsTrue, OnOk, IsErrOf};
 ghost use Rattle.heat_disk.specs.Halves.{part};
 ghost use Rattle.heat_disk.specs.Shown.{LeavesOnly, SameContent, IsDurable};
-ghost use Rattle.heat_disk.specs.Causes.{Rose};
+ghost use Rattle.heat_value.specs.Counts.{Rose};
 ghost use Rattle.gated_record.specs.Records.{recovered, IsWithOrWithout, IsGrown};
 ghost use Rattle.gated_record.specs.Rest.{records_of, IsAtRest};
 

@@ -27,7 +27,8 @@ module _ (c : Token → List TokenState) (stack : List ℕ) where
     by : (b : Bool) → bytes_eq token.stack stack ≡ b → All IsListed (if b then with_states c token ∷ [] else [])
     by true is = All-more IsListed (with_states c token) [] (record { states = refl; stack_is = (bytes_eq-Decides token.stack stack).0 is }) (All-none IsListed)
     by false is = All-none IsListed
-  by_listed (what.Command name trav act plan) = All-none IsListed
+  by_listed (what.Command name trav act plan rollback) = All-none IsListed
+  by_listed (what.Release token) = All-none IsListed
   by_listed (what.Mark name trav act cause) = All-none IsListed
   by_listed (what.Rows writes) = All-none IsListed
   by_listed (what.Mail writes) = All-none IsListed
@@ -50,7 +51,8 @@ module _ (c : Token → List TokenState) (stack : List ℕ) where
           (any_first (λ (p : Possible). p.token ≡ t) (with_states c token) [] is))
       | inr ne ↦ inr (λ states. rw (same_token-other token t ne) refl)
     ]
-    by_called (what.Command name trav act plan) = inr (λ states. refl)
+    by_called (what.Command name trav act plan rollback) = inr (λ states. refl)
+    by_called (what.Release token) = inr (λ states. refl)
     by_called (what.Mark name trav act cause) = inr (λ states. refl)
     by_called (what.Rows writes) = inr (λ states. refl)
     by_called (what.Mail writes) = inr (λ states. refl)

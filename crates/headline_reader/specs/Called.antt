@@ -19,7 +19,8 @@ with_states c t = record { token = t; states = c t }
 -- a call on the stack names its token
 abbrev pub called_by : (Token → List TokenState) → List ℕ → What → List Possible
 called_by c stack (what.Call token request given) = if bytes_eq token.stack stack then with_states c token ∷ [] else []
-called_by c stack (what.Command name trav act plan) = []
+called_by c stack (what.Command name trav act plan rollback) = []
+called_by c stack (what.Release token) = []
 called_by c stack (what.Mark name trav act cause) = []
 called_by c stack (what.Rows writes) = []
 called_by c stack (what.Mail writes) = []

@@ -3,9 +3,8 @@ ghost use Rattle.std.specs.Prelude.{◌≡◌, ◌∷◌, ◌++◌, [], IfOk, On
 ghost use Rattle.provider.specs.Table.{after, after_each, once, same_state};
 
 use crate::living::{Living, same_state};
-use core_state::copy_option;
 use heat_plan::{Answered, Properties, Request};
-use heat_value::{Seq, Text, TryCopy};
+use heat_value::{Seq, Text, TryCopy, copy_option};
 use std::alloc::{AllocError, Global};
 
 /// The states in which a token may be after this answer to this request; none where it can't come.

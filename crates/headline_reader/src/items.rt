@@ -6,6 +6,7 @@ use crate::certain::{is_alive, is_ready, sole};
 use crate::living::Living;
 use crate::possible::Possible;
 use heat_plan::{Item, ResName};
+use heat_value::Equals;
 
 /// Whether the item's one resource is there as it asks, and what it needs is there too.
 #[tactic(auto, unfolding(crate::specs::Items::HasItem))]

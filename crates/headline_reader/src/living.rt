@@ -3,9 +3,8 @@ ghost use Rattle.std.specs.Prelude.{◌≡◌, IfOk};
 ghost use Rattle.provider.specs.Same.{same_members, same_facts};
 ghost use Rattle.provider.specs.Table.{begun, updated, going, told, same_told, same_state};
 
-use core_state::copy_option;
 use heat_plan::{Facts, Properties};
-use heat_value::{Text, TryCopy};
+use heat_value::{Equals, Text, TryCopy, copy_option};
 use std::alloc::AllocError;
 use std::marker::Model;
 

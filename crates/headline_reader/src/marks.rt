@@ -8,7 +8,7 @@ use core_state::{Cause, Entry, What};
 use heat_plan::{StackName, Status};
 
 /// None where the stack had no command, InProgress where its newest traversal has no mark.
-#[tactic(auto, unfolding(core_state::specs::Tables::at))]
+#[tactic(auto, unfolding(heat_plan::specs::Tables::at))]
 pub fn mark_of(entries: &[Entry], stack: &StackName) -> Option<Status>
     ensures { (leaving : Token → Bool)
         → result ≡ mark_of (empty_opening leaving) entries.now stack.now }

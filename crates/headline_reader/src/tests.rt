@@ -6,8 +6,8 @@ ghost use Rattle.core_laws.specs.Runs.{HasNoNeeds};
 use crate::{Living, could, fits, mark_of, newest, stored};
 use book::{Book, Opened, StackCommand, Turn};
 use core_state::{Entry, What};
-use heat_plan::{Plan, Status, Token};
-use heat_value::{Props, Seq, Text};
+use heat_plan::{Parameters, Plan, Status, Token};
+use heat_value::{Seq, Text};
 use script_lines::Command;
 use sim_cloud::{Settings, SimCloud};
 use std::alloc::{AllocError, Global};
@@ -45,14 +45,7 @@ struct Case<'a> {
 }
 
 fn empty_cloud(alloc: Global) -> Result<SimCloud, AllocError> {
-    SimCloud::new(Settings {
-        alive: Seq::new(alloc),
-        quotas: Seq::new(alloc),
-        delays: Seq::new(alloc),
-        broken: Seq::new(alloc),
-        faults: Seq::new(alloc),
-        late: Seq::new(alloc),
-    })
+    SimCloud::new(Settings::empty(alloc))
 }
 
 /// A plan of nothing.
@@ -60,7 +53,7 @@ fn no_plan(alloc: Global) -> Plan {
     Plan::new(
         Seq::new(alloc),
         Seq::new(alloc),
-        Props::new(alloc),
+        Parameters::new(alloc),
         Seq::new(alloc),
         Seq::new(alloc),
         Seq::new(alloc),

@@ -4,8 +4,9 @@ ghost use Rattle.heat_plan.specs.declared.token.Token.{Token};
 ghost use Rattle.core_laws.specs.Opening.{empty_opening};
 ghost use Rattle.core_laws.specs.Newest.{newest, newest_by};
 
-use core_state::{Entry, What, copy_option};
+use core_state::{Entry, What};
 use heat_plan::{Act, Plan, StackName, TravNo};
+use heat_value::copy_option;
 use std::alloc::AllocError;
 use std::marker::Model;
 
@@ -39,7 +40,7 @@ impl Latest {
 }
 
 /// The newest traversal of a stack; none where it had no command.
-#[tactic(auto, unfolding(core_state::specs::Tables::at))]
+#[tactic(auto, unfolding(heat_plan::specs::Tables::at))]
 pub fn newest(entries: &[Entry], stack: &StackName) -> Result<Option<Latest>, AllocError>
     ensures { (leaving : Token → Bool)
         → IfOk result (λ l. l ≡ newest (empty_opening leaving) entries.now stack.now) }
@@ -65,6 +66,7 @@ fn newest_by(
             trav,
             act,
             plan,
+            ..
         } if commanded == stack => Ok(Some(Latest {
             trav: *trav,
             act: *act,

@@ -1,5 +1,1 @@
-pub mod Turns
-pub mod Lines
-pub mod Notes
-pub mod Drives
-pub mod Exits
+pub mod Said

@@ -1,37 +1,26 @@
-//! Drives stacks of resources to their templates, by a script on standard input. The report goes to
-//! standard output. So far the cloud is a simulated one, which is empty at first.
+//! The program: drives stacks of resources to their templates, by a script on standard input, with the
+//! report on standard output. It hands the top call an empty simulated cloud and the adapters over std,
+//! says on standard error how it ended, and does nothing else itself.
 #![tactic(auto)]
 
-mod converge;
-mod drive;
-mod exit;
-mod line;
-mod ran;
 #[cfg(test)]
 mod readings;
+mod said;
 #[cfg(test)]
 mod tests;
-mod words;
 
-use converge::{Outcome, converge};
-use exit::Exit;
+use converge_call::{Exit, Outcome, converge};
 use heat_io::{StdSink, StdSource};
-use heat_value::{Seq, Text};
+use heat_value::Text;
+use said::words_for;
 use sim_cloud::{Settings, SimCloud};
 use std::alloc::{AllocError, Global};
-use std::env;
 use std::process::ExitCode;
+use std::{env, io};
 
 // An empty cloud.
 fn empty_cloud(alloc: Global) -> Result<SimCloud, AllocError> {
-    SimCloud::new(Settings {
-        alive: Seq::new(alloc),
-        quotas: Seq::new(alloc),
-        delays: Seq::new(alloc),
-        broken: Seq::new(alloc),
-        faults: Seq::new(alloc),
-        late: Seq::new(alloc),
-    })
+    SimCloud::new(Settings::empty(alloc))
 }
 
 // The words behind the program's name.
@@ -43,29 +32,38 @@ fn words_of_args(alloc: Global, args: env::Args) -> Result<Vec<Text>, AllocError
     Ok(words)
 }
 
-fn main(rt: HostRuntime) -> ExitCode {
+// How the program ends where its words can't be had: one that isn't UTF-8 is of no form.
+fn without_words(error: &io::Error) -> Exit {
+    if error.kind() == io::ErrorKind::InvalidData {
+        Exit::Usage
+    } else {
+        Exit::Memory
+    }
+}
+
+// Drives an empty cloud by standard input, as the words say.
+fn run(rt: &HostRuntime) -> Result<Exit, AllocError> {
     let alloc = rt.alloc();
-    let status = match (env::args(&rt), empty_cloud(alloc)) {
-        (Ok(args), Ok(cloud)) => match words_of_args(alloc, args) {
-            Ok(words) => {
-                let mut source = StdSource::new(rt.reader());
-                let mut sink = StdSink::new(std::io::writer(&rt));
-                let Outcome { status, end } = converge(
-                    alloc,
-                    &words,
-                    &mut source,
-                    &mut sink,
-                    cloud,
-                );
-                let _cloud = end.give_back();
-                status
-            }
-            Err(_) => Exit::Memory,
-        },
-        _ => Exit::Memory,
+    let args = match env::args(rt) {
+        Ok(args) => args,
+        Err(error) => return Ok(without_words(&error)),
+    };
+    let words = words_of_args(alloc, args)?;
+    let cloud = empty_cloud(alloc)?;
+    let mut source = StdSource::new(rt.reader());
+    let mut sink = StdSink::new(io::writer(rt));
+    let Outcome { status, end } = converge(alloc, &words, &mut source, &mut sink, cloud);
+    let _cloud = end.give_back();
+    Ok(status)
+}
+
+fn main(rt: HostRuntime) -> ExitCode {
+    let status = match run(&rt) {
+        Ok(status) => status,
+        Err(_) => Exit::Memory,
     };
     if status != Exit::Done {
-        let words = status.words();
+        let words = words_for(status);
         let _ = eprintln!(rt; "heat_converge: {words}");
     }
     ExitCode::from(status.code())

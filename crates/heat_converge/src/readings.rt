@@ -1,9 +1,9 @@
 //! The histories that the top call writes for the rows, as the plain program for the headline's words
 //! reads them.
-use crate::converge::{End, Outcome, converge};
 use crate::empty_cloud;
 use crate::tests::{CREATE, joined, texts};
 use book::Book;
+use converge_call::{End, Outcome, converge};
 use core_state::Entry;
 use headline_reader::{fits, mark_of, newest};
 use heat_io::{MemSink, MemSource};

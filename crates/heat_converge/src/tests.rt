@@ -1,13 +1,12 @@
 //! Whole scripts with their outputs, and a source and a sink that fail at each call in turn.
 ghost use Rattle.std.specs.Prelude.{◌<◌};
 
-use crate::converge::{Outcome, converge};
 use crate::empty_cloud;
-use crate::exit::Exit;
+use converge_call::{Exit, Outcome, converge};
 use heat_io::{MemSink, MemSource};
 use heat_value::{Seq, Text};
 use provider::Provider;
-use scripted_cloud::{ScriptedCloud, Turn};
+use scripted_cloud::{ScriptedAnswer, ScriptedCloud};
 use sim_cloud::KindQuota;
 use std::alloc::{AllocError, Global};
 use std::test::Fail;
@@ -216,27 +215,27 @@ fn scripts_have_their_outputs(rt: HostRuntime) -> Result<(), Fail> {
     Ok(())
 }
 
-/// The turn of a script: a digit works with so many polls left, `f` fails, `l` fails late, `b` breaks.
-fn script_turn(alloc: Global, letter: u8) -> Result<Turn, AllocError> {
+/// A scripted answer: a digit works with so many polls left, `f` fails, `l` fails late, `b` breaks.
+fn scripted_answer(alloc: Global, letter: u8) -> Result<ScriptedAnswer, AllocError> {
     match letter {
-        b'f' => Ok(Turn::Fails),
-        b'l' => Ok(Turn::FailsLate(0)),
-        b'b' => Ok(Turn::Breaks(Text::from_str(alloc, "X1")?)),
-        b'1' => Ok(Turn::Works(1)),
-        _ => Ok(Turn::Works(0)),
+        b'f' => Ok(ScriptedAnswer::Fails),
+        b'l' => Ok(ScriptedAnswer::FailsLate(0)),
+        b'b' => Ok(ScriptedAnswer::Breaks(Text::from_str(alloc, "X1")?)),
+        b'1' => Ok(ScriptedAnswer::Works(1)),
+        _ => Ok(ScriptedAnswer::Works(0)),
     }
 }
 
-/// A cloud that takes at most so many boxes, and follows these turns.
-fn scripted(alloc: Global, most: u32, turns: &[u8]) -> Result<ScriptedCloud, AllocError> {
-    let mut script = Seq::new(alloc);
-    for letter in turns {
-        script.push(script_turn(alloc, *letter)?)?;
+/// A cloud that takes at most so many boxes, and answers so.
+fn scripted(alloc: Global, most: u32, letters: &[u8]) -> Result<ScriptedCloud, AllocError> {
+    let mut answers = Seq::new(alloc);
+    for letter in letters {
+        answers.push(scripted_answer(alloc, *letter)?)?;
     }
     let kind = Text::from_str(alloc, "Test::Box")?;
     let mut quotas = Seq::new(alloc);
     quotas.push(KindQuota { kind, most })?;
-    Ok(ScriptedCloud::new(alloc, quotas, script))
+    Ok(ScriptedCloud::new(alloc, quotas, answers))
 }
 
 /// Whether a create and a run over this cloud end well and write so.
@@ -253,7 +252,7 @@ fn runs_with(alloc: Global, cloud: ScriptedCloud, out: &[&str]) -> Result<bool, 
 /// What is written where the resource fails, but for why and how many turns were made.
 const FAILED: &str = "resource s a 1 CREATE_FAILED\nstack s 1 CREATE_FAILED a 1 create ";
 
-/// A name, the quota, the cloud's turns, and what is written behind the create.
+/// A name, the quota, the cloud's answers, and what is written behind the create.
 const ANSWERS: &[(&str, u32, &[u8], &[&str])] = &[
     ("ready", 1, b"00", &[CREATED, BEGUN, COMPLETED, "idle 5\n"]),
     (

@@ -4,7 +4,7 @@ use Rattle.heat_disk.specs.declared.half.Half.{Half}
 use Rattle.heat_disk.specs.declared.half.Half.TheVariants.{First, Second}
 use Rattle.heat_disk.specs.Halves.{Pair, part}
 use Rattle.heat_disk.specs.Images.{Torn, Cut, Follows, Only}
-use Rattle.heat_disk.specs.Shown.{Room, Shown, Elapses}
+use Rattle.heat_disk.specs.Shown.{Room, ShownDisk, Elapses}
 use Rattle.heat_disk.specs.Calls.{ReadsAlike, Writes, Cuts, Syncs}
 use Rattle.heat_disk.specs.History.{wrote, cut_to, synced, Call, MayLeave, side, sides, seen_of, LeavesPair, shown_of}
 use Rattle.heat_disk.specs.Memory.{Kept, counted, done, shown_by}
@@ -12,7 +12,7 @@ use Rattle.heat_disk.specs.Sound.{sound_side}
 use Rattle.heat_disk.proofs.Breaks.{torn_from, cut_from, only_resting}
 
 module _ (start : Pair) (calls : List Call) (room later : Room × Room) where
-  before : Shown
+  before : ShownDisk
   before = shown_of start calls room
 
   elapses_call : (call : Call) → Elapses (shown_of start calls room) (shown_of start (call ∷ calls) later)

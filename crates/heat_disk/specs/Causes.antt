@@ -1,9 +1,6 @@
 -- When a disk may say that it failed.
-use Rattle.std.specs.Prelude.{ℕ, ◌+◌, ◌-◌, ◌^◌, ◌≤◌, min, Result, OnErr}
-
--- the count rose, or stands at the last number that it can have
-abbrev pub Rose : ℕ → ℕ → Type 0
-Rose before now = min (before + 1) (2 ^ 64 - 1) ≤ now
+use Rattle.std.specs.Prelude.{ℕ, ◌≤◌, Result, OnErr}
+use Rattle.heat_value.specs.Counts.{Rose}
 
 -- the count doesn't fall, and a call that failed has raised it
 pub record HasCause {T E : Type 0} (before now : ℕ) (result : Result T E) : Type 0 where

@@ -2,14 +2,14 @@
 use Rattle.std.specs.Prelude.{ℕ, false, []}
 use Rattle.heat_disk.specs.declared.file.FileDisk.{FileDisk}
 use Rattle.heat_disk.specs.declared.file.Opened.{Opened}
-use Rattle.heat_disk.specs.Shown.{Room, Shown}
+use Rattle.heat_disk.specs.Shown.{Room, ShownDisk}
 
 -- the room of one file
 abbrev pub room_of : Opened → Room
 room_of opened = record { end = opened.end; bytes = opened.bytes; calls = opened.calls }
 
 -- its room alone has a meaning
-abbrev pub files_shown : FileDisk → Shown
+abbrev pub files_shown : FileDisk → ShownDisk
 files_shown disk = record {
   tells = false;
   seen = ([], []);

@@ -1,7 +1,7 @@
 -- What a fuse holds, and what a call spends of it.
 use Rattle.std.specs.Prelude.{◌≡◌, ℕ, ◌-◌, ◌<◌, Result, IsErr}
 use Rattle.heat_disk.specs.declared.fuse.Fuse.{Fuse}
-use Rattle.heat_disk.specs.Causes.{Rose}
+use Rattle.heat_value.specs.Counts.{Rose}
 
 -- the disk behind it
 abbrev pub disk_of : {D : Type 0} → Fuse D → D

@@ -4,7 +4,7 @@ use Rattle.heat_disk.specs.declared.half.Half.{Half}
 use Rattle.heat_disk.specs.declared.half.Half.TheVariants.{First, Second}
 use Rattle.heat_disk.specs.Halves.{Pair}
 use Rattle.heat_disk.specs.Images.{overwritten}
-use Rattle.heat_disk.specs.Shown.{Room, Shown}
+use Rattle.heat_disk.specs.Shown.{Room, ShownDisk}
 
 -- what was done to a half
 pub data Step : Type 0 where
@@ -102,7 +102,7 @@ LeftSince start (call ∷ earlier) t image =
     LeavesPair (sides start (call ∷ earlier)) image ⊎ (t ≤ length earlier × LeftSince start earlier t image)
 
 -- what a disk shows that began with these bytes and keeps its calls
-abbrev pub shown_of : Pair → List Call → Room × Room → Shown
+abbrev pub shown_of : Pair → List Call → Room × Room → ShownDisk
 shown_of start calls room = record {
   tells = true;
   seen = seen_of (sides start calls);

@@ -3,11 +3,11 @@ use Rattle.std.specs.Prelude.{◌≡◌, ℕ, ◌+◌, ◌-◌, ◌≤◌, ◌^�
 use Rattle.std.specs.List.{list_any}
 use Rattle.heat_disk.specs.declared.half.Half.{Half}
 use Rattle.heat_disk.specs.Halves.{Pair, changed}
-use Rattle.heat_disk.specs.Shown.{Room, Shown}
+use Rattle.heat_disk.specs.Shown.{Room, ShownDisk}
 use Rattle.heat_disk.specs.History.{Step, wrote, cut_to, synced, Call, shown_of}
 
 -- one half: what it began with, what it holds, and its room
-pub record Held : Type 0 where
+pub record HeldHalf : Type 0 where
   pub start : List ℕ
   pub held : List ℕ
   pub room : Room
@@ -42,7 +42,7 @@ abbrev pub fresh : Pair → List ℕ → Kept
 fresh start fails = record { start = start; calls = []; room = (no_room, no_room); fails = fails; numbered = 0; faults = 0 }
 
 -- what it shows
-abbrev pub shown_by : Kept → Shown
+abbrev pub shown_by : Kept → ShownDisk
 shown_by disk = shown_of disk.start disk.calls disk.room
 
 -- The next call is one of those that fail. Numbers end at the last of 64 bits.
@@ -95,6 +95,6 @@ pub record IsNumbered {T E : Type 0} (work : Kept → Kept) (result : Result T E
   pub after : new ≡ cond (fails_next old) (counted old) (work (counted old))
 
 -- no image that a crash of the first may leave has a longer half
-pub record IsLongest (disk : Shown) (crashed : Kept) : Type 0 where
+pub record IsLongest (disk : ShownDisk) (crashed : Kept) : Type 0 where
   pub first : (c : Pair) → disk.may_leave c → length c.0 ≤ length (shown_by crashed).seen.0
   pub second : (c : Pair) → disk.may_leave c → length c.1 ≤ length (shown_by crashed).seen.1

@@ -10,7 +10,7 @@ pub record Room : Type 0 where
   pub calls : ℕ
 
 -- What a disk shows. Where it doesn't tell its content, the room alone has a meaning.
-pub record Shown : Type 1 where
+pub record ShownDisk : Type 1 where
   -- it tells its content, and what a crash makes of it
   pub tells : Bool
   -- what a read gives
@@ -43,25 +43,25 @@ pub record IsAtLeast (end bytes calls : ℕ) (room : Room) : Type 0 where
   pub often : calls ≤ room.calls
 
 -- a call spends so much of one half's room and none of the other's
-pub record Spends (half : Half) (calls bytes : ℕ) (old new : Shown) : Type 0 where
+pub record Spends (half : Half) (calls bytes : ℕ) (old new : ShownDisk) : Type 0 where
   pub here : IsLeft calls bytes (part half old.room) (part half new.room)
   pub other : IsLeft 0 0 (beside half old.room) (beside half new.room)
 
 -- a crash since t might have left what it might have left before, or what it may leave now
-pub record Elapses (old new : Shown) : Type 0 where
+pub record Elapses (old new : ShownDisk) : Type 0 where
   pub later : old.moment ≤ new.moment
   pub nothing_else : (t : ℕ) (c : Pair) → t ≤ old.moment → new.left_since t c → old.left_since t c ⊎ new.may_leave c
   pub keeps : (t : ℕ) (c : Pair) → t ≤ old.moment → old.left_since t c → new.left_since t c
 
 -- all but the room is as before
-pub record SameContent (old new : Shown) : Type 0 where
+pub record SameContent (old new : ShownDisk) : Type 0 where
   pub seen : new.seen ≡ old.seen
   pub crash : (c : Pair) → new.may_leave c ↔ old.may_leave c
   pub moment : new.moment ≡ old.moment
   pub since : (t : ℕ) (c : Pair) → new.left_since t c ↔ old.left_since t c
 
 -- what holds of a disk that tells its content, at every moment
-pub record IsLawful (disk : Shown) : Type 0 where
+pub record IsLawful (disk : ShownDisk) : Type 0 where
   -- what it reads as is one of its images
   pub reads : disk.may_leave disk.seen
   -- now is one of the moments since an earlier one
@@ -72,11 +72,11 @@ pub record IsLawful (disk : Shown) : Type 0 where
   pub widens : (t u : ℕ) (c : Pair) → t ≤ u → disk.left_since u c → disk.left_since t c
 
 -- a crash now leaves both halves as they read
-abbrev pub IsDurable : Shown → Type 0
+abbrev pub IsDurable : ShownDisk → Type 0
 IsDurable disk = (c : Pair) → disk.may_leave c → c ≡ disk.seen
 
 -- A crash at any moment since old leaves an image that has P.
-pub record LeavesOnly (old new : Shown) (P : Pair → Type 0) : Type 0 where
+pub record LeavesOnly (old new : ShownDisk) (P : Pair → Type 0) : Type 0 where
   pub later : old.moment ≤ new.moment
   pub each : (c : Pair) → new.left_since old.moment c → P c
   -- for a run that began earlier

@@ -19,9 +19,9 @@ pub(crate) struct Content {
 
 impl Model for Content {
     ghost use Rattle.std.specs.Prelude.{◌≤◌, vec_capacity};
-    ghost use Rattle.heat_disk.specs.Memory.{Held};
+    ghost use Rattle.heat_disk.specs.Memory.{HeldHalf};
 
-    ghost Value = { Held };
+    ghost Value = { HeldHalf };
 
     ghost view = { λ a. record {
       start = a.start.items;

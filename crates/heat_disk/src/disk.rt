@@ -2,7 +2,7 @@
 //! tell its content, the clauses on its room and its faults alone say something.
 ghost use Rattle.std.specs.Prelude.{◌≡◌, ℕ, ◌≤◌, length, IsTrue, IfOk, OnOk, OnErr};
 ghost use Rattle.heat_disk.specs.Halves.{part, beside};
-ghost use Rattle.heat_disk.specs.Shown.{Shown, HasRoom, IsLeft, IsAtLeast, Spends, SameContent, IsLawful};
+ghost use Rattle.heat_disk.specs.Shown.{ShownDisk, HasRoom, IsLeft, IsAtLeast, Spends, SameContent, IsLawful};
 ghost use Rattle.heat_disk.specs.Calls.{Measures, Reads, Writes, Cuts, Syncs};
 ghost use Rattle.heat_disk.specs.Causes.{HasCause};
 
@@ -15,7 +15,7 @@ pub struct DiskFailed;
 
 pub trait Disk {
     /// What it tells, reads as, may leave after a crash, and has room for.
-    ghost shown: { Self → Shown };
+    ghost shown: { Self → ShownDisk };
 
     /// How often it has failed. The count never falls.
     ghost faults: { Self → ℕ };

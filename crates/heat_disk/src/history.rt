@@ -17,7 +17,7 @@ pub(crate) enum Act {
 }
 
 impl Act {
-    /// How many bytes of the store are the event's.
+    // How many bytes of the store are the event's.
     fn size(self) -> usize
         ensures { result ≡ size_of self }
     {
@@ -27,7 +27,7 @@ impl Act {
         }
     }
 
-    /// Takes the bytes of a half and its longest image through the step.
+    // Takes the bytes of a half and its longest image through the step.
     fn replay(
         self,
         bytes: &[u8],

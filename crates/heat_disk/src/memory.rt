@@ -161,7 +161,7 @@ impl MemDisk {
         }
     }
 
-    /// The bytes of one image that a crash may leave of the half.
+    // The bytes of one image that a crash may leave of the half.
     fn image(&self, half: Half, fill: Option<u8>) -> Result<Vec<u8>, AllocError>
         ensures { IfOk result (λ image. image.items
             ≡ part half (image_of fill (sides self.now.start self.now.calls))) }

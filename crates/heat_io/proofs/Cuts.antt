@@ -4,7 +4,7 @@ use Rattle.std.specs.Io.BufRead.{strip_last}
 use Rattle.std.proofs.lemmas.List.{drop-append-le}
 use Rattle.std.proofs.Math.ListN.{drop_of_length-le}
 use Rattle.heat_io.proofs.Ends.{position_or_len-within}
-use Rattle.heat_io.specs.Lines.{is_lf, onto_first, lines_of, length_of_line, behind_line, size_of_line}
+use Rattle.heat_io.specs.Lines.{is_lf, onto_first, cut_lines, length_of_line, behind_line, size_of_line}
 
 -- a byte in front of two or more changes nothing at their end
 pub strip_last-cons : (byte b c : ℕ) (xs : List ℕ) → strip_last byte (b ∷ c ∷ xs) ≡ b ∷ strip_last byte (c ∷ xs)
@@ -12,7 +12,7 @@ strip_last-cons byte b c xs = grind arith
 
 -- the first line ends at an LF
 abbrev EndsAtLf : List ℕ → Type 0
-EndsAtLf xs = length_of_line xs < length xs → lines_of xs ≡ strip_last 13 (take (length_of_line xs) xs) ∷ lines_of (behind_line xs)
+EndsAtLf xs = length_of_line xs < length xs → cut_lines xs ≡ strip_last 13 (take (length_of_line xs) xs) ∷ cut_lines (behind_line xs)
 
 -- a byte in front that is no LF
 length_of_line-cons : (b : ℕ) (xs : List ℕ) → is_lf b ≡ false → length_of_line (b ∷ xs) ≡ suc (length_of_line xs)
@@ -21,35 +21,35 @@ length_of_line-cons b xs inner = grind (arith, inner)
 behind_line-cons : (b : ℕ) (xs : List ℕ) → is_lf b ≡ false → behind_line (b ∷ xs) ≡ behind_line xs
 behind_line-cons b xs inner = rw (length_of_line-cons b xs inner) (grind arith)
 
-lines_of-inner : (b c : ℕ) (xs : List ℕ) → is_lf b ≡ false → is_lf c ≡ false → lines_of (b ∷ c ∷ xs) ≡ onto_first b (lines_of (c ∷ xs))
-lines_of-inner b c xs b_is c_is = grind (arith, b_is, c_is)
+cut_lines-inner : (b c : ℕ) (xs : List ℕ) → is_lf b ≡ false → is_lf c ≡ false → cut_lines (b ∷ c ∷ xs) ≡ onto_first b (cut_lines (c ∷ xs))
+cut_lines-inner b c xs b_is c_is = grind (arith, b_is, c_is)
 
 -- by the first two bytes
-lines_of-two : (b c : ℕ) (xs : List ℕ) (b_ends c_ends : Bool) → is_lf b ≡ b_ends → is_lf c ≡ c_ends → EndsAtLf (c ∷ xs) → EndsAtLf (b ∷ c ∷ xs)
-lines_of-two b c xs true c_ends b_is c_is rest lt = grind (arith, b_is)
-lines_of-two b c xs false true b_is c_is rest lt = grind (arith, b_is, c_is, rest)
-lines_of-two b c xs false false b_is c_is rest lt =
+cut_lines-two : (b c : ℕ) (xs : List ℕ) (b_ends c_ends : Bool) → is_lf b ≡ b_ends → is_lf c ≡ c_ends → EndsAtLf (c ∷ xs) → EndsAtLf (b ∷ c ∷ xs)
+cut_lines-two b c xs true c_ends b_is c_is rest lt = grind (arith, b_is)
+cut_lines-two b c xs false true b_is c_is rest lt = grind (arith, b_is, c_is, rest)
+cut_lines-two b c xs false false b_is c_is rest lt =
     let ends = length_of_line-cons b (c ∷ xs) b_is in
     let next = length_of_line-cons c xs c_is in
     let line : b ∷ strip_last 13 (take (length_of_line (c ∷ xs)) (c ∷ xs)) ≡ strip_last 13 (take (length_of_line (b ∷ c ∷ xs)) (b ∷ c ∷ xs)) =
     ap (λ count. b ∷ strip_last 13 (take count (c ∷ xs))) next
     ∙ sym (strip_last-cons 13 b c (take (length_of_line xs) xs))
     ∙ sym (ap (λ count. strip_last 13 (take count (b ∷ c ∷ xs))) (ends ∙ ap suc next)) in
-    lines_of-inner b c xs b_is c_is
+    cut_lines-inner b c xs b_is c_is
     ∙ ap (onto_first b) (rest (omega (arith, lt, ends)))
-    ∙ ap (λ first. first ∷ lines_of (behind_line (c ∷ xs))) line
-    ∙ ap (λ bytes. strip_last 13 (take (length_of_line (b ∷ c ∷ xs)) (b ∷ c ∷ xs)) ∷ lines_of bytes) (sym (behind_line-cons b (c ∷ xs) b_is))
+    ∙ ap (λ first. first ∷ cut_lines (behind_line (c ∷ xs))) line
+    ∙ ap (λ bytes. strip_last 13 (take (length_of_line (b ∷ c ∷ xs)) (b ∷ c ∷ xs)) ∷ cut_lines bytes) (sym (behind_line-cons b (c ∷ xs) b_is))
 
-pub lines_of-lf : (xs : List ℕ) → EndsAtLf xs
-lines_of-lf [] = λ lt. absurd (omega (arith, lt))
-lines_of-lf (b ∷ []) = λ lt. grind (arith, lt)
-lines_of-lf (b ∷ c ∷ xs) = lines_of-two b c xs (is_lf b) (is_lf c) refl refl (lines_of-lf (c ∷ xs))
+pub cut_lines-lf : (xs : List ℕ) → EndsAtLf xs
+cut_lines-lf [] = λ lt. absurd (omega (arith, lt))
+cut_lines-lf (b ∷ []) = λ lt. grind (arith, lt)
+cut_lines-lf (b ∷ c ∷ xs) = cut_lines-two b c xs (is_lf b) (is_lf c) refl refl (cut_lines-lf (c ∷ xs))
 
 -- there is no LF
-pub lines_of-end : (xs : List ℕ) → length_of_line xs ≡ length xs → 0 < length xs → lines_of xs ≡ xs ∷ []
-lines_of-end [] none some = absurd (omega (arith, some))
-lines_of-end (b ∷ []) none some = grind (arith, none)
-lines_of-end (b ∷ c ∷ xs) none some = grind (arith, none, lines_of-end (c ∷ xs))
+pub cut_lines-end : (xs : List ℕ) → length_of_line xs ≡ length xs → 0 < length xs → cut_lines xs ≡ xs ∷ []
+cut_lines-end [] none some = absurd (omega (arith, some))
+cut_lines-end (b ∷ []) none some = grind (arith, none)
+cut_lines-end (b ∷ c ∷ xs) none some = grind (arith, none, cut_lines-end (c ∷ xs))
 
 -- with more behind an LF
 pub behind_line-append : (xs ys : List ℕ) → length_of_line xs < length xs → behind_line (xs ++ ys) ≡ behind_line xs ++ ys

@@ -6,10 +6,10 @@ use Rattle.std.proofs.Math.Seq.{take-length, drop-length}
 use Rattle.heat_io.specs.declared.next.Next.{Next}
 use Rattle.heat_io.specs.declared.next.Next.TheVariants as next
 use Rattle.heat_io.specs.Streams.{ahead, IsEmptied}
-use Rattle.heat_io.specs.Lines.{is_lf, lines_of, length_of_line, behind_line, line_limit}
+use Rattle.heat_io.specs.Lines.{is_lf, cut_lines, length_of_line, behind_line, line_limit}
 use Rattle.heat_io.specs.Reading.{Reader, Stays, IsNext, IsNextOf, IsGiven}
 use Rattle.heat_io.proofs.Ends.{position_or_len-within, position_or_len-grows}
-use Rattle.heat_io.proofs.Cuts.{lines_of-lf, lines_of-end, behind_line-append, size_of_line-append, behind_line-end}
+use Rattle.heat_io.proofs.Cuts.{cut_lines-lf, cut_lines-end, behind_line-append, size_of_line-append, behind_line-end}
 
 -- the line without its CR, by its length
 pub front_is : (held seen : List ℕ) (count len : ℕ) → seen ≡ held → count ≡ length_of_line held → len ≤ length (take count seen)
@@ -28,7 +28,7 @@ pub given_lf : (len : ℕ) (old new : Reader) (result : Next) → length_of_line
     → take len old.held ≡ strip_last 13 (take (length_of_line old.held) old.held)
     → IsGiven len (length_of_line old.held + 1) old new result → IsNext old.given old.held result new.held new.given
 given_lf len old new (next.Line line) lf short cr is = record {
-  lines = rw (is.0, cr, is.1) (lines_of-lf old.held lf);
+  lines = rw (is.0, cr, is.1) (cut_lines-lf old.held lf);
   behind = is.1;
   short = short;
   counted = counted_lf old.held new.held old.given new.given lf is.1 is.2;
@@ -45,7 +45,7 @@ given_lf len old new next.Memory lf short cr is = is
 pub given_end : (old new : Reader) (result : Next) → length_of_line old.held ≡ length old.held → length old.held ≤ line_limit → 0 < length old.held
     → IsGiven (length old.held) (length old.held) old new result → IsNext old.given old.held result new.held new.given
 given_end old new (next.Line line) none short some is = record {
-  lines = rw (is.0, take-length old.held, is.1, drop-length old.held) (lines_of-end old.held none some);
+  lines = rw (is.0, take-length old.held, is.1, drop-length old.held) (cut_lines-end old.held none some);
   behind = is.1 ∙ drop-length old.held ∙ sym (behind_line-end old.held none);
   short = omega (arith, none, short);
   counted = omega (arith, is.2, ap length (is.1 ∙ drop-length old.held));
@@ -62,13 +62,13 @@ pub stays-more : (given : ℕ) (held rest more : List ℕ) (now : ℕ) → Stays
 stays-more given held rest more now is = record { rest_same = ap (λ bytes. bytes ++ more) is.rest_same; given_same = is.given_same }
 
 -- the first line, with more behind its LF
-line-more : (held more line : List ℕ) (rest : List ℕ) → length_of_line held < length held → lines_of held ≡ line ∷ lines_of rest
-    → lines_of (held ++ more) ≡ line ∷ lines_of (behind_line (held ++ more))
+line-more : (held more line : List ℕ) (rest : List ℕ) → length_of_line held < length held → cut_lines held ≡ line ∷ cut_lines rest
+    → cut_lines (held ++ more) ≡ line ∷ cut_lines (behind_line (held ++ more))
 line-more held more line rest lf is =
     let within = position_or_len-within is_lf held more lf in
-    let first = ap (λ lines. get_or lines 0 []) (sym (lines_of-lf held lf) ∙ is) in
-    lines_of-lf (held ++ more) (omega (arith, lf, within, length-append held more))
-    ∙ ap (λ bytes. bytes ∷ lines_of (behind_line (held ++ more)))
+    let first = ap (λ lines. get_or lines 0 []) (sym (cut_lines-lf held lf) ∙ is) in
+    cut_lines-lf (held ++ more) (omega (arith, lf, within, length-append held more))
+    ∙ ap (λ bytes. bytes ∷ cut_lines (behind_line (held ++ more)))
     (ap (λ count. strip_last 13 (take count (held ++ more))) within
     ∙ ap (strip_last 13) (take-append-le (length_of_line held) held more (omega (arith, lf)))
     ∙ first)
@@ -77,7 +77,7 @@ line-more held more line rest lf is =
 pub next-more : (given : ℕ) (held more : List ℕ) (result : Next) (rest : List ℕ) (now : ℕ) → length_of_line held < length held
     → IsNext given held result rest now → IsNext given (held ++ more) result (rest ++ more) now
 next-more given held more (next.Line line) rest now lf is = record {
-  lines = line-more held more line rest lf is.lines ∙ ap (λ bytes. line ∷ lines_of bytes) (behind_line-append held more lf ∙ ap (λ bytes. bytes ++ more) (sym is.behind));
+  lines = line-more held more line rest lf is.lines ∙ ap (λ bytes. line ∷ cut_lines bytes) (behind_line-append held more lf ∙ ap (λ bytes. bytes ++ more) (sym is.behind));
   behind = ap (λ bytes. bytes ++ more) is.behind ∙ sym (behind_line-append held more lf);
   short = rw (position_or_len-within is_lf held more lf) is.short;
   counted = omega (arith, is.counted, length-append rest more, length-append held more);

@@ -18,10 +18,10 @@ onto_first b (line ∷ lines) = (b ∷ line) ∷ lines
 
 -- A script cut at its LFs. A CR right before an LF is dropped with it. What stands behind the last LF
 -- is a line where it isn't empty.
-abbrev pub lines_of : List ℕ → List (List ℕ)
-lines_of [] = []
-lines_of (b ∷ bytes) =
-    if is_lf b then [] ∷ lines_of bytes else if is_cr_of_end b bytes then lines_of bytes else onto_first b (lines_of bytes)
+abbrev pub cut_lines : List ℕ → List (List ℕ)
+cut_lines [] = []
+cut_lines (b ∷ bytes) =
+    if is_lf b then [] ∷ cut_lines bytes else if is_cr_of_end b bytes then cut_lines bytes else onto_first b (cut_lines bytes)
 
 -- how long the first line is: its CR counts, its LF doesn't
 abbrev pub length_of_line : List ℕ → ℕ

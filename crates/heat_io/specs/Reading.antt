@@ -2,7 +2,7 @@
 use Rattle.std.specs.Prelude.{◌≡◌, ℕ, ◌+◌, ◌<◌, ◌≤◌, Bool, true, false, List, [], ◌∷◌, ◌++◌, length, take, drop, Option, Some}
 use Rattle.heat_io.specs.declared.next.Next.{Next}
 use Rattle.heat_io.specs.declared.next.Next.TheVariants as next
-use Rattle.heat_io.specs.Lines.{lines_of, length_of_line, behind_line, size_of_line, line_limit, script_limit}
+use Rattle.heat_io.specs.Lines.{cut_lines, length_of_line, behind_line, size_of_line, line_limit, script_limit}
 
 pub record Reader : Type 0 where
   -- the bytes that were taken from the source and not given yet
@@ -15,7 +15,7 @@ pub record Reader : Type 0 where
 -- The line is the first of what was ahead, and the lines behind it are those of what is ahead now. No
 -- limit is passed.
 pub record GivesLine (given : ℕ) (bytes line rest : List ℕ) (now : ℕ) : Type 0 where
-  pub lines : lines_of bytes ≡ line ∷ lines_of rest
+  pub lines : cut_lines bytes ≡ line ∷ cut_lines rest
   pub behind : rest ≡ behind_line bytes
   pub short : length_of_line bytes ≤ line_limit
   -- no byte is left out of the count
@@ -52,7 +52,7 @@ pub data Reads (given : ℕ) (bytes : List ℕ) : List (List ℕ) → List ℕ �
 
 -- They are the first lines of the script, and all of its bytes are counted.
 pub record AreLines (given : ℕ) (bytes : List ℕ) (lines : List (List ℕ)) (rest : List ℕ) (now : ℕ) : Type 0 where
-  pub lines_are : lines_of bytes ≡ lines ++ lines_of rest
+  pub lines_are : cut_lines bytes ≡ lines ++ cut_lines rest
   pub counted : now + length rest ≡ given + length bytes
 
 abbrev pub is_line : Next → Bool

@@ -39,12 +39,12 @@ pub(crate) enum Found {
 }
 
 #[derive(Drop)]
-pub(crate) struct Held {
+pub(crate) struct HeldBytes {
     all: Vec<u8>,
     from: usize,
 }
 
-impl Model for Held {
+impl Model for HeldBytes {
     ghost use Rattle.std.specs.Prelude.{ℕ, List, ◌≤◌, drop, vec_len};
     ghost use Rattle.heat_io.specs.Lines.{most_held};
 
@@ -55,11 +55,11 @@ impl Model for Held {
     ghost invariant = { λ h. (h.from ≤ vec_len h.all) × (vec_len h.all ≤ most_held) };
 }
 
-impl Held {
-    pub(crate) fn new(alloc: Global) -> Held
+impl HeldBytes {
+    pub(crate) fn new(alloc: Global) -> HeldBytes
         ensures { result ≡ [] }
     {
-        Held {
+        HeldBytes {
             all: Vec::new(alloc),
             from: 0,
         }

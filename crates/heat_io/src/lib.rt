@@ -1,6 +1,6 @@
 //! Reading a script by its lines and writing all of a text, over any source and sink. Beside the two
 //! traits stand streams in memory, whose calls may fail, and the adapters over std, which tell nothing
-//! of their content. A line is the next of `lines_of` the bytes ahead; a failure has a count that rose.
+//! of their content. A line is the next of `cut_lines` the bytes ahead; a failure has a count that rose.
 #![tactic(auto)]
 
 mod calls;

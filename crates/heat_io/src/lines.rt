@@ -7,7 +7,7 @@ ghost use Rattle.heat_io.specs.Lines.{length_of_line, line_limit, script_limit, 
 ghost use Rattle.heat_io.specs.Reading.{IsNext, IsNextOf, IsGiven, is_line};
 
 pub use crate::held::LINE_LIMIT;
-use crate::held::{Found, Held};
+use crate::held::{Found, HeldBytes};
 use crate::next::Next;
 use crate::source::Source;
 use std::alloc::Global;
@@ -19,7 +19,7 @@ pub const SCRIPT_LIMIT: u64 = 268_435_456;
 /// Cuts what a source gives into lines.
 #[derive(Drop)]
 pub struct LineReader {
-    held: Held,
+    held: HeldBytes,
     given: u64,
     goes_on: bool,
 }
@@ -42,7 +42,7 @@ impl LineReader {
         ensures { result ≡ record { held = []; given = 0; goes_on = true } }
     {
         LineReader {
-            held: Held::new(alloc),
+            held: HeldBytes::new(alloc),
             given: 0,
             goes_on: true,
         }

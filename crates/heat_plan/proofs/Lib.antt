@@ -1,3 +1,4 @@
 pub mod Decimals
 pub mod NamesLemmas
 pub mod Parts
+pub mod OrderLemmas

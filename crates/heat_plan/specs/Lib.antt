@@ -4,3 +4,4 @@ pub mod Tokens
 pub mod Order
 pub mod Plans
 pub mod Refusals
+pub mod Tables

@@ -1,7 +1,7 @@
 //! The words of a provider's calls: what was requested, and what was answered. A provider's trace and
 //! the engine's history both write them.
 use crate::{Facts, Properties};
-use heat_value::{Text, TryCopy};
+use heat_value::{Equals, Text, TryCopy};
 use std::alloc::AllocError;
 
 /// A request for a token; a create names the kind, and a create and an update the properties.
@@ -48,6 +48,36 @@ impl TryCopy for Answered {
             Answered::Ready(facts) => Ok(Answered::Ready(facts.copy()?)),
             Answered::Broken(code) => Ok(Answered::Broken(code.copy()?)),
             Answered::Gone => Ok(Answered::Gone),
+        }
+    }
+}
+
+impl Equals for Request {
+    fn equals(&self, other: &Request) -> bool {
+        match (self, other) {
+            (Request::Create(kind, props), Request::Create(its_kind, its_props)) => {
+                kind.equals(its_kind) && props.equals(its_props)
+            }
+            (Request::Update(props), Request::Update(its_props)) => props.equals(its_props),
+            (Request::Delete, Request::Delete) => true,
+            (Request::Poll, Request::Poll) => true,
+            (Request::Gone, Request::Gone) => true,
+            _ => false,
+        }
+    }
+}
+
+impl Equals for Answered {
+    fn equals(&self, other: &Answered) -> bool {
+        match (self, other) {
+            (Answered::Ready(facts), Answered::Ready(its_facts)) => facts.equals(its_facts),
+            (Answered::Broken(code), Answered::Broken(its_code)) => code.equals(its_code),
+            (Answered::Begun, Answered::Begun) => true,
+            (Answered::Quota, Answered::Quota) => true,
+            (Answered::Failed, Answered::Failed) => true,
+            (Answered::NotYet, Answered::NotYet) => true,
+            (Answered::Gone, Answered::Gone) => true,
+            _ => false,
         }
     }
 }

@@ -1,6 +1,6 @@
 //! What a provider tells of a resource that is ready.
 use crate::{Properties, ResName};
-use heat_value::{Seq, Text, TryCopy};
+use heat_value::{Equals, Seq, Text, TryCopy};
 use std::alloc::AllocError;
 
 /// A ready resource's id and attributes.
@@ -46,5 +46,23 @@ impl TryCopy for Known {
         Ok(Known {
             facts: self.facts.copy()?,
         })
+    }
+}
+
+impl Equals for Facts {
+    fn equals(&self, other: &Facts) -> bool {
+        self.id.equals(&other.id) && self.attrs.equals(&other.attrs)
+    }
+}
+
+impl Equals for KnownFacts {
+    fn equals(&self, other: &KnownFacts) -> bool {
+        self.name.equals(&other.name) && self.facts.equals(&other.facts)
+    }
+}
+
+impl Equals for Known {
+    fn equals(&self, other: &Known) -> bool {
+        self.facts.equals(&other.facts)
     }
 }

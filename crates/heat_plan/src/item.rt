@@ -1,6 +1,6 @@
 //! One resource that a plan asks for.
 use crate::{Kind, Needs, Properties, ResName};
-use heat_value::TryCopy;
+use heat_value::{Equals, TryCopy};
 use std::alloc::AllocError;
 
 /// What becomes of a resource that no plan names any more.
@@ -29,5 +29,15 @@ impl TryCopy for Item {
             needs: self.needs.copy()?,
             policy: self.policy,
         })
+    }
+}
+
+impl Equals for Item {
+    fn equals(&self, other: &Item) -> bool {
+        self.name.equals(&other.name)
+            && self.kind.equals(&other.kind)
+            && self.props.equals(&other.props)
+            && self.needs.equals(&other.needs)
+            && self.policy == other.policy
     }
 }

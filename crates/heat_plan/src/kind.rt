@@ -1,5 +1,5 @@
 //! A resource type.
-use heat_value::{Seq, Text, TryCopy};
+use heat_value::{Equals, Seq, Text, TryCopy};
 use std::alloc::AllocError;
 
 /// A resource type: its name, its attributes, and in `soft` the properties that change in place.
@@ -17,5 +17,13 @@ impl TryCopy for Kind {
             attrs: self.attrs.copy()?,
             soft: self.soft.copy()?,
         })
+    }
+}
+
+impl Equals for Kind {
+    fn equals(&self, other: &Kind) -> bool {
+        self.name.equals(&other.name)
+            && self.attrs.equals(&other.attrs)
+            && self.soft.equals(&other.soft)
     }
 }

@@ -2,7 +2,7 @@
 ghost use Rattle.std.specs.Prelude.{◌≡◌, ◌↔◌, IsTrue, IsSome, IfSome, IfOk};
 ghost use Rattle.heat_plan.specs.Names.{IsNameByte, IsStackName, IsResName};
 
-use heat_value::{Text, TryCopy};
+use heat_value::{Equals, Text, TryCopy};
 use std::alloc::{AllocError, Global};
 use std::marker::Model;
 
@@ -56,6 +56,12 @@ impl TryCopy for StackName {
     }
 }
 
+impl Equals for StackName {
+    fn equals(&self, other: &StackName) -> bool {
+        self == other
+    }
+}
+
 /// 1 to 255 letters, digits, `_`, `.` or `-`, all ASCII.
 #[derive(Debug, PartialEq, Eq, PartialOrd, Ord, Hash, Drop)]
 pub struct ResName {
@@ -103,6 +109,12 @@ impl TryCopy for ResName {
         Ok(ResName {
             text: self.text.copy()?,
         })
+    }
+}
+
+impl Equals for ResName {
+    fn equals(&self, other: &ResName) -> bool {
+        self == other
     }
 }
 

@@ -3,7 +3,7 @@ ghost use Rattle.std.specs.Prelude.{◌≡◌, ◌↔◌, [], IsTrue, List, ℕ}
 ghost use Rattle.heat_plan.specs.Order.{Rising};
 
 use crate::ResName;
-use heat_value::{Seq, TryCopy};
+use heat_value::{Equals, Seq, TryCopy};
 use std::alloc::{AllocError, Global};
 use std::cmp::Ordering;
 use std::marker::Model;
@@ -57,6 +57,12 @@ impl TryCopy for Needs {
         Ok(Needs {
             names: self.names.copy()?,
         })
+    }
+}
+
+impl Equals for Needs {
+    fn equals(&self, other: &Needs) -> bool {
+        self.names.equals(&other.names)
     }
 }
 

@@ -2,6 +2,7 @@
 ghost use Rattle.std.specs.Prelude.{◌≡◌, ◌≢◌, ◌↔◌, ◌<◌, ◌≤◌, ◌^◌, ℕ, IsTrue, IsNone, IfSome, SomeIff, decimal, slice_index};
 ghost use Rattle.heat_plan.specs.Numbers.{IsNumber};
 
+use heat_value::Equals;
 use std::marker::Model;
 
 /// The number at which a sort of numbers is worn out.
@@ -195,6 +196,12 @@ impl RowNo {
             Some(n) => RowNo::new(n),
             None => None,
         }
+    }
+}
+
+impl Equals for RowNo {
+    fn equals(&self, other: &RowNo) -> bool {
+        self == other
     }
 }
 

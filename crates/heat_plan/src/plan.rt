@@ -1,8 +1,8 @@
 //! A plan: what a template asks for, once it is admitted.
 ghost use Rattle.std.specs.Prelude.{◌≡◌, List, ℕ};
 
-use crate::{Expression, Item, ResName};
-use heat_value::{Props, Seq, Text, TryCopy};
+use crate::{Expression, Item, Parameters, ResName};
+use heat_value::{Equals, Seq, Text, TryCopy};
 use std::alloc::AllocError;
 use std::marker::Model;
 
@@ -34,7 +34,7 @@ pub struct File {
 pub struct Plan {
     items: Seq<Item>,
     outputs: Seq<Output>,
-    params: Props,
+    params: Parameters,
     conds: Seq<Condition>,
     files: Seq<File>,
     absent: Seq<ResName>,
@@ -68,7 +68,7 @@ impl Plan {
     pub fn new(
         items: Seq<Item>,
         outputs: Seq<Output>,
-        params: Props,
+        params: Parameters,
         conds: Seq<Condition>,
         files: Seq<File>,
         absent: Seq<ResName>,
@@ -109,7 +109,7 @@ impl Plan {
     }
 
     /// The bound parameters, the pseudo parameters among them.
-    pub fn params(&self) -> &Props
+    pub fn params(&self) -> &Parameters
         ensures { result.now ≡ self.now.params }
     {
         &self.params
@@ -174,5 +174,34 @@ impl TryCopy for Plan {
             files: self.files.copy()?,
             absent: self.absent.copy()?,
         })
+    }
+}
+
+impl Equals for Output {
+    fn equals(&self, other: &Output) -> bool {
+        self.name.equals(&other.name) && self.value.equals(&other.value)
+    }
+}
+
+impl Equals for Condition {
+    fn equals(&self, other: &Condition) -> bool {
+        self.name.equals(&other.name) && self.value == other.value
+    }
+}
+
+impl Equals for File {
+    fn equals(&self, other: &File) -> bool {
+        self.name.equals(&other.name) && self.content.equals(&other.content)
+    }
+}
+
+impl Equals for Plan {
+    fn equals(&self, other: &Plan) -> bool {
+        self.items.equals(&other.items)
+            && self.outputs.equals(&other.outputs)
+            && self.params.equals(&other.params)
+            && self.conds.equals(&other.conds)
+            && self.files.equals(&other.files)
+            && self.absent.equals(&other.absent)
     }
 }

@@ -1,10 +1,10 @@
 //! Property maps and expressions that nest at most 64 deep. The types keep the depth, so that whatever
 //! holds one can be written, read again and sent to a provider.
-ghost use Rattle.std.specs.Prelude.{◌≡◌, ◌↔◌, ◌≤◌, IsTrue, IsSome, SomeIff, OnOk};
+ghost use Rattle.std.specs.Prelude.{◌≡◌, ◌≤◌, SomeIff};
 ghost use Rattle.heat_value.specs.Data.{Data, depth, fields, no_members};
 ghost use Rattle.heat_value.specs.Meaning.{data_of};
 
-use heat_value::{MAX_DEPTH, Props, TryCopy, Value};
+use heat_value::{Equals, MAX_DEPTH, Props, TryCopy, Value};
 use std::alloc::{AllocError, Global};
 use std::marker::Model;
 
@@ -56,13 +56,6 @@ impl Properties {
     {
         &self.props
     }
-
-    /// Whether two maps hold the same.
-    pub fn equals(&self, other: &Properties) -> bool
-        ensures { IsTrue result ↔ (self.now ≡ other.now) }
-    {
-        self.props.equals(&other.props)
-    }
 }
 
 impl TryCopy for Properties {
@@ -70,6 +63,12 @@ impl TryCopy for Properties {
         Ok(Properties {
             props: self.props.copy()?,
         })
+    }
+}
+
+impl Equals for Properties {
+    fn equals(&self, other: &Properties) -> bool {
+        self.props.equals(&other.props)
     }
 }
 
@@ -120,5 +119,11 @@ impl TryCopy for Expression {
         Ok(Expression {
             value: self.value.copy()?,
         })
+    }
+}
+
+impl Equals for Expression {
+    fn equals(&self, other: &Expression) -> bool {
+        self.value.equals(&other.value)
     }
 }

@@ -23,6 +23,8 @@ pub enum Refusal {
     NoEngine,
     /// E17: 64 engines are live.
     TooManyEngines,
+    /// E20: the stack's newest traversal isn't an unmarked create or update.
+    NotRunning,
     /// The disk failed.
     DiskFault,
     /// There was no memory.
@@ -45,6 +47,7 @@ impl Refusal {
             Refusal::Worn => Some("E15"),
             Refusal::NoEngine => Some("E16"),
             Refusal::TooManyEngines => Some("E17"),
+            Refusal::NotRunning => Some("E20"),
             Refusal::DiskFault | Refusal::Memory => None,
         }
     }

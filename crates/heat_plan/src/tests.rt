@@ -1,9 +1,10 @@
 //! What no clause says: values from outside, and that each call succeeds with ample memory.
 use crate::{
-    Answered, Condition, Expression, Facts, File, Item, Kind, KnownFacts, Needs, Output, Plan,
-    Policy, Properties, Refusal, Request, ResName, RowNo, StackName, Token, is_rising,
+    Answered, Condition, Expression, Facts, File, Item, Kind, Known, KnownFacts, Needs, Output,
+    Parameters, Plan, Policy, Properties, Refusal, Request, ResName, RowNo, StackName, Token,
+    are_in_order, is_rising,
 };
-use heat_value::{Items, Props, Seq, Text, TryCopy, Value};
+use heat_value::{Equals, Items, Props, Seq, Text, TryCopy, Value};
 use std::alloc::{AllocError, Global};
 use std::test::Fail;
 
@@ -66,7 +67,8 @@ fn tokens_are_read_and_written(rt: HostRuntime) -> Result<(), Fail> {
     for (bytes, reads) in rows {
         match Token::read(rt.alloc(), bytes)? {
             Some(token) => {
-                let text = token.copy()?.text(rt.alloc())?;
+                assert!(rt; token.copy()?.equals(&token));
+                let text = token.text(rt.alloc())?;
                 assert!(rt; reads);
                 assert_eq!(rt; text.as_str().as_bytes(), bytes);
             }
@@ -109,6 +111,15 @@ fn properties_nest_64_deep(rt: HostRuntime) -> Result<(), Fail> {
         assert_eq!(rt; Properties::from_props(props).is_some(), fits, "{lists}");
     }
     assert!(rt; Expression::from_value(Value::Null).is_some());
+    Ok(())
+}
+
+#[test]
+fn parameters_nest_64_deep_each(rt: HostRuntime) -> Result<(), Fail> {
+    for (lists, fits) in [(64, true), (65, false)] {
+        let props = nested(rt.alloc(), lists)?;
+        assert_eq!(rt; Parameters::from_props(props).is_some(), fits, "{lists}");
+    }
     Ok(())
 }
 
@@ -161,9 +172,11 @@ fn item_of(alloc: Global) -> Result<Item, Fail> {
 #[test]
 fn items_are_copied(rt: HostRuntime) -> Result<(), Fail> {
     let item = item_of(rt.alloc())?;
-    let copy = item.copy()?;
-    assert_eq!(rt; copy.kind.name.as_str(), "Test::Box");
-    assert_eq!(rt; copy.policy, Policy::Retain);
+    let mut copy = item.copy()?;
+    assert!(rt; copy.equals(&item));
+    copy.policy = Policy::Delete;
+    assert!(rt; !copy.equals(&item));
+    assert!(rt; !are_in_order(&[item, copy]));
     Ok(())
 }
 
@@ -179,18 +192,21 @@ fn facts_of(alloc: Global) -> Result<Facts, AllocError> {
 fn facts_are_copied(rt: HostRuntime) -> Result<(), Fail> {
     let name = ResName::read(rt.alloc(), b"a")?.ok_or("a name")?;
     let facts = facts_of(rt.alloc())?;
-    let known = KnownFacts { name, facts };
-    let copy = known.copy()?;
-    assert_eq!(rt; copy.facts.id.as_str(), "sim-1");
+    let mut known = Seq::new(rt.alloc());
+    known.push(KnownFacts { name, facts })?;
+    let known = Known { facts: known };
+    assert!(rt; known.copy()?.equals(&known));
     Ok(())
 }
 
 #[test]
 fn words_of_calls_are_copied(rt: HostRuntime) -> Result<(), Fail> {
     let answer = Answered::Ready(facts_of(rt.alloc())?);
-    assert!(rt; matches!(answer.copy()?, Answered::Ready(_)));
+    assert!(rt; answer.copy()?.equals(&answer));
+    assert!(rt; !answer.equals(&Answered::Begun));
     let request = Request::Update(Properties::new(rt.alloc()));
-    assert!(rt; matches!(request.copy()?, Request::Update(_)));
+    assert!(rt; request.copy()?.equals(&request));
+    assert!(rt; !request.equals(&Request::Poll));
     Ok(())
 }
 
@@ -198,11 +214,11 @@ fn words_of_calls_are_copied(rt: HostRuntime) -> Result<(), Fail> {
 fn parts_of_plans_are_copied(rt: HostRuntime) -> Result<(), Fail> {
     let name = Text::from_str(rt.alloc(), "c")?;
     let condition = Condition { name, value: true };
-    assert!(rt; condition.copy()?.value);
+    assert!(rt; condition.copy()?.equals(&condition));
     let name = Text::from_str(rt.alloc(), "f")?;
     let content = Text::from_str(rt.alloc(), "text")?;
     let file = File { name, content };
-    assert_eq!(rt; file.copy()?.content.as_str(), "text");
+    assert!(rt; file.copy()?.equals(&file));
     Ok(())
 }
 
@@ -211,7 +227,7 @@ fn an_output_is_copied(rt: HostRuntime) -> Result<(), Fail> {
     let name = Text::from_str(rt.alloc(), "o")?;
     let value = Expression::from_value(Value::Null).ok_or("shallow")?;
     let output = Output { name, value };
-    assert!(rt; matches!(output.copy()?.value.as_value(), Value::Null));
+    assert!(rt; output.copy()?.equals(&output));
     Ok(())
 }
 
@@ -221,12 +237,12 @@ fn a_plan_is_copied(rt: HostRuntime) -> Result<(), Fail> {
     let plan = Plan::new(
         Seq::new(alloc),
         Seq::new(alloc),
-        Props::new(alloc),
+        Parameters::new(alloc),
         Seq::new(alloc),
         Seq::new(alloc),
         Seq::new(alloc),
     );
-    assert_eq!(rt; plan.copy()?.items().len(), 0);
+    assert!(rt; plan.copy()?.equals(&plan));
     Ok(())
 }
 

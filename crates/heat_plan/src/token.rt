@@ -4,7 +4,7 @@ ghost use Rattle.heat_plan.specs.Names.{IsStackName, IsResName};
 ghost use Rattle.heat_plan.specs.Numbers.{IsNumber};
 
 use crate::{ResName, RowNo, StackName};
-use heat_value::{Text, TryCopy};
+use heat_value::{Equals, Text, TryCopy};
 use std::alloc::{AllocError, Global};
 
 /// The stack, the resource's name and the row that a resource belongs to.
@@ -79,6 +79,12 @@ impl TryCopy for Token {
             name: self.name.copy()?,
             row: self.row,
         })
+    }
+}
+
+impl Equals for Token {
+    fn equals(&self, other: &Token) -> bool {
+        self == other
     }
 }
 

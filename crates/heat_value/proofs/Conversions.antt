@@ -1,5 +1,5 @@
 -- Lists and maps that were taken over part by part.
-use Rattle.std.proofs.Common.{◌≡◌, ℕ, List, [], ◌∷◌, ◌++◌, map, refl, ap, sym, Option, Some, None, String, string_bytes, suc, max, Result, Ok, Err, IfOk, OnOk, ◌≤◌, subst}
+use Rattle.std.proofs.Common.{◌≡◌, ℕ, List, [], ◌∷◌, map, refl, ap, sym, Option, Some, None, String, string_bytes, suc, Result, Ok, Err, IfOk, OnOk, ◌≤◌, subst}
 use Rattle.std.specs.List.Sorted.{IsStrictlySortedBy}
 use Rattle.std.specs.List.{AllByRecursion}
 use Rattle.std.specs.Option.{option_or}
@@ -16,7 +16,7 @@ use Rattle.heat_value.specs.Reading.{IsOfNumber, IsReading, IsReadAs, first_bad}
 use Rattle.std.specs.Map.{keys_of as map_keys}
 use Rattle.heat_value.specs.declared.path.Step.{Step}
 use Rattle.heat_value.specs.declared.value.Value.{Value}
-use Rattle.heat_value.specs.declared.value.Entry.{Entry}
+use Rattle.heat_value.specs.declared.value.Member.{Member}
 use Rattle.heat_value.specs.declared.fault.ValueFault.{ValueFault}
 use Rattle.heat_value.specs.declared.fault.ValueFault.TheVariants.{NotJson, TooDeep, BadNumber, Memory}
 
@@ -24,8 +24,8 @@ use Rattle.heat_value.specs.declared.fault.ValueFault.TheVariants.{NotJson, TooD
 abbrev pub value_json : Value → json.Data
 value_json v = json_of (data_of v)
 
-abbrev pub entry_json : Entry → List ℕ × json.Data
-entry_json e = (e.key, json_of (data_of e.value))
+abbrev pub own_json : Member → List ℕ × json.Data
+own_json e = (e.key, json_of (data_of e.value))
 
 abbrev pub member_json : String Global × Json → List ℕ × json.Data
 member_json m = (string_bytes m.0, view m.1)
@@ -39,15 +39,15 @@ json_items-nodes_of (v ∷ vs) (j ∷ js) e =
     let rest : map value_json vs ≡ map view js = cc in
     let more : json_items (nodes_of vs) ≡ items_view js = json_items-nodes_of vs js rest in cc
 
-pub json_members-members_of : (es : List Entry) (ms : List (String Global × Json)) → map entry_json es ≡ map member_json ms → json_members (members_of es) ≡ members_view ms
+pub json_members-members_of : (es : List Member) (ms : List (String Global × Json)) → map own_json es ≡ map member_json ms → json_members (members_of es) ≡ members_view ms
 json_members-members_of [] [] e = refl
 json_members-members_of [] (m ∷ ms) e = cc
 json_members-members_of (x ∷ es) [] e = cc
 json_members-members_of (x ∷ es) (m ∷ ms) e =
-    let pair : entry_json x ≡ member_json m = cc in
+    let pair : own_json x ≡ member_json m = cc in
     let key : x.key ≡ string_bytes m.0 = ap (λ (p : List ℕ × json.Data). p.0) pair in
     let here : json_of (data_of x.value) ≡ view m.1 = ap (λ (p : List ℕ × json.Data). p.1) pair in
-    let rest : map entry_json es ≡ map member_json ms = cc in
+    let rest : map own_json es ≡ map member_json ms = cc in
     let more : json_members (members_of es) ≡ members_view ms = json_members-members_of es ms rest in cc
 
 -- what is found first stays first, whatever stands behind it
@@ -85,14 +85,14 @@ sorted-map f R (k ∷ ks) h = (below f R k ks h.0, sorted-map f R ks h.1)
     below f R k [] h = tt
     below f R k (l ∷ ls) h = (h.0, below f R k ls h.1)
 
-pub keys_of-from_members : (es : List Entry) (ms : List (String Global × Json)) → map entry_json es ≡ map member_json ms → keys_of (members_of es) ≡ map string_bytes (map_keys ms)
+pub keys_of-from_members : (es : List Member) (ms : List (String Global × Json)) → map own_json es ≡ map member_json ms → keys_of (members_of es) ≡ map string_bytes (map_keys ms)
 keys_of-from_members [] [] e = refl
 keys_of-from_members [] (m ∷ ms) e = cc
 keys_of-from_members (x ∷ es) [] e = cc
 keys_of-from_members (x ∷ es) (m ∷ ms) e =
-    let pair : entry_json x ≡ member_json m = cc in
+    let pair : own_json x ≡ member_json m = cc in
     let key : x.key ≡ string_bytes m.0 = ap (λ (p : List ℕ × json.Data). p.0) pair in
-    let rest : map entry_json es ≡ map member_json ms = cc in
+    let rest : map own_json es ≡ map member_json ms = cc in
     let more : keys_of (members_of es) ≡ map string_bytes (map_keys ms) = keys_of-from_members es ms rest in cc
 
 -- what is taken over of a reading is what the bytes are read as

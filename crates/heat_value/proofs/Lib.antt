@@ -2,3 +2,4 @@ pub mod Sameness
 pub mod Lists
 pub mod Conversions
 pub mod Puts
+pub mod Searches

@@ -1,5 +1,5 @@
--- A map with one more entry, or with another value under a key.
-use Rattle.std.proofs.Common.{◌≡◌, ◌∙◌, ℕ, suc, ◌+◌, List, [], ◌∷◌, ◌++◌, refl, ap, sym, Result, Ok, Err, insert, slice_set, arith}
+-- A map with one more member, or with another value under a key.
+use Rattle.std.proofs.Common.{◌≡◌, ◌∙◌, ℕ, suc, List, [], ◌∷◌, refl, ap, Result, Ok, Err, insert, slice_set}
 use Rattle.std.proofs.lemmas.Cmp.{nat_list_cmp_total}
 use Rattle.std.specs.List.{AllByRecursion}
 use Rattle.std.specs.List.Sorted.{IsStrictlySortedBy}
@@ -10,17 +10,14 @@ use Rattle.std.specs.declared.cmp.Ordering.TheVariants.{Less, Equal, Greater}
 use Rattle.heat_value.specs.Data.{Data, Members, no_members, member, keys_of, Rises, put}
 use Rattle.heat_value.specs.Meaning.{data_of, members_of}
 use Rattle.heat_value.specs.Places.{place, one_further}
+use Rattle.heat_value.proofs.Searches.{below_all}
 use Rattle.heat_value.specs.declared.value.Value.{Value}
-use Rattle.heat_value.specs.declared.value.Entry.{Entry}
+use Rattle.heat_value.specs.declared.value.Member.{Member}
 
 abbrev cmp : List ℕ → List ℕ → Ordering
 cmp = slice_cmp nat_cmp
 
 -- ---- the keys still rise
-
-below_all : (l k : List ℕ) (ks : List (List ℕ)) → cmp l k ≡ Less → AllByRecursion (λ y. cmp k y ≡ Less) ks → AllByRecursion (λ y. cmp l y ≡ Less) ks
-below_all l k [] h all = tt
-below_all l k (y ∷ ys) h all = (nat_list_cmp_total.trans l k y h all.0, below_all l k ys h all.1)
 
 same_below : (k l : List ℕ) (ks : List (List ℕ)) → cmp k l ≡ Equal → AllByRecursion (λ y. cmp l y ≡ Less) ks → AllByRecursion (λ y. cmp k y ≡ Less) ks
 same_below k l [] h all = tt
@@ -46,42 +43,31 @@ unfolding IsStrictlySortedBy
 Rises-put k d no_members h = (tt, tt)
 Rises-put k d (member l e ms) h = rises_at k d l e ms (cmp k l) refl h.0 h.1 (Rises-put k d ms h.1)
 
--- ---- the entries are those of the put
+-- ---- the members are those of the put
 
-abbrev entry : List ℕ → Value → Entry
-entry k v = record { key = k; value = v }
+abbrev one : List ℕ → Value → Member
+one k v = record { key = k; value = v }
 
-inserted_at : (k : List ℕ) (v : Value) (e : Entry) (es : List Entry) (i : ℕ) (o : Ordering) (r : Result ℕ ℕ) → ((j : ℕ) → r ≡ Err j → members_of (insert es j (entry k v)) ≡ put k (data_of v) (members_of es))
+inserted_at : (k : List ℕ) (v : Value) (e : Member) (es : List Member) (i : ℕ) (o : Ordering) (r : Result ℕ ℕ) → ((j : ℕ) → r ≡ Err j → members_of (insert es j (one k v)) ≡ put k (data_of v) (members_of es))
     → match_ordering o (Err 0) (Ok 0) (one_further r) ≡ Err i
-    → members_of (insert (e ∷ es) i (entry k v)) ≡ match_ordering o (member k (data_of v) (members_of (e ∷ es))) (member k (data_of v) (members_of es)) (member e.key (data_of e.value) (put k (data_of v) (members_of es)))
+    → members_of (insert (e ∷ es) i (one k v)) ≡ match_ordering o (member k (data_of v) (members_of (e ∷ es))) (member k (data_of v) (members_of es)) (member e.key (data_of e.value) (put k (data_of v) (members_of es)))
 inserted_at k v e es i Less r more is = let at : 0 ≡ i = cc in rw (← at) refl
 inserted_at k v e es i Equal r more is = cc
 inserted_at k v e es i Greater (Ok j) more is = cc
 inserted_at k v e es i Greater (Err j) more is = let at : suc j ≡ i = cc in rw (← at) (ap (member e.key (data_of e.value)) (more j refl))
 
-pub members_of-insert : (k : List ℕ) (v : Value) (es : List Entry) (i : ℕ) → place k es ≡ Err i → members_of (insert es i (entry k v)) ≡ put k (data_of v) (members_of es)
+pub members_of-insert : (k : List ℕ) (v : Value) (es : List Member) (i : ℕ) → place k es ≡ Err i → members_of (insert es i (one k v)) ≡ put k (data_of v) (members_of es)
 members_of-insert k v [] i is = let at : 0 ≡ i = cc in rw (← at) refl
 members_of-insert k v (e ∷ es) i is = inserted_at k v e es i (cmp k e.key) (place k es) (λ j is_j. members_of-insert k v es j is_j) is
 
-replaced_at : (k : List ℕ) (v : Value) (e : Entry) (es : List Entry) (i : ℕ) (o : Ordering) (r : Result ℕ ℕ) → ((j : ℕ) → r ≡ Ok j → members_of (slice_set es j (entry k v)) ≡ put k (data_of v) (members_of es))
+replaced_at : (k : List ℕ) (v : Value) (e : Member) (es : List Member) (i : ℕ) (o : Ordering) (r : Result ℕ ℕ) → ((j : ℕ) → r ≡ Ok j → members_of (slice_set es j (one k v)) ≡ put k (data_of v) (members_of es))
     → match_ordering o (Err 0) (Ok 0) (one_further r) ≡ Ok i
-    → members_of (slice_set (e ∷ es) i (entry k v)) ≡ match_ordering o (member k (data_of v) (members_of (e ∷ es))) (member k (data_of v) (members_of es)) (member e.key (data_of e.value) (put k (data_of v) (members_of es)))
+    → members_of (slice_set (e ∷ es) i (one k v)) ≡ match_ordering o (member k (data_of v) (members_of (e ∷ es))) (member k (data_of v) (members_of es)) (member e.key (data_of e.value) (put k (data_of v) (members_of es)))
 replaced_at k v e es i Less r more is = cc
 replaced_at k v e es i Equal r more is = let at : 0 ≡ i = cc in rw (← at) refl
 replaced_at k v e es i Greater (Ok j) more is = let at : suc j ≡ i = cc in rw (← at) (ap (member e.key (data_of e.value)) (more j refl))
 replaced_at k v e es i Greater (Err j) more is = cc
 
-pub members_of-set : (k : List ℕ) (v : Value) (es : List Entry) (i : ℕ) → place k es ≡ Ok i → members_of (slice_set es i (entry k v)) ≡ put k (data_of v) (members_of es)
+pub members_of-set : (k : List ℕ) (v : Value) (es : List Member) (i : ℕ) → place k es ≡ Ok i → members_of (slice_set es i (one k v)) ≡ put k (data_of v) (members_of es)
 members_of-set k v [] i is = cc
 members_of-set k v (e ∷ es) i is = replaced_at k v e es i (cmp k e.key) (place k es) (λ j is_j. members_of-set k v es j is_j) is
-
--- ---- the place among what is left
-
--- the place, seen from so many entries before
-abbrev pub further : ℕ → Result ℕ ℕ → Result ℕ ℕ
-further i (Ok j) = Ok (i + j)
-further i (Err j) = Err (i + j)
-
-pub further-one_further : (i : ℕ) (r : Result ℕ ℕ) → further i (one_further r) ≡ further (i + 1) r
-further-one_further i (Ok j) = ap Ok (omega arith)
-further-one_further i (Err j) = ap Err (omega arith)

@@ -3,7 +3,7 @@ use Rattle.std.proofs.Common.{◌≡◌, List, [], ◌∷◌, length, refl, ap, 
 use Rattle.heat_value.specs.Meaning.{data_of, nodes_of, members_of}
 use Rattle.heat_value.specs.declared.value.Value.{Value}
 use Rattle.heat_value.specs.declared.value.Value.TheVariants as value
-use Rattle.heat_value.specs.declared.value.Entry.{Entry}
+use Rattle.heat_value.specs.declared.value.Member.{Member}
 
 pub same_nodes_length : (xs ys : List Value) → nodes_of xs ≡ nodes_of ys → length xs ≡ length ys
 same_nodes_length [] [] e = refl
@@ -11,7 +11,7 @@ same_nodes_length [] (y ∷ ys) e = cc
 same_nodes_length (x ∷ xs) [] e = cc
 same_nodes_length (x ∷ xs) (y ∷ ys) e = let rest : nodes_of xs ≡ nodes_of ys = cc in ap suc (same_nodes_length xs ys rest)
 
-pub same_members_length : (xs ys : List Entry) → members_of xs ≡ members_of ys → length xs ≡ length ys
+pub same_members_length : (xs ys : List Member) → members_of xs ≡ members_of ys → length xs ≡ length ys
 same_members_length [] [] e = refl
 same_members_length [] (y ∷ ys) e = cc
 same_members_length (x ∷ xs) [] e = cc

@@ -5,8 +5,8 @@ use denote.Param.Weighed.{most}
 use Rattle.heat_value.specs.Meaning.{data_of, nodes_of, members_of, weight, nodes_weight, members_weight}
 use Rattle.heat_value.specs.declared.value.Value.{Value}
 use Rattle.heat_value.specs.declared.value.Value.TheVariants as value
-use Rattle.heat_value.specs.declared.value.Entry.{Entry}
-use Rattle.heat_value.specs.declared.value.Items.TheDeep.{deep-Value, deep-Entry}
+use Rattle.heat_value.specs.declared.value.Member.{Member}
+use Rattle.heat_value.specs.declared.value.Items.TheDeep.{deep-Value, deep-Member}
 
 pub deep_le-weight : (v : Value) → deep-Value v ≤ weight (data_of v)
 deep_le-weight value.Null = omega arith
@@ -20,6 +20,6 @@ pub most_le-nodes : (vs : List Value) → max (most deep-Value vs) 0 ≤ nodes_w
 most_le-nodes [] = omega arith
 most_le-nodes (v ∷ vs) = omega (arith, most_le-nodes vs, deep_le-weight v)
 
-pub most_le-members : (es : List Entry) → max (most deep-Entry es) 0 ≤ members_weight (members_of es)
+pub most_le-members : (es : List Member) → max (most deep-Member es) 0 ≤ members_weight (members_of es)
 most_le-members [] = omega arith
 most_le-members (e ∷ es) = omega (arith, most_le-members es, deep_le-weight e.value)

@@ -3,7 +3,7 @@ use Rattle.std.specs.Prelude.{List, [], ◌∷◌, ℕ, ◌+◌}
 use Rattle.heat_value.specs.Data.{Data, null, flag, whole, words, items, fields, Nodes, no_nodes, node, Members, no_members, member}
 use Rattle.heat_value.specs.declared.value.Value.{Value}
 use Rattle.heat_value.specs.declared.value.Value.TheVariants as value
-use Rattle.heat_value.specs.declared.value.Entry.{Entry}
+use Rattle.heat_value.specs.declared.value.Member.{Member}
 
 abbrev pub data_of : Value → Data
 data_of value.Null = null
@@ -17,7 +17,7 @@ abbrev pub nodes_of : List Value → Nodes
 nodes_of [] = no_nodes
 nodes_of (v ∷ vs) = node (data_of v) (nodes_of vs)
 
-abbrev pub members_of : List Entry → Members
+abbrev pub members_of : List Member → Members
 members_of [] = no_members
 members_of (e ∷ es) = member e.key (data_of e.value) (members_of es)
 

@@ -9,3 +9,13 @@ pub trait TryCopy {
     fn copy(&self) -> Result<Self, AllocError>
         ensures { IfOk result (λ v. v ≡ self.now) };
 }
+
+/// A copy of the value, where there is one.
+pub fn copy_option<T: TryCopy>(value: &Option<T>) -> Result<Option<T>, AllocError>
+    ensures { IfOk result (λ v. v ≡ value.now) }
+{
+    match value {
+        Some(value) => Ok(Some(value.copy()?)),
+        None => Ok(None),
+    }
+}

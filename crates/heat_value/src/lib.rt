@@ -4,6 +4,7 @@
 #![tactic(auto)]
 
 mod copying;
+mod equality;
 mod fault;
 mod path;
 mod seq;
@@ -12,11 +13,12 @@ mod tests;
 mod text;
 mod value;
 
-pub use copying::TryCopy;
+pub use copying::{TryCopy, copy_option};
+pub use equality::Equals;
 pub use fault::ValueFault;
 pub use path::{Path, Step};
 pub use seq::Seq;
 pub use text::Text;
 pub use value::coercion::text_of;
 pub use value::reading::MAX_DEPTH;
-pub use value::{Entry, Items, Props, Value};
+pub use value::{Items, Member, Props, Value};

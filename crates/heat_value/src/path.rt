@@ -2,7 +2,7 @@
 ghost use Rattle.std.specs.Prelude.{◌≡◌, ◌∷◌, ◌++◌, [], OnOk, OnErr, IfOk, string_bytes, false};
 
 use crate::value::printing::write_words;
-use crate::{Text, TryCopy};
+use crate::{Equals, Seq, Text, TryCopy};
 use serde_json::Value as Json;
 use std::alloc::{AllocError, Global};
 use std::marker::Model;
@@ -17,7 +17,7 @@ pub enum Step {
 /// A path, seen as its steps from the root on.
 #[derive(Debug, Drop)]
 pub struct Path {
-    steps: Vec<Step>,
+    steps: Seq<Step>,
 }
 
 impl Model for Path {
@@ -26,7 +26,7 @@ impl Model for Path {
 
     ghost Value = { List Step };
 
-    ghost view = { λ p. p.steps.items };
+    ghost view = { λ p. p.steps };
 }
 
 impl Path {
@@ -37,7 +37,7 @@ impl Path {
         ensures { result ≡ [] }
     {
         Path {
-            steps: Vec::new(alloc),
+            steps: Seq::new(alloc),
         }
     }
 
@@ -53,8 +53,7 @@ impl Path {
         ensures ok { OnOk result (self.new ≡ self.old ++ step ∷ []) }
         ensures err { OnErr result (self.new ≡ self.old) }
     {
-        self.steps.push(step)?;
-        Ok(())
+        self.steps.push(step)
     }
 
     /// The path of the same place, seen from one step above the root.
@@ -72,7 +71,7 @@ impl Path {
         let mut out = String::new(alloc);
         out.push_str("[")?;
         let mut later = false;
-        for step in &self.steps {
+        for step in self.steps.as_slice() {
             if later {
                 out.push_str(",")?;
             }
@@ -103,11 +102,9 @@ impl Step {
 
 impl TryCopy for Path {
     fn copy(&self) -> Result<Path, AllocError> {
-        let mut steps = Vec::with_capacity(*self.steps.allocator(), self.steps.len())?;
-        for step in &self.steps {
-            steps.push(step.copy()?)?;
-        }
-        Ok(Path { steps })
+        Ok(Path {
+            steps: self.steps.copy()?,
+        })
     }
 }
 
@@ -116,6 +113,22 @@ impl TryCopy for Step {
         match self {
             Step::Key(key) => Ok(Step::Key(key.copy()?)),
             Step::Index(index) => Ok(Step::Index(*index)),
+        }
+    }
+}
+
+impl Equals for Path {
+    fn equals(&self, other: &Path) -> bool {
+        self.steps.equals(&other.steps)
+    }
+}
+
+impl Equals for Step {
+    fn equals(&self, other: &Step) -> bool {
+        match (self, other) {
+            (Step::Key(mine), Step::Key(its)) => *mine == *its,
+            (Step::Index(mine), Step::Index(its)) => *mine == *its,
+            _ => false,
         }
     }
 }

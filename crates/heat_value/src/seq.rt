@@ -1,7 +1,7 @@
 //! A list of any type, which contracts see as the list of its items: a `Vec` that clauses can compare.
 ghost use Rattle.std.specs.Prelude.{◌≡◌, ◌==◌, ◌<◌, ◌≤◌, [], ◌∷◌, ◌++◌, length, OnOk, OnErr, IfOk, Some, slice_get, slice_set, remove, insert, take};
 
-use crate::TryCopy;
+use crate::{Equals, TryCopy};
 use std::alloc::{AllocError, Global};
 use std::marker::Model;
 
@@ -121,6 +121,20 @@ impl<T: TryCopy + Drop> TryCopy for Seq<T> {
             items.push(item.copy()?)?;
         }
         Ok(Seq { items })
+    }
+}
+
+impl<T: Equals> Equals for Seq<T> {
+    fn equals(&self, other: &Seq<T>) -> bool {
+        if self.len() != other.len() {
+            return false;
+        }
+        for i in 0..self.len() {
+            if !self.items[i].equals(&other.items[i]) {
+                return false;
+            }
+        }
+        true
     }
 }
 

@@ -1,5 +1,5 @@
 //! What no clause says: values from outside, printed texts, and that each call succeeds with ample memory.
-use crate::{Items, Path, Props, Seq, Step, Text, TryCopy, Value, ValueFault, text_of};
+use crate::{Equals, Items, Path, Props, Seq, Step, Text, TryCopy, Value, ValueFault, text_of};
 use std::alloc::{AllocError, Global};
 use std::test::Fail;
 
@@ -108,6 +108,27 @@ fn nests_64_deep(rt: HostRuntime) -> Result<(), Fail> {
     Ok(())
 }
 
+// Whether a map is read whose one key stands twice, first with so many lists and then with 1.
+fn overwritten(alloc: Global, lists: usize) -> Result<Text, AllocError> {
+    let deep = nested(alloc, lists)?;
+    let text = format!(in alloc; "{{\"a\":{},\"a\":1}}", deep.as_str())?;
+    outcome(alloc, text.as_bytes())
+}
+
+#[test]
+fn an_overwritten_member_nests_127_deep(rt: HostRuntime) -> Result<(), Fail> {
+    for (lists, want) in [
+        (65, "{\"a\":1}"),
+        (126, "{\"a\":1}"),
+        (127, "not json"),
+        (128, "not json"),
+    ] {
+        let got = overwritten(rt.alloc(), lists)?;
+        assert_eq!(rt; got.as_str(), want, "{lists}");
+    }
+    Ok(())
+}
+
 #[test]
 fn writes_each_escape(rt: HostRuntime) -> Result<(), Fail> {
     let rows: [(&[u8], &str); 3] = [
@@ -166,6 +187,26 @@ fn values_are_made_and_compared(rt: HostRuntime) -> Result<(), Fail> {
 }
 
 #[test]
+fn members_are_found_and_compared(rt: HostRuntime) -> Result<(), Fail> {
+    let key = Text::from_str(rt.alloc(), "a")?;
+    let mut props = Props::new(rt.alloc());
+    props.put(key.copy()?, Value::Whole(1))?;
+    assert!(rt; matches!(props.get(&key), Some(Value::Whole(1))));
+    assert!(rt; props.get(&Text::from_str(rt.alloc(), "b")?).is_none());
+    let member = &props.as_slice()[0];
+    assert!(rt; member.equals(&member.copy()?));
+    Ok(())
+}
+
+#[test]
+fn pairs_and_options_are_compared(rt: HostRuntime) {
+    assert!(rt; (1u32, 2u32).equals(&(1, 2)));
+    assert!(rt; !(1u32, 2u32).equals(&(2, 1)));
+    assert!(rt; Some(1u32).equals(&Some(1)));
+    assert!(rt; !Some(1u32).equals(&None));
+}
+
+#[test]
 fn lists_are_edited(rt: HostRuntime) -> Result<(), Fail> {
     let mut list: Seq<Text> = Seq::with_capacity(rt.alloc(), 2)?;
     list.push(Text::from_str(rt.alloc(), "a")?)?;
@@ -173,6 +214,7 @@ fn lists_are_edited(rt: HostRuntime) -> Result<(), Fail> {
     list.insert(1, Text::from_str(rt.alloc(), "b")?)?;
     let copy = list.copy()?;
     assert_eq!(rt; copy.len(), 3);
+    assert!(rt; copy.equals(&list));
     let taken = list.remove(0);
     assert_eq!(rt; taken.as_str(), "a");
     *list.item_mut(0) = Text::from_str(rt.alloc(), "d")?;
@@ -189,6 +231,7 @@ fn paths_are_printed(rt: HostRuntime) -> Result<(), Fail> {
     path.push(Step::Key(Text::from_str(rt.alloc(), "a\"")?))?;
     path.push(Step::Index(0))?;
     let path = path.under(Step::Key(Text::from_str(rt.alloc(), "resources")?))?;
+    assert!(rt; path.copy()?.equals(&path));
     let text = path.copy()?.text(rt.alloc())?;
     assert_eq!(rt; text.as_str(), "[\"resources\",\"a\\\"\",0]");
     Ok(())

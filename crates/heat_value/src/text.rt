@@ -1,7 +1,7 @@
 //! A text, which contracts see as its UTF-8 bytes. Texts compare and sort by these bytes.
 ghost use Rattle.std.specs.Prelude.{◌≡◌, IfOk, string_bytes, IsUtf8};
 
-use crate::TryCopy;
+use crate::{Equals, TryCopy};
 use std::alloc::{AllocError, Global};
 use std::cmp::Ordering;
 use std::hash::{Hash, Hasher};
@@ -19,6 +19,10 @@ impl Model for Text {
     ghost Value = { List ℕ };
 
     ghost view = { λ t. string_bytes t.string };
+
+    ghost use Rattle.std.specs.Prelude.{IsUtf8};
+
+    ghost invariant = { λ t. IsUtf8 (string_bytes t.string) };
 }
 
 impl Text {
@@ -40,7 +44,8 @@ impl Text {
 
     /// The text as a slice.
     pub fn as_str(&self) -> &str
-        ensures { result.now ≡ self.now }
+        ensures value { result.now ≡ self.now }
+        ensures utf8 { IsUtf8 self.now }
     {
         self.string.as_str()
     }
@@ -51,6 +56,12 @@ impl TryCopy for Text {
         Ok(Text {
             string: self.string.clone()?,
         })
+    }
+}
+
+impl Equals for Text {
+    fn equals(&self, other: &Text) -> bool {
+        self == other
     }
 }
 

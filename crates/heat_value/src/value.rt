@@ -36,7 +36,7 @@ pub struct Items {
 /// A key with its value.
 #[cycle(value)]
 #[derive(Debug, Drop)]
-pub struct Entry {
+pub struct Member {
     pub key: Text,
     pub value: Value,
 }
@@ -45,7 +45,7 @@ pub struct Entry {
 #[cycle(value)]
 #[derive(Debug, Drop)]
 pub struct Props {
-    entries: Vec<Entry>,
+    members: Vec<Member>,
 }
 
 impl Model for Items {
@@ -77,13 +77,13 @@ impl Model for Props {
 
     ghost use Rattle.heat_value.specs.Meaning.{members_of, members_weight};
 
-    ghost view = { λ a. members_of a.entries.items };
+    ghost view = { λ a. members_of a.members.items };
 
-    ghost invariant = { λ a. Rises (members_of a.entries.items) };
+    ghost invariant = { λ a. Rises (members_of a.members.items) };
 
     ghost size = { members_weight };
 
     ghost use Rattle.heat_value.specs.Falls.{most_le-members};
 
-    ghost size_decreases = { λ a h. most_le-members a.entries.items };
+    ghost size_decreases = { λ a h. most_le-members a.members.items };
 }

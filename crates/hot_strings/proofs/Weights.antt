@@ -6,17 +6,17 @@ use Rattle.json.specs.Print.{quoted, escape, escape_byte}
 use Rattle.heat_value.specs.Compact.{compact, nodes_text, fields_text}
 use Rattle.heat_value.specs.Meaning.{data_of, nodes_of, members_of, weight, nodes_weight, members_weight}
 use Rattle.heat_value.specs.declared.value.Value.{Value}
-use Rattle.heat_value.specs.declared.value.Entry.{Entry}
+use Rattle.heat_value.specs.declared.value.Member.{Member}
 
 pub weight-item : (vs : List Value) (i : ℕ) (v : Value) → i < length vs → v ≡ get_or vs i v → 2 * weight (data_of v) < 2 * nodes_weight (nodes_of vs)
 weight-item [] i v l e = absurd (omega arith)
 weight-item (w ∷ vs) zero v l e = omega (arith, ap (λ (x : Value). weight (data_of x)) e)
 weight-item (w ∷ vs) (suc i) v l e = omega (arith, weight-item vs i v (omega arith) e)
 
-pub weight-entry : (es : List Entry) (i : ℕ) (x : Entry) → i < length es → x ≡ get_or es i x → 2 * weight (data_of x.value) + 1 < 2 * members_weight (members_of es)
-weight-entry [] i x l e = absurd (omega arith)
-weight-entry (y ∷ es) zero x l e = omega (arith, ap (λ (z : Entry). weight (data_of z.value)) e)
-weight-entry (y ∷ es) (suc i) x l e = omega (arith, weight-entry es i x (omega arith) e)
+pub weight-member : (es : List Member) (i : ℕ) (x : Member) → i < length es → x ≡ get_or es i x → 2 * weight (data_of x.value) + 1 < 2 * members_weight (members_of es)
+weight-member [] i x l e = absurd (omega arith)
+weight-member (y ∷ es) zero x l e = omega (arith, ap (λ (z : Member). weight (data_of z.value)) e)
+weight-member (y ∷ es) (suc i) x l e = omega (arith, weight-member es i x (omega arith) e)
 
 -- the text of the values from a place on, with the value there
 pub length-nodes_text-drop : (vs : List Value) (i : ℕ) (v : Value) → i < length vs → v ≡ get_or vs i v
@@ -24,7 +24,7 @@ pub length-nodes_text-drop : (vs : List Value) (i : ℕ) (v : Value) → i < len
 length-nodes_text-drop vs i v l e =
     rw (add-one i, drop-cons vs i v l, ← e) (omega (arith, length-append (compact (data_of v)) (nodes_text true (nodes_of (drop (suc i) vs)))))
 
-pub length-fields_text-drop : (es : List Entry) (i : ℕ) (x : Entry) → i < length es → x ≡ get_or es i x
+pub length-fields_text-drop : (es : List Member) (i : ℕ) (x : Member) → i < length es → x ≡ get_or es i x
     → length (fields_text true (members_of (drop i es))) ≡ 1 + (length (quoted x.key) + 1 + length (compact (data_of x.value))) + length (fields_text true (members_of (drop (i + 1) es)))
 length-fields_text-drop es i x l e =
     rw (add-one i, drop-cons es i x l, ← e) (omega (
@@ -52,4 +52,4 @@ pub min-saturating : (size first part total n m : ℕ) → size ≡ min n (2 ^ 6
     → total ≡ min (n + 1 + m) (2 ^ 64 - 1)
 min-saturating size first part total n m a b c d = omega arith
 
-pub ruleset for_sizes = (weight-item, weight-entry)
+pub ruleset for_sizes = (weight-item, weight-member)

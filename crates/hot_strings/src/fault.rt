@@ -1,7 +1,8 @@
 //! Why a text function has no result, each cause by its code.
-ghost use Rattle.std.specs.Prelude.{◌≡◌, option_map};
+ghost use Rattle.std.specs.Prelude.{◌≡◌, option_map, IsNone};
 ghost use Rattle.hot_strings.specs.Faults.{code_of};
 
+use heat_value::Path;
 use std::alloc::AllocError;
 use thiserror::Error;
 
@@ -37,6 +38,14 @@ impl StringFault {
             StringFault::F06 => Some("F06"),
             StringFault::Memory => None,
         }
+    }
+
+    /// Where the fault stands in a template. The text functions see no template, so this is always none;
+    /// who evaluates one adds the place.
+    pub fn path(&self) -> Option<&Path>
+        ensures { IsNone result }
+    {
+        None
     }
 }
 

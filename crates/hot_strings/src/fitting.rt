@@ -8,7 +8,7 @@ ghost use Rattle.hot_strings.specs.Size.{Fits};
 
 use crate::size::{MAX_SIZE, escaped_len};
 use crate::whole::whole_len;
-use heat_value::{Entry, Props, Value};
+use heat_value::{Member, Props, Value};
 
 /// Whether a value has at most `MAX_SIZE` bytes of compact JSON.
 pub fn fits(value: &Value) -> bool
@@ -69,27 +69,27 @@ fn list_size(values: &[Value]) -> usize
 // How many bytes a map takes, likewise.
 #[cycle(sizes)]
 #[tactic(auto, using(crate::proofs::Weights::for_sizes))]
-fn map_size(entries: &[Entry]) -> usize
-    ensures { result ≡ min (length (compact (fields (members_of entries.now)))) (2 ^ 64 - 1) }
+fn map_size(members: &[Member]) -> usize
+    ensures { result ≡ min (length (compact (fields (members_of members.now)))) (2 ^ 64 - 1) }
 {
-    if entries.is_empty() {
+    if members.is_empty() {
         return 2;
     }
     let mut size = 1usize;
-    for entry in entries {
-        size = size.saturating_add(1).saturating_add(entry_size(entry));
+    for member in members {
+        size = size.saturating_add(1).saturating_add(member_size(member));
     }
     size
 }
 
 // How many bytes a key, its colon and its value take.
 #[cycle(sizes)]
-fn entry_size(entry: &Entry) -> usize
+fn member_size(member: &Member) -> usize
     ensures { result ≡ min
-        (length (quoted entry.now.key) + 1 + length (compact (data_of entry.now.value)))
+        (length (quoted member.now.key) + 1 + length (compact (data_of member.now.value)))
         (2 ^ 64 - 1) }
 {
-    words_size(entry.key.as_str())
+    words_size(member.key.as_str())
         .saturating_add(1)
-        .saturating_add(value_size(&entry.value))
+        .saturating_add(value_size(&member.value))
 }

@@ -1,5 +1,5 @@
 //! The pieces of a template, one after another.
-ghost use Rattle.std.specs.Prelude.{◌≡◌, ◌≢◌, ◌<◌, ◌++◌, [], List, ℕ, MatchBool, MatchOption, Some, All, slice_get, encode_utf8};
+ghost use Rattle.std.specs.Prelude.{◌≡◌, ◌≢◌, ◌<◌, ◌++◌, [], List, ℕ, MatchBool, MatchOption, Some, slice_get, encode_utf8};
 ghost use Rattle.std.specs.Char.{IsScalar};
 ghost use Rattle.std.specs.Str.{IsUtf8};
 ghost use Rattle.hot_strings.specs.Places.{Begins};
@@ -10,7 +10,6 @@ use heat_value::Text;
 /// What stands in place of a text's first piece, and the text behind that piece.
 pub fn first_piece<'a>(params: &'a [(Text, Text)], text: &'a str) -> (&'a str, &'a str)
     requires keys { HasNoEmptyKey params.now }
-    requires texts { All (λ p. IsUtf8 p.0) params.now }
     requires some { text.now ≢ [] }
     ensures piece { (p : Piece) × (text.now ≡ source p ++ result.1.now)
         × IsFirstPiece params.now text.now p × (result.0.now ≡ target p) }

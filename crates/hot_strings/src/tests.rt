@@ -62,7 +62,11 @@ sha3|abc|no digest";
 fn told(alloc: Global, answer: Result<Text, StringFault>) -> Result<Text, AllocError> {
     match answer {
         Ok(text) => Ok(text),
-        Err(fault) => Text::from_str(alloc, fault.code().unwrap_or("Memory")),
+        Err(fault) => if fault.path().is_none() {
+            Text::from_str(alloc, fault.code().unwrap_or("Memory"))
+        } else {
+            Text::from_str(alloc, "a place")
+        },
     }
 }
 

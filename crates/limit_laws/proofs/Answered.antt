@@ -1,9 +1,10 @@
 -- A turn of an engine whose next step is worn out answers Worn or Memory.
 use Rattle.std.proofs.Common.{◌≡◌, inl, inr, ℕ, List, [], Some, None, sym, subst, ◌∙◌}
-use Rattle.core_state.specs.Tables.{at}
-use Rattle.core_state.specs.declared.mail.Job.{Job}
-use Rattle.core_state.specs.declared.mail.Letter.{Letter}
-use Rattle.core_state.specs.State.{StateData, letter_at, job_at}
+use Rattle.heat_plan.specs.Tables.{at}
+use Rattle.mail_table.specs.declared.mail.Job.{Job}
+use Rattle.mail_table.specs.declared.mail.Letter.{Letter}
+use Rattle.mail_table.specs.Mails.{letter_at, job_at}
+use Rattle.core_state.specs.State.{StateData}
 use Rattle.book.specs.Scenes.{IsWornBy, at_take, at_call, at_finish, quiet, asked, polled, unstored, unmade, idle, worn}
 use Rattle.limit_laws.specs.Limits.{WornAnswersWorn}
 use Rattle.limit_laws.proofs.Turns.{quiet_not_both, asking_not_both, polling_not_both}

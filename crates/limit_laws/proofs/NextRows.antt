@@ -3,12 +3,14 @@ use Rattle.std.proofs.Common.{◌≡◌, ◌<◌, ℕ, List, Some, None, sym, ap
 use Rattle.std.specs.Prelude.{slice_get}
 use Rattle.traversal_graph.specs.declared.shape.Node.TheVariants.{U}
 use Rattle.core_state.specs.declared.graph.Graph.{Graph}
-use Rattle.core_state.specs.declared.mail.Letter.{Letter}
-use Rattle.core_state.specs.declared.mail.Job.{Job}
-use Rattle.core_state.specs.declared.mail.Stage.{Stage}
-use Rattle.core_state.specs.declared.row.Row.{Row}
+use Rattle.mail_table.specs.declared.mail.Letter.{Letter}
+use Rattle.mail_table.specs.declared.mail.Job.{Job}
+use Rattle.mail_table.specs.declared.mail.Stage.{Stage}
+use Rattle.row_table.specs.declared.row.Row.{Row}
 use Rattle.core_state.specs.Reads.{IsLowest, TakesNext, Works}
-use Rattle.core_state.specs.State.{StateData, graph_at, letter_at, row_at}
+use Rattle.row_table.specs.Rows.{row_at}
+use Rattle.mail_table.specs.Mails.{letter_at}
+use Rattle.core_state.specs.State.{StateData, graph_at}
 use Rattle.check_steps.proofs.ReadLemmas.{some_same, same_row}
 use Rattle.limit_laws.specs.Limits.{TakenRowIsOne, BegunRowIsOne, CalledRowIsOne, FinishedRowIsOne}
 

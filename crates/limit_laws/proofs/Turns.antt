@@ -1,12 +1,13 @@
 -- An engine whose next step is worn out makes no turn.
 use Rattle.std.proofs.Common.{◌≡◌, ◌<◌, ◌≤◌, ◌+◌, ◌^◌, ℕ, Some, sym, ap, ◌∙◌, arith}
 use Rattle.heat_plan.specs.declared.phase.Act.TheVariants.{Init, Create}
-use Rattle.core_state.specs.declared.mail.Job.{Job}
-use Rattle.core_state.specs.declared.mail.Stage.{Stage}
-use Rattle.core_state.specs.declared.mail.Stage.TheVariants.{Taken, Ending}
-use Rattle.core_state.specs.declared.row.Row.{Row}
+use Rattle.mail_table.specs.declared.mail.Job.{Job}
+use Rattle.mail_table.specs.declared.mail.Stage.{Stage}
+use Rattle.mail_table.specs.declared.mail.Stage.TheVariants.{Taken, Ending}
+use Rattle.row_table.specs.declared.row.Row.{Row}
 use Rattle.core_state.specs.Reads.{Works}
-use Rattle.core_state.specs.State.{StateData, row_at}
+use Rattle.row_table.specs.Rows.{row_at}
+use Rattle.core_state.specs.State.{StateData}
 use Rattle.core_state.specs.Steps.{take, begin, finish, finish_last, begun, refused, waits, ready, broken}
 use Rattle.core_state.specs.Turns.{Takes, Begins}
 use Rattle.check_steps.specs.Refusals.{IsWornOut}

@@ -8,7 +8,7 @@ use Rattle.traversal_graph.specs.Nodes.{IsBuilt}
 use Rattle.traversal_graph.specs.declared.shape.TravGraph.{TravGraph}
 use Rattle.core_state.specs.declared.change.Change.{Change}
 use Rattle.core_state.specs.declared.entry.Entry.{Entry}
-use Rattle.core_state.specs.declared.mail.Stage.{Stage}
+use Rattle.mail_table.specs.declared.mail.Stage.{Stage}
 use Rattle.core_state.specs.Commands.{Creates, WearsOut, IsLeaf}
 use Rattle.core_state.specs.State.{StateData}
 use Rattle.core_state.specs.Steps.{QuietTurn, AskingTurn, PollingTurn}

@@ -11,7 +11,7 @@ use Rattle.heat_plan.specs.declared.calls.Answered.TheVariants as answer
 use Rattle.provider.specs.declared.alive.Alive.{Alive}
 use Rattle.provider.specs.Table.{Living, TokenState, after, after_each, begun, updated, going, told}
 use Rattle.provider.specs.Cloud.{Cloud, IsAlive, entry_of, living_of, state_of}
-use Rattle.provider.specs.Changes.{IsKept, Stays, KeepsOthers, Adds, Sets, SendsAway, Removes, Takes, Lowers}
+use Rattle.provider.specs.Changes.{IsKept, Stays, Renews, KeepsOthers, Adds, Sets, SendsAway, Removes, Takes}
 use Rattle.provider.specs.Calls.{IsRefused, Waits, IsReady, IsBroken, Lingers}
 use Rattle.provider.specs.Moves.{Answers, Rests, CallsMove}
 use Rattle.provider.proofs.Sames.{same_members-same, same_members-other}
@@ -25,8 +25,8 @@ state-kept t old new k = rw (k.entry, k.leaving) refl
 pub state-stays : (t : Token) (old new : Cloud) → Stays old new → state_of new t ≡ state_of old t
 state-stays t old new k = rw (k.alive, k.leaving t) refl
 
-pub state-lowers : (t token : Token) (old new : Cloud) → Lowers token old new → state_of new t ≡ state_of old t
-state-lowers t token old new k = rw (k.alive, k.leaving t) refl
+pub state-renews : (t token : Token) (old new : Cloud) → Renews token old new → state_of new t ≡ state_of old t
+state-renews t token old new k = rw (k.alive, k.leaving t) refl
 
 pub others-kept : (token : Token) (old new : Cloud) → KeepsOthers token old new → (t : Token) → t ≢ token → state_of new t ≡ state_of old t
 others-kept token old new k t ne = state-kept t old new (k t ne)
@@ -105,7 +105,7 @@ create-begun token kind props old new (inl a) =
     let own = own-adds token kind props old new a in
     record { own = rw (own.0, own.1) (one _); others = others-kept token old new a.others }
 create-begun token kind props old new (inr s) =
-    rests_alive token _ _ old new (λ t. state-stays t old new s.1) s.0 (λ it h. one _)
+    rests_alive token _ _ old new (λ t. state-renews t token old new s.1) s.0 (λ it h. one _)
 
 pub update-begun : (token : Token) (props : Members) (old new : Cloud) → Takes token (ask.Update props) old new → Answers token (ask.Update props) answer.Begun old new
 update-begun token props old new (inl s) =
@@ -114,7 +114,7 @@ update-begun token props old new (inl s) =
 update-begun token props old new (inr s) =
     let it = living_of (old.leaving token) s.0.it in
     let was : state_of old token ≡ Some it = rw s.0.entry refl in
-    rests token _ _ old new (λ t. state-stays t old new s.1) (rw was (single (Some (updated props it)) (Some it) (ap Some (updated-same props it s.0.same))))
+    rests token _ _ old new (λ t. state-renews t token old new s.1) (rw was (single (Some (updated props it)) (Some it) (ap Some (updated-same props it s.0.same))))
 
 going-same : (it : Living) → it.leaving ≡ true → going it ≡ it
 going-same it h = rw (← h) refl
@@ -129,7 +129,7 @@ delete-begun token old new (inl s) =
     record { own = rw (own.1, own.2) (one _); others = others-kept token old new s.others }
 delete-begun token old new (inr s) = left (absent_or_alive (entry_of old token)) where
   still : Rests old new
-  still t = state-stays t old new s.1
+  still t = state-renews t token old new s.1
 
   left : (entry_of old token ≡ None) ⊎ IsAlive old token → Answers token ask.Delete answer.Begun old new
   left (inl none) = rests token _ _ old new still (rw none (one _))
@@ -148,30 +148,27 @@ create-failed token kind props old new (inr (inl a)) =
     let own = own-adds token kind props old new a in
     record { own = rw (own.0, own.1) (second _ _); others = others-kept token old new a.others }
 create-failed token kind props old new (inr (inr s)) =
-    rests_alive token _ _ old new (λ t. state-stays t old new s.1) s.0 (λ it h. one _)
+    rests_alive token _ _ old new (λ t. state-renews t token old new s.1) s.0 (λ it h. one _)
 
 update-failed : (token : Token) (props : Members) (old new : Cloud) → IsAlive old token → Stays old new ⊎ Takes token (ask.Update props) old new → Answers token (ask.Update props) answer.Failed old new
 update-failed token props old new there (inl s) = rests_alive token _ _ old new (λ t. state-stays t old new s) there (λ it h. first _ _)
 update-failed token props old new there (inr (inl s)) =
     let own = own-sets token props old new s in
     record { own = rw (own.1, own.2) (second _ _); others = others-kept token old new s.others }
-update-failed token props old new there (inr (inr s)) = rests_alive token _ _ old new (λ t. state-stays t old new s.1) there (λ it h. first _ _)
+update-failed token props old new there (inr (inr s)) = rests_alive token _ _ old new (λ t. state-renews t token old new s.1) there (λ it h. first _ _)
 
-delete-rests : (token : Token) (old new : Cloud) → Stays old new → Answers token ask.Delete answer.Failed old new
-delete-rests token old new s = left (absent_or_alive (entry_of old token)) where
-  still : Rests old new
-  still t = state-stays t old new s
-
+delete-rests : (token : Token) (old new : Cloud) → Rests old new → Answers token ask.Delete answer.Failed old new
+delete-rests token old new still = left (absent_or_alive (entry_of old token)) where
   left : (entry_of old token ≡ None) ⊎ IsAlive old token → Answers token ask.Delete answer.Failed old new
   left (inl none) = rests token _ _ old new still (rw none (one _))
   left (inr there) = rests_alive token _ _ old new still there (λ it h. first _ _)
 
 delete-failed : (token : Token) (old new : Cloud) → Stays old new ⊎ Takes token ask.Delete old new → Answers token ask.Delete answer.Failed old new
-delete-failed token old new (inl s) = delete-rests token old new s
+delete-failed token old new (inl s) = delete-rests token old new (λ t. state-stays t old new s)
 delete-failed token old new (inr (inl s)) =
     let own = own-sent token old new s in
     record { own = rw (own.1, own.2) (second _ _); others = others-kept token old new s.others }
-delete-failed token old new (inr (inr s)) = delete-rests token old new s.1
+delete-failed token old new (inr (inr s)) = delete-rests token old new (λ t. state-renews t token old new s.1)
 
 poll-failed : (token : Token) (old new : Cloud) → IsAlive old token → Stays old new ⊎ Takes token ask.Poll old new → Answers token ask.Poll answer.Failed old new
 poll-failed token old new there (inl s) = rests_alive token _ _ old new (λ t. state-stays t old new s) there (λ it h. one _)
@@ -191,13 +188,13 @@ refused : (token : Token) (kind : List ℕ) (props : Members) (old new : Cloud) 
 refused token kind props old new r = rests token _ _ old new (λ t. state-stays t old new r.stays) (rw r.absent (one _))
 
 waits : (token : Token) (old new : Cloud) → IsAlive old token → Waits token old new → Answers token ask.Poll answer.NotYet old new
-waits token old new there w = rests_alive token _ _ old new (λ t. state-lowers t token old new w.lowers) there (λ it h. one _)
+waits token old new there w = rests_alive token _ _ old new (λ t. state-renews t token old new w.lowers.rest) there (λ it h. one _)
 
 ready : (token : Token) (facts : Facts) (old new : Cloud) → IsReady token facts old new → Answers token ask.Poll (answer.Ready facts) old new
 ready token facts old new r =
     let it = living_of (old.leaving token) r.before in
     let was : state_of old token ≡ Some it = rw r.turns.was refl in
-    let is : state_of new token ≡ Some (told facts it) = rw (r.turns.is, r.leaving, r.told) refl in
+    let is : state_of new token ≡ Some (told facts it) = rw (r.turns.is, r.leaving) refl in
     record { own = rw (was, is) (one _); others = others-kept token old new r.others }
 
 broken : (token : Token) (code : List ℕ) (old new : Cloud) → IsAlive old token → IsBroken token code old new → Answers token ask.Poll (answer.Broken code) old new
@@ -210,7 +207,7 @@ is-gone token old new (inl r) =
 is-gone token old new (inr s) = rests token _ _ old new (λ t. state-stays t old new s.1) (rw s.0 (one _))
 
 lingers : (token : Token) (old new : Cloud) → Lingers token old new → Answers token ask.Gone answer.NotYet old new
-lingers token old new l = rests_alive token _ _ old new (λ t. state-lowers t token old new l.lowers) l.there (λ it h. rw (h, l.leaving) (one _))
+lingers token old new l = rests_alive token _ _ old new (λ t. state-renews t token old new l.lowers.rest) l.there (λ it h. rw (h, l.leaving) (one _))
 
 -- ---- all of them
 

@@ -1,5 +1,5 @@
 -- What each answer of a provider's call says: when it comes, and what it makes of what the cloud shows.
-use Rattle.std.specs.Prelude.{◌≡◌, ◌⊎◌, ℕ, List, true, None}
+use Rattle.std.specs.Prelude.{◌≡◌, ◌⊎◌, ◌≤◌, ℕ, List, true, None}
 use Rattle.heat_value.specs.Data.{Members}
 use Rattle.heat_value.specs.Counts.{Rose}
 use Rattle.heat_plan.specs.declared.token.Token.{Token}
@@ -40,24 +40,23 @@ pub record Waits (token : Token) (old new : Cloud) : Type 0 where
   pub noted : Notes (Called token ask.Poll answer.NotYet) old new
   pub lowers : Lowers token old new
 
--- poll: Ready. The facts told are the resource's, and it is ready from now on
+-- poll: Ready. The resource is ready and has the facts that are told from now on; one that was ready had them already.
+-- It has no more polls left than before
 pub record IsReady (token : Token) (facts : Facts) (old new : Cloud) : Type 0 where
   pub noted : Notes (Called token ask.Poll (answer.Ready facts)) old new
-  pub due : old.left token ≡ 0
   pub before : Alive
-  pub told : before.facts ≡ facts
-  pub turns : Turns token old new before (record before { ready = true })
+  pub turns : Turns token old new before (record before { facts = facts; ready = true })
+  pub steady : before.ready ≡ true → before.facts ≡ facts
   pub leaving : new.leaving token ≡ old.leaving token
-  pub left : new.left token ≡ 0
+  pub left : new.left token ≤ old.left token
   pub others : KeepsOthers token old new
 
 -- poll: Broken
 pub record IsBroken (token : Token) (code : List ℕ) (old new : Cloud) : Type 0 where
   pub noted : Notes (Called token ask.Poll (answer.Broken code)) old new
-  pub due : old.left token ≡ 0
   pub stays : Stays old new
 
--- gone: Gone. The token was absent, or it was leaving with no polls left and is absent now
+-- gone: Gone. The token was absent, or it was leaving and is absent now
 pub record IsGone (token : Token) (old new : Cloud) : Type 0 where
   pub noted : Notes (Called token ask.Gone answer.Gone) old new
   pub effect : Removes token old new ⊎ ((entry_of old token ≡ None) × Stays old new)

@@ -21,6 +21,12 @@ pub record Stays (old new : Cloud) : Type 0 where
   pub leaving : (t : Token) → new.leaving t ≡ old.leaving t
   pub left : (t : Token) → new.left t ≡ old.left t
 
+-- no resource has changed, but the token may have other polls left
+pub record Renews (token : Token) (old new : Cloud) : Type 0 where
+  pub alive : new.alive ≡ old.alive
+  pub leaving : (t : Token) → new.leaving t ≡ old.leaving t
+  pub others : (t : Token) → t ≢ token → new.left t ≡ old.left t
+
 -- all is as before, the trace and the count of faults too
 pub record IsAsBefore (old new : Cloud) : Type 0 where
   pub stays : Stays old new
@@ -43,7 +49,7 @@ pub record Turns (token : Token) (old new : Cloud) (before after : Alive) : Type
   pub was : entry_of old token ≡ Some before
   pub is : entry_of new token ≡ Some after
 
--- a resource is added, not ready and not leaving, with any polls left
+-- a resource is added, not ready and not leaving, with any facts and polls left
 pub record Adds (token : Token) (kind : List ℕ) (props : Members) (old new : Cloud) : Type 0 where
   pub absent : entry_of old token ≡ None
   pub room : ¬ IsFull old kind
@@ -73,7 +79,6 @@ pub record SendsAway (token : Token) (old new : Cloud) : Type 0 where
 pub record Removes (token : Token) (old new : Cloud) : Type 0 where
   pub there : IsAlive old token
   pub leaving : old.leaving token ≡ true
-  pub due : old.left token ≡ 0
   pub absent : entry_of new token ≡ None
   pub others : KeepsOthers token old new
 
@@ -83,18 +88,16 @@ pub record HasProps (cloud : Cloud) (token : Token) (props : Members) : Type 0 w
   pub entry : entry_of cloud token ≡ Some it
   pub same : it.props ≡ props
 
--- What a request does where it is begun. A second one changes nothing: a create of an alive token, an update to the
--- same properties, a delete of a token that is leaving or absent.
+-- What a request does where it is begun. A second one changes nothing but the polls left: a create of an alive token,
+-- an update to the same properties, a delete of a token that is leaving or absent.
 abbrev pub Takes : Token → Request → Cloud → Cloud → Type 0
-Takes token (Create kind props) old new = Adds token kind props old new ⊎ (IsAlive old token × Stays old new)
-Takes token (Update props) old new = Sets token props old new ⊎ (HasProps old token props × Stays old new)
-Takes token Delete old new = SendsAway token old new ⊎ ((IsAlive old token → old.leaving token ≡ true) × Stays old new)
+Takes token (Create kind props) old new = Adds token kind props old new ⊎ (IsAlive old token × Renews token old new)
+Takes token (Update props) old new = Sets token props old new ⊎ (HasProps old token props × Renews token old new)
+Takes token Delete old new = SendsAway token old new ⊎ ((IsAlive old token → old.leaving token ≡ true) × Renews token old new)
 Takes token Poll old new = ⊥
 Takes token Gone old new = ⊥
 
 -- polls left is lowered by one, and nothing else changes
 pub record Lowers (token : Token) (old new : Cloud) : Type 0 where
   pub lower : suc (new.left token) ≡ old.left token
-  pub alive : new.alive ≡ old.alive
-  pub leaving : (t : Token) → new.leaving t ≡ old.leaving t
-  pub others : (t : Token) → t ≢ token → new.left t ≡ old.left t
+  pub rest : Renews token old new

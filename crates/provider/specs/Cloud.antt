@@ -12,7 +12,7 @@ pub record Cloud : Type 0 where
   pub alive : List Alive
   -- which of their tokens are leaving
   pub leaving : Token → Bool
-  -- how many polls and questions for a token still answer NotYet
+  -- how many polls and questions for a token may still answer NotYet
   pub left : Token → ℕ
   -- the calls with answers other than Memory, in order
   pub trace : List Traced

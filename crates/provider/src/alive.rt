@@ -3,7 +3,7 @@ use heat_plan::{Facts, Properties, Token};
 use heat_value::{Text, TryCopy};
 use std::alloc::AllocError;
 
-/// An alive resource, under its kind's name. Its facts hold only where it is ready.
+/// An alive resource, under its kind's name. Its facts are told where it is ready, and free before.
 #[derive(Debug, Drop)]
 pub struct Alive {
     pub token: Token,

@@ -16,7 +16,7 @@ pub trait Provider {
     /// the quotas, and how often it has failed.
     ghost cloud: { Self → Cloud };
 
-    /// Asks for a resource of a kind. One that is alive stays as it is.
+    /// Asks for a resource of a kind. One that is alive stays as it is, but may have other polls left.
     fn create(&mut self, token: &Token, kind: &Kind, props: &Properties) -> Answer
         ensures begun { result ≡ Answer.Begun →
             HasBegun token.now (ask.Create kind.now.name props.now) (cloud self.old) (cloud self.new) }
@@ -26,7 +26,7 @@ pub trait Provider {
             HasFailed token.now (ask.Create kind.now.name props.now) (cloud self.old) (cloud self.new) }
         ensures memory { result ≡ Answer.Memory → IsAsBefore (cloud self.old) (cloud self.new) };
 
-    /// Asks that an alive resource gets these properties.
+    /// Asks that an alive resource gets these properties. One that has them may have other polls left.
     fn update(&mut self, token: &Token, props: &Properties) -> Answer
         requires { IsAlive (cloud self.old) token.now }
         ensures begun { result ≡ Answer.Begun →
@@ -45,7 +45,8 @@ pub trait Provider {
             HasFailed token.now ask.Delete (cloud self.old) (cloud self.new) }
         ensures memory { result ≡ Answer.Memory → IsAsBefore (cloud self.old) (cloud self.new) };
 
-    /// Whether an alive resource is ready, and with which facts. One that is leaving answers as any other.
+    /// Whether an alive resource is ready, and with which facts, which it keeps until an update to other
+    /// properties. NotYet comes only where polls are left. One that is leaving answers as any other.
     fn poll(&mut self, token: &Token) -> Poll
         requires { IsAlive (cloud self.old) token.now }
         ensures not_yet { result ≡ Poll.NotYet → Waits token.now (cloud self.old) (cloud self.new) }
@@ -57,7 +58,7 @@ pub trait Provider {
             HasFailed token.now ask.Poll (cloud self.old) (cloud self.new) }
         ensures memory { result ≡ Poll.Memory → IsAsBefore (cloud self.old) (cloud self.new) };
 
-    /// Whether a resource that was sent away is gone.
+    /// Whether a resource that was sent away is gone. NotYet comes only where polls are left.
     fn gone(&mut self, token: &Token) -> Gone
         requires { MayGo (cloud self.old) token.now }
         ensures gone { result ≡ Gone.Gone → IsGone token.now (cloud self.old) (cloud self.new) }

@@ -1,10 +1,12 @@
 -- What an entry adds to the text, given the rows that were seen before it.
 use Rattle.std.specs.Prelude.{ℕ, List, [], ◌∷◌, ◌++◌, Bool, cond, Option, Some, None, codes, decimal}
 use Rattle.heat_value.specs.declared.path.Step.{Step}
+use Rattle.heat_plan.specs.Tokens.{token_text}
+use Rattle.heat_plan.specs.declared.token.Token.{Token}
 use Rattle.heat_plan.specs.declared.phase.Act.{Act}
 use Rattle.heat_plan.specs.declared.phase.Status.{Status}
 use Rattle.heat_plan.specs.declared.phase.Status.TheVariants.{Complete, InProgress, Failed}
-use Rattle.core_state.specs.declared.row.Row.{Row}
+use Rattle.row_table.specs.declared.row.Row.{Row}
 use Rattle.core_state.specs.declared.entry.Cause.{Cause}
 use Rattle.core_state.specs.declared.entry.RowWrite.{RowWrite}
 use Rattle.core_state.specs.declared.entry.EngineChange.{EngineChange}
@@ -39,6 +41,10 @@ abbrev pub mark_line : List ℕ → ℕ → Act → Option Cause → List ℕ
 mark_line stack trav act None = stack_line stack trav act Complete
 mark_line stack trav act (Some cause) = failed_line stack trav act cause
 
+-- `released <token>`
+abbrev pub released_line : Token → List ℕ
+released_line token = line (codes "released" ∷ token_text token ∷ [])
+
 -- `engine <e> started`, `engine <e> stopped`, `restart <e>`
 abbrev pub engine_line : EngineChange → List ℕ
 engine_line (Start e) = line (codes "engine" ∷ decimal e ∷ codes "started" ∷ [])
@@ -65,8 +71,9 @@ show_text show.Outputs stack seen = []
 
 -- the line of an entry that writes no row
 abbrev pub line_of : List Row → What → List ℕ
-line_of seen (what.Command stack trav act plan) = command_line stack trav act
+line_of seen (what.Command stack trav act plan rollback) = command_line stack trav act
 line_of seen (what.Call token request answer) = []
+line_of seen (what.Release token) = released_line token
 line_of seen (what.Mark stack trav act cause) = mark_line stack trav act cause
 line_of seen (what.Rows writes) = []
 line_of seen (what.Mail writes) = []
@@ -79,8 +86,9 @@ line_of seen what.Closed = []
 
 -- the rows that an entry writes
 abbrev pub writes_of : What → List RowWrite
-writes_of (what.Command stack trav act plan) = []
+writes_of (what.Command stack trav act plan rollback) = []
 writes_of (what.Call token request answer) = []
+writes_of (what.Release token) = []
 writes_of (what.Mark stack trav act cause) = []
 writes_of (what.Rows writes) = writes
 writes_of (what.Mail writes) = []

@@ -1,6 +1,6 @@
 -- The text of a history.
 use Rattle.std.specs.Prelude.{◌≡◌, ℕ, List, [], ◌∷◌, ◌++◌, take, drop}
-use Rattle.core_state.specs.declared.row.Row.{Row}
+use Rattle.row_table.specs.declared.row.Row.{Row}
 use Rattle.core_state.specs.declared.entry.Entry.{Entry}
 use Rattle.core_state.specs.State.{StateData}
 use Rattle.report.specs.Entries.{what_text, after_what}

@@ -3,7 +3,7 @@ use Rattle.std.specs.Prelude.{ℕ, List, [], ◌∷◌, ◌++◌, Option, Some, 
 use Rattle.heat_value.specs.Path.{path_text}
 use Rattle.heat_value.specs.declared.path.Step.{Step}
 use Rattle.heat_plan.specs.declared.phase.Act.{Act}
-use Rattle.heat_plan.specs.declared.phase.Act.TheVariants.{Init, Create, Update, Delete}
+use Rattle.heat_plan.specs.declared.phase.Act.TheVariants.{Init, Create, Update, Delete, Rollback}
 use Rattle.heat_plan.specs.declared.phase.Status.{Status}
 use Rattle.heat_plan.specs.declared.phase.Status.TheVariants.{Complete, InProgress, Failed}
 use Rattle.core_state.specs.declared.entry.Why.{Why}
@@ -26,6 +26,7 @@ act_word Init = codes "INIT"
 act_word Create = codes "CREATE"
 act_word Update = codes "UPDATE"
 act_word Delete = codes "DELETE"
+act_word Rollback = codes "ROLLBACK"
 
 abbrev pub status_word : Status → List ℕ
 status_word Complete = codes "COMPLETE"
@@ -42,6 +43,7 @@ tried_word Init = codes "init"
 tried_word Create = codes "create"
 tried_word Update = codes "update"
 tried_word Delete = codes "delete"
+tried_word Rollback = codes "rollback"
 
 -- why a traversal failed
 abbrev pub why_text : Why → List ℕ

@@ -1,13 +1,13 @@
 //! The lines of the entries that write no row.
 ghost use Rattle.std.specs.Prelude.{◌≡◌, ℕ, List, IfOk, Option, option_map, string_bytes};
 ghost use Rattle.report.specs.Words.{why_text};
-ghost use Rattle.report.specs.Entries.{stack_words, stack_line, command_line, failed_line, cause_line, mark_line, engine_line, ran_line, turned_line, note_line, show_text, line_of};
+ghost use Rattle.report.specs.Entries.{stack_words, stack_line, command_line, failed_line, cause_line, mark_line, released_line, engine_line, ran_line, turned_line, note_line, show_text, line_of};
 
 use crate::resources::resources_text;
 use crate::seen::Seen;
 use crate::words::{act_word, status_word, why_text};
 use core_state::{Cause, EngineChange, ShowWhat, What};
-use heat_plan::{Act, EngineNo, StackName, Status, TravNo};
+use heat_plan::{Act, EngineNo, StackName, Status, Token, TravNo};
 use heat_value::{Path, Text};
 use std::alloc::{AllocError, Global};
 
@@ -94,6 +94,13 @@ fn mark_line(
     }
 }
 
+fn released_line(alloc: Global, token: &Token) -> Result<String, AllocError>
+    ensures { IfOk result (λ s. string_bytes s ≡ released_line token.now) }
+{
+    let text = token.text(alloc)?;
+    format!(in alloc; "released {}\n", text.as_str())
+}
+
 fn engine_line(alloc: Global, change: EngineChange) -> Result<String, AllocError>
     ensures { IfOk result (λ s. string_bytes s ≡ engine_line change) }
 {
@@ -167,6 +174,7 @@ pub(crate) fn entry_line(alloc: Global, seen: &Seen<'_>, what: &What) -> Result<
             act,
             ..
         } => command_line(alloc, stack, *trav, *act),
+        What::Release { token } => released_line(alloc, token),
         What::Mark {
             stack,
             trav,

@@ -1,6 +1,6 @@
 //! The rows that a history has shown so far: those of the opening state, with each write over them.
 ghost use Rattle.std.specs.Prelude.{◌≡◌, [], ◌∷◌, ◌++◌, OnOk, IfOk, option_map};
-ghost use Rattle.core_state.specs.State.{row_at, put_row};
+ghost use Rattle.row_table.specs.Rows.{row_at, put_row};
 ghost use Rattle.report.specs.Rows.{after_write};
 ghost use Rattle.report.specs.Entries.{after_what, writes_of};
 
@@ -11,14 +11,14 @@ use std::marker::Model;
 
 /// A row where it stands, in the opening state or in an entry.
 #[derive(Drop)]
-pub(crate) struct Shown<'a> {
+pub(crate) struct ShownRow<'a> {
     row: &'a Row,
 }
 
-impl<'a> Model for Shown<'a> {
+impl<'a> Model for ShownRow<'a> {
     ghost use Rattle.std.specs.Coded.{codes};
     ghost use Rattle.heat_value.specs.Code.{data_code, members_code};
-    ghost use Rattle.core_state.specs.declared.row.Row.{Row};
+    ghost use Rattle.row_table.specs.declared.row.Row.{Row};
 
     ghost Value = { Row };
 
@@ -27,11 +27,11 @@ impl<'a> Model for Shown<'a> {
     ghost view = { λ s. s.row.now };
 }
 
-impl<'a> Shown<'a> {
-    pub(crate) fn of(row: &'a Row) -> Shown<'a>
+impl<'a> ShownRow<'a> {
+    pub(crate) fn of(row: &'a Row) -> ShownRow<'a>
         ensures { result ≡ row.now }
     {
-        Shown { row }
+        ShownRow { row }
     }
 
     pub(crate) fn row(&self) -> &'a Row
@@ -41,7 +41,7 @@ impl<'a> Shown<'a> {
     }
 }
 
-impl<'a> Keyed for Shown<'a> {
+impl<'a> Keyed for ShownRow<'a> {
     type Key = RowNo;
 
     ghost use Rattle.std.specs.Prelude.{nat_eq};
@@ -62,14 +62,14 @@ impl<'a> Keyed for Shown<'a> {
 /// All rows that are seen, each under its number.
 #[derive(Drop)]
 pub(crate) struct Seen<'a> {
-    rows: Table<Shown<'a>>,
+    rows: Table<ShownRow<'a>>,
 }
 
 impl<'a> Model for Seen<'a> {
     ghost use Rattle.std.specs.Prelude.{List};
     ghost use Rattle.std.specs.Coded.{codes};
     ghost use Rattle.heat_value.specs.Code.{data_code, members_code};
-    ghost use Rattle.core_state.specs.declared.row.Row.{Row};
+    ghost use Rattle.row_table.specs.declared.row.Row.{Row};
 
     ghost Value = { List Row };
 
@@ -98,7 +98,7 @@ impl<'a> Seen<'a> {
     {
         self.rows.reserve(1)?;
         let last = self.rows.as_slice().len();
-        self.rows.insert(last, Shown::of(row));
+        self.rows.insert(last, ShownRow::of(row));
         Ok(())
     }
 
@@ -113,7 +113,7 @@ impl<'a> Seen<'a> {
     }
 
     /// All rows that are seen.
-    pub(crate) fn rows(&self) -> &[Shown<'a>]
+    pub(crate) fn rows(&self) -> &[ShownRow<'a>]
         ensures { result.now ≡ self.now }
     {
         self.rows.as_slice()
@@ -123,7 +123,7 @@ impl<'a> Seen<'a> {
         ensures { OnOk result (self.new ≡ put_row row.now self.old) }
     {
         self.rows.reserve(1)?;
-        self.rows.put(Shown::of(row));
+        self.rows.put(ShownRow::of(row));
         Ok(())
     }
 

@@ -4,7 +4,8 @@ use core_state::{
     Actor, Cause, Change, EngineChange, Entry, Row, RowWrite, ShowWhat, State, What, Why,
 };
 use heat_plan::{
-    Act, EngineNo, Facts, Kind, Policy, Properties, ResName, RowNo, StackName, Status, TravNo,
+    Act, EngineNo, Facts, Kind, Policy, Properties, ResName, RowNo, StackName, Status, Token,
+    TravNo,
 };
 use heat_value::{Path, Seq, Step, Text};
 use std::process::Abort;
@@ -106,6 +107,7 @@ fn begins(rt: &(impl Abort + AllocGlobal)) -> What {
         trav: trav(rt, 1),
         act: Act::Create,
         plan: None,
+        rollback: false,
     }
 }
 
@@ -162,6 +164,8 @@ fn stacks_are_told(rt: HostRuntime) {
     adds(&rt, &mut all, begins(&rt), "stack s 1 CREATE_IN_PROGRESS\n");
     let done = completes(&rt, Act::Delete);
     adds(&rt, &mut all, done, "stack s 2 DELETE_COMPLETE\n");
+    let back = completes(&rt, Act::Rollback);
+    adds(&rt, &mut all, back, "stack s 2 ROLLBACK_COMPLETE\n");
     let quota = fails(&rt, Act::Create, Why::Quota);
     adds(
         &rt,
@@ -233,6 +237,22 @@ fn rows_are_told_where_they_change(rt: HostRuntime) {
     adds(&rt, &mut all, purges(&rt, 1), "");
 }
 
+/// The token of row 1 is released.
+fn releases(rt: &(impl Abort + AllocGlobal)) -> What {
+    let token = Token {
+        stack: stack(rt),
+        name: name(rt),
+        row: row_no(rt, 1),
+    };
+    What::Release { token }
+}
+
+#[test]
+fn a_release_is_told(rt: HostRuntime) {
+    let mut all = Vec::new(rt.alloc());
+    adds(&rt, &mut all, releases(&rt), "released s/a/1\n");
+}
+
 #[test]
 fn engines_and_turns_are_told(rt: HostRuntime) {
     let mut all = Vec::new(rt.alloc());
@@ -280,9 +300,9 @@ row 5 a Test::Box UPDATE_FAILED id sim-1 replaces 1 replaced_by 9
 #[test]
 fn rows_of_the_opening_state_are_seen(rt: HostRuntime) {
     let mut opening = State::new(rt.alloc());
-    opening.reserve(1).expect(&rt, "memory");
     let first = row(&rt, 1, Act::Create, Status::Complete);
-    opening.apply(Change::PutRow(first));
+    let put = opening.apply(rt.alloc(), Change::PutRow(first));
+    put.ok().expect(&rt, "a change that applies");
     let mut all = Vec::new(rt.alloc());
     let by = Actor::Main;
     let what = sets(&rt, row(&rt, 1, Act::Create, Status::Complete));

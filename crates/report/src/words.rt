@@ -15,6 +15,7 @@ pub(crate) fn act_word(act: Act) -> &'static str
         Act::Create => "CREATE",
         Act::Update => "UPDATE",
         Act::Delete => "DELETE",
+        Act::Rollback => "ROLLBACK",
     }
 }
 
@@ -36,6 +37,7 @@ fn tried_word(act: Act) -> &'static str
         Act::Create => "create",
         Act::Update => "update",
         Act::Delete => "delete",
+        Act::Rollback => "rollback",
     }
 }
 

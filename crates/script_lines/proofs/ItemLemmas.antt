@@ -3,30 +3,30 @@ use Rattle.std.proofs.Common.{◌≡◌, ◌∙◌, ◌<◌, ◌+◌, ℕ, zero,
 use Rattle.std.proofs.lemmas.List.{take_more}
 use Rattle.heat_value.specs.Data.{Data, Members, no_members, member, fields}
 use Rattle.heat_value.specs.Meaning.{data_of, members_of}
-use Rattle.heat_value.specs.declared.value.Entry.{Entry}
+use Rattle.heat_value.specs.declared.value.Member.{Member}
 use Rattle.heat_plan.specs.declared.item.Item.{Item}
 use Rattle.script_lines.specs.Bodies.{IsItem, AreItems, GivesProperties, bare, full, boxed, box_item}
 
-items_push : (es : List Entry) (e : Entry) (is : List Item) (i : Item) → AreItems (members_of es) is → IsItem e.key (data_of e.value) i
+items_push : (es : List Member) (e : Member) (is : List Item) (i : Item) → AreItems (members_of es) is → IsItem e.key (data_of e.value) i
     → AreItems (members_of (es ++ e ∷ [])) (is ++ i ∷ [])
 items_push [] e [] i are one = (one, tt)
 items_push [] e (j ∷ is) i are one = absurd are
 items_push (f ∷ es) e [] i are one = absurd are
 items_push (f ∷ es) e (j ∷ is) i are one = (are.0, items_push es e is i are.1 one)
 
--- the items of one entry more
-pub items_more : (es : List Entry) (n : ℕ) (e : Entry) (is : List Item) (i : Item) → n < length es → e ≡ get_or es n e
+-- the items of one member more
+pub items_more : (es : List Member) (n : ℕ) (e : Member) (is : List Item) (i : Item) → n < length es → e ≡ get_or es n e
     → AreItems (members_of (take n es)) is → IsItem e.key (data_of e.value) i → AreItems (members_of (take (n + 1) es)) (is ++ i ∷ [])
 items_more es n e is i below at are one =
-    let more : take (n + 1) es ≡ take n es ++ e ∷ [] = rw (take_more es n e below) (ap (λ (f : Entry). take n es ++ f ∷ []) (sym at)) in
+    let more : take (n + 1) es ≡ take n es ++ e ∷ [] = rw (take_more es n e below) (ap (λ (f : Member). take n es ++ f ∷ []) (sym at)) in
     rw more (items_push (take n es) e is i are one)
 
--- each entry has an item
-pub item_at : (es : List Entry) (n : ℕ) (e : Entry) (is : List Item) → n < length es → e ≡ get_or es n e → AreItems (members_of es) is
+-- each member has an item
+pub item_at : (es : List Member) (n : ℕ) (e : Member) (is : List Item) → n < length es → e ≡ get_or es n e → AreItems (members_of es) is
     → (i : Item) × IsItem e.key (data_of e.value) i
 item_at [] n e is below at are = absurd (omega (arith, below))
 item_at (f ∷ es) n e [] below at are = absurd are
-item_at (f ∷ es) zero e (i ∷ is) below at are = (i, subst (λ (x : Entry). IsItem x.key (data_of x.value) i) (sym at) are.0)
+item_at (f ∷ es) zero e (i ∷ is) below at are = (i, subst (λ (x : Member). IsItem x.key (data_of x.value) i) (sym at) are.0)
 item_at (f ∷ es) (suc n) e (i ∷ is) below at are = item_at es n e is (omega (arith, below)) at are.1
 
 same_fields : (a b : Members) → fields a ≡ fields b → a ≡ b

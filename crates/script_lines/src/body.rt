@@ -10,7 +10,7 @@ ghost use Rattle.script_lines.specs.Bodies.{body_of, HasResources, most_resource
 use crate::LineFault;
 use crate::resources::items_of;
 use crate::shapes::{both, fields_of, only};
-use heat_plan::{Item, Plan};
+use heat_plan::{Item, Parameters, Plan};
 use heat_value::{Props, Seq, Value, ValueFault};
 use std::alloc::Global;
 
@@ -127,7 +127,7 @@ fn plan_of_items(alloc: Global, resources: &Props, items: Seq<Item>) -> Plan
     Plan::new(
         items,
         Seq::new(alloc),
-        Props::new(alloc),
+        Parameters::new(alloc),
         Seq::new(alloc),
         Seq::new(alloc),
         Seq::new(alloc),

@@ -8,7 +8,7 @@ ghost use Rattle.heat_plan.specs.declared.item.Item.{Item as item_type};
 use crate::LineFault;
 use crate::shapes::{both, fields_of, is_text, only};
 use heat_plan::{Item, Kind, Needs, Policy, Properties, ResName};
-use heat_value::{Entry, Props, Seq, Text, TryCopy, Value};
+use heat_value::{Member, Props, Seq, Text, TryCopy, Value};
 use std::alloc::{AllocError, Global};
 
 // The one type of resources.
@@ -21,24 +21,24 @@ pub fn items_of(alloc: Global, resources: &Props) -> Result<Seq<Item>, LineFault
     ensures none { IfErr result (λ e. e ≡ LineFault.N00
         → (is : List item_type) → ¬ AreItems resources.now is) }
 {
-    let entries = resources.as_slice();
-    let mut items = Seq::with_capacity(alloc, entries.len())?;
-    for entry in entries {
-        items.push(item_of(alloc, entry)?)?;
+    let members = resources.as_slice();
+    let mut items = Seq::with_capacity(alloc, members.len())?;
+    for member in members {
+        items.push(item_of(alloc, member)?)?;
     }
     Ok(items)
 }
 
 // The item of a resource.
-fn item_of(alloc: Global, entry: &Entry) -> Result<Item, LineFault>
-    ensures ok { IfOk result (λ i. IsItem entry.now.key (data_of entry.now.value) i) }
+fn item_of(alloc: Global, member: &Member) -> Result<Item, LineFault>
+    ensures ok { IfOk result (λ i. IsItem member.now.key (data_of member.now.value) i) }
     ensures none { IfErr result (λ e. e ≡ LineFault.N00
-        → (i : item_type) → ¬ IsItem entry.now.key (data_of entry.now.value) i) }
+        → (i : item_type) → ¬ IsItem member.now.key (data_of member.now.value) i) }
 {
-    let Some(name) = ResName::read(alloc, entry.key.as_str().as_bytes())? else {
+    let Some(name) = ResName::read(alloc, member.key.as_str().as_bytes())? else {
         return Err(LineFault::N00);
     };
-    let Some(resource) = fields_of(&entry.value) else {
+    let Some(resource) = fields_of(&member.value) else {
         return Err(LineFault::N00);
     };
     let props = properties_of(alloc, resource)?;
@@ -97,8 +97,8 @@ fn given_of(resource: &Props) -> Option<&Props>
 fn are_plain(given: &Props) -> bool
     ensures { IsTrue result ↔ ArePlain given.now }
 {
-    for entry in given.as_slice() {
-        if !is_property(&entry.key) || !is_scalar(&entry.value) {
+    for member in given.as_slice() {
+        if !is_property(&member.key) || !is_scalar(&member.value) {
             return false;
         }
     }

@@ -4,7 +4,7 @@ ghost use Rattle.heat_value.specs.Data.{Data, Members, fields, words};
 ghost use Rattle.heat_value.specs.Meaning.{data_of};
 ghost use Rattle.script_lines.specs.Bodies.{one, two};
 
-use heat_value::{Entry, Props, Value};
+use heat_value::{Member, Props, Value};
 
 /// The map that a value is.
 pub fn fields_of(value: &Value) -> Option<&Props>
@@ -34,15 +34,15 @@ pub fn only<'a>(map: &'a Props, key: &str) -> Option<&'a Value>
     ensures { MatchOption result ((d : Data) → map.now ≢ one key.now d)
         (λ v. map.now ≡ one key.now (data_of v.now)) }
 {
-    let entries = map.as_slice();
-    if entries.len() != 1 {
+    let members = map.as_slice();
+    if members.len() != 1 {
         return None;
     }
-    let entry = &entries[0];
-    if !is_under(entry, key) {
+    let member = &members[0];
+    if !is_under(member, key) {
         return None;
     }
-    Some(&entry.value)
+    Some(&member.value)
 }
 
 /// What stands under two keys that are a map's only ones, of which the first is the lesser.
@@ -50,11 +50,11 @@ pub fn both<'a>(map: &'a Props, first: &str, second: &str) -> Option<(&'a Value,
     ensures { MatchOption result ((d e : Data) → map.now ≢ two first.now d second.now e)
         (λ p. map.now ≡ two first.now (data_of p.0.now) second.now (data_of p.1.now)) }
 {
-    let entries = map.as_slice();
-    if entries.len() != 2 {
+    let members = map.as_slice();
+    if members.len() != 2 {
         return None;
     }
-    let (front, back) = (&entries[0], &entries[1]);
+    let (front, back) = (&members[0], &members[1]);
     if !is_under(front, first) {
         return None;
     }
@@ -64,9 +64,9 @@ pub fn both<'a>(map: &'a Props, first: &str, second: &str) -> Option<(&'a Value,
     Some((&front.value, &back.value))
 }
 
-// Whether an entry stands under this key.
-fn is_under(entry: &Entry, key: &str) -> bool
-    ensures { IsTrue result ↔ (entry.now.key ≡ key.now) }
+// Whether a member stands under this key.
+fn is_under(member: &Member, key: &str) -> bool
+    ensures { IsTrue result ↔ (member.now.key ≡ key.now) }
 {
-    entry.key.as_str() == key
+    member.key.as_str() == key
 }

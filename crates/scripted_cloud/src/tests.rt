@@ -1,5 +1,5 @@
 //! Each call and each answer once, at the simulated cloud and at the scripted one.
-use crate::{ScriptedCloud, Turn, change, look, make, send, wait};
+use crate::{ScriptedAnswer, ScriptedCloud, change, look, make, send, wait};
 use heat_plan::{Facts, Kind, Properties, Token};
 use heat_value::{Props, Seq, Text, TryCopy, Value};
 use provider::{Answer, Gone, Listed, Listing, Poll, Provider, Traced};
@@ -49,22 +49,19 @@ fn sized(alloc: Global, size: i64) -> Result<Properties, Fail> {
 }
 
 fn sim(alloc: Global) -> Result<SimCloud, AllocError> {
-    SimCloud::new(Settings {
-        alive: Seq::new(alloc),
-        quotas: Seq::new(alloc),
-        delays: Seq::new(alloc),
-        broken: Seq::new(alloc),
-        faults: Seq::new(alloc),
-        late: Seq::new(alloc),
-    })
+    SimCloud::new(Settings::empty(alloc))
 }
 
-// A cloud with two turns, which works then.
-fn scripted(alloc: Global, first: Turn, second: Turn) -> Result<ScriptedCloud, AllocError> {
-    let mut turns = Seq::new(alloc);
-    turns.push(first)?;
-    turns.push(second)?;
-    Ok(ScriptedCloud::new(alloc, Seq::new(alloc), turns))
+// A cloud with two scripted answers, which works then.
+fn two_answers(
+    alloc: Global,
+    first: ScriptedAnswer,
+    second: ScriptedAnswer,
+) -> Result<ScriptedCloud, AllocError> {
+    let mut answers = Seq::new(alloc);
+    answers.push(first)?;
+    answers.push(second)?;
+    Ok(ScriptedCloud::new(alloc, Seq::new(alloc), answers))
 }
 
 // What a poll answers, as a text.
@@ -147,46 +144,64 @@ fn sim_sends(alloc: Global) -> Result<(Option<usize>, Gone, Gone, Option<usize>)
     Ok((before, first, second, how_many(&mut cloud)))
 }
 
-// Whether a create and a poll by these two turns answer so.
-fn tells(alloc: Global, first: Turn, second: Turn, wanted: &str) -> Result<bool, Fail> {
-    let mut cloud = scripted(alloc, first, second)?;
+// Whether a create and a poll by these two answers answer so.
+fn tells(
+    alloc: Global,
+    first: ScriptedAnswer,
+    second: ScriptedAnswer,
+    wanted: &str,
+) -> Result<bool, Fail> {
+    let mut cloud = two_answers(alloc, first, second)?;
     let case = of_size(alloc, 1)?;
     Ok(made(alloc, &mut cloud, &case)?.as_str() == wanted)
 }
 
-// What a create by this turn answers, and how many are alive then.
-fn creates(alloc: Global, turn: Turn) -> Result<(Answer, Option<usize>), Fail> {
-    let mut cloud = scripted(alloc, turn, Turn::Works(0))?;
+// What a create by this answer answers, and how many are alive then.
+fn creates(alloc: Global, first: ScriptedAnswer) -> Result<(Answer, Option<usize>), Fail> {
+    let mut cloud = two_answers(alloc, first, ScriptedAnswer::Works(0))?;
     let case = of_size(alloc, 1)?;
     let answer = cloud.create(&case.token, &case.kind, &case.props);
     Ok((answer, how_many(&mut cloud)))
 }
 
-// What a delete and two questions by these turns answer.
-fn sends(alloc: Global, first: Turn, second: Turn) -> Result<(Gone, Gone), Fail> {
-    let mut cloud = scripted(alloc, first, second)?;
+// What a delete and two questions by these answers answer.
+fn sends(
+    alloc: Global,
+    first: ScriptedAnswer,
+    second: ScriptedAnswer,
+) -> Result<(Gone, Gone), Fail> {
+    let mut cloud = two_answers(alloc, first, second)?;
     let case = of_size(alloc, 1)?;
     Ok(sent(&mut cloud, &case))
 }
 
-// What a create, a delete and two questions answer, the first two by these turns.
-fn makes_and_sends(alloc: Global, first: Turn, second: Turn) -> Result<(Gone, Gone), Fail> {
-    let mut cloud = scripted(alloc, first, second)?;
+// What a create, a delete and two questions answer, the first two by these answers.
+fn makes_and_sends(
+    alloc: Global,
+    first: ScriptedAnswer,
+    second: ScriptedAnswer,
+) -> Result<(Gone, Gone), Fail> {
+    let mut cloud = two_answers(alloc, first, second)?;
     let case = of_size(alloc, 1)?;
     let _begun = make(&mut cloud, &case.token, &case.kind, &case.props);
     Ok(sent(&mut cloud, &case))
 }
 
-// Whether a create and an update by these turns, and a poll, answer so.
-fn changes(alloc: Global, first: Turn, second: Turn, wanted: &str) -> Result<bool, Fail> {
-    let mut cloud = scripted(alloc, first, second)?;
+// Whether a create and an update by these answers, and a poll, answer so.
+fn changes(
+    alloc: Global,
+    first: ScriptedAnswer,
+    second: ScriptedAnswer,
+    wanted: &str,
+) -> Result<bool, Fail> {
+    let mut cloud = two_answers(alloc, first, second)?;
     let case = of_size(alloc, 1)?;
     Ok(changed(alloc, &mut cloud, &case)?.as_str() == wanted)
 }
 
-// What a delete by this turn answers.
-fn deletes(alloc: Global, turn: Turn) -> Result<Answer, Fail> {
-    let mut cloud = scripted(alloc, turn, Turn::Works(0))?;
+// What a delete by this answer answers.
+fn deletes(alloc: Global, first: ScriptedAnswer) -> Result<Answer, Fail> {
+    let mut cloud = two_answers(alloc, first, ScriptedAnswer::Works(0))?;
     let case = of_size(alloc, 1)?;
     Ok(cloud.delete(&case.token))
 }
@@ -201,8 +216,8 @@ fn creates_none(alloc: Global) -> Result<Answer, Fail> {
     Ok(cloud.create(&case.token, &case.kind, &case.props))
 }
 
-fn lists(alloc: Global, turn: Turn) -> Result<Option<usize>, Fail> {
-    let mut cloud = scripted(alloc, turn, Turn::Works(0))?;
+fn lists(alloc: Global, first: ScriptedAnswer) -> Result<Option<usize>, Fail> {
+    let mut cloud = two_answers(alloc, first, ScriptedAnswer::Works(0))?;
     Ok(how_many(&mut cloud))
 }
 
@@ -229,27 +244,54 @@ fn a_simulated_resource_goes(rt: HostRuntime) -> Result<(), Fail> {
 #[test]
 fn a_scripted_poll_gives_each_answer(rt: HostRuntime) -> Result<(), Fail> {
     let alloc = rt.alloc();
-    assert!(rt; tells(alloc, Turn::Works(1), Turn::Works(0), "not yet")?);
-    assert!(rt; tells(alloc, Turn::Works(0), Turn::Fails, "failed")?);
     assert!(rt;
         tells(
             alloc,
-            Turn::Works(0),
-            Turn::Breaks(Text::from_str(alloc, "bad")?),
+            ScriptedAnswer::Works(1),
+            ScriptedAnswer::Works(0),
+            "not yet"
+        )?
+    );
+    assert!(rt;
+        tells(
+            alloc,
+            ScriptedAnswer::Works(0),
+            ScriptedAnswer::Fails,
+            "failed"
+        )?
+    );
+    assert!(rt;
+        tells(
+            alloc,
+            ScriptedAnswer::Works(0),
+            ScriptedAnswer::Breaks(Text::from_str(alloc, "bad")?),
             "bad"
         )?
     );
-    assert!(rt; tells(alloc, Turn::Fails, Turn::Fails, "not begun")?);
+    assert!(rt;
+        tells(
+            alloc,
+            ScriptedAnswer::Fails,
+            ScriptedAnswer::Fails,
+            "not begun"
+        )?
+    );
     Ok(())
 }
 
 #[test]
 fn a_scripted_create_gives_each_answer(rt: HostRuntime) -> Result<(), Fail> {
     let alloc = rt.alloc();
-    assert_eq!(rt; creates(alloc, Turn::Works(0))?, (Answer::Begun, Some(1)));
-    assert_eq!(rt; creates(alloc, Turn::Fails)?, (Answer::Failed, Some(0)));
     assert_eq!(rt;
-        creates(alloc, Turn::FailsLate(0))?,
+        creates(alloc, ScriptedAnswer::Works(0))?,
+        (Answer::Begun, Some(1))
+    );
+    assert_eq!(rt;
+        creates(alloc, ScriptedAnswer::Fails)?,
+        (Answer::Failed, Some(0))
+    );
+    assert_eq!(rt;
+        creates(alloc, ScriptedAnswer::FailsLate(0))?,
         (Answer::Failed, Some(1))
     );
     Ok(())
@@ -259,7 +301,7 @@ fn a_scripted_create_gives_each_answer(rt: HostRuntime) -> Result<(), Fail> {
 fn a_scripted_question_gives_each_answer(rt: HostRuntime) -> Result<(), Fail> {
     let alloc = rt.alloc();
     assert_eq!(rt;
-        sends(alloc, Turn::Works(0), Turn::Fails)?,
+        sends(alloc, ScriptedAnswer::Works(0), ScriptedAnswer::Fails)?,
         (Gone::Failed, Gone::Gone)
     );
     Ok(())
@@ -273,7 +315,11 @@ fn a_quota_refuses(rt: HostRuntime) -> Result<(), Fail> {
 
 #[test]
 fn a_resource_lingers_while_polls_are_left(rt: HostRuntime) -> Result<(), Fail> {
-    let answers = makes_and_sends(rt.alloc(), Turn::Works(0), Turn::Works(1))?;
+    let answers = makes_and_sends(
+        rt.alloc(),
+        ScriptedAnswer::Works(0),
+        ScriptedAnswer::Works(1),
+    )?;
     assert_eq!(rt; answers, (Gone::NotYet, Gone::Gone));
     Ok(())
 }
@@ -281,10 +327,24 @@ fn a_resource_lingers_while_polls_are_left(rt: HostRuntime) -> Result<(), Fail> 
 #[test]
 fn scripted_calls_fail(rt: HostRuntime) -> Result<(), Fail> {
     let alloc = rt.alloc();
-    assert!(rt; changes(alloc, Turn::Works(0), Turn::Fails, "failed")?);
-    assert!(rt; changes(alloc, Turn::Works(0), Turn::FailsLate(0), "failed")?);
-    assert_eq!(rt; deletes(alloc, Turn::Fails)?, Answer::Failed);
-    assert_eq!(rt; lists(alloc, Turn::Fails)?, None);
+    assert!(rt;
+        changes(
+            alloc,
+            ScriptedAnswer::Works(0),
+            ScriptedAnswer::Fails,
+            "failed"
+        )?
+    );
+    assert!(rt;
+        changes(
+            alloc,
+            ScriptedAnswer::Works(0),
+            ScriptedAnswer::FailsLate(0),
+            "failed"
+        )?
+    );
+    assert_eq!(rt; deletes(alloc, ScriptedAnswer::Fails)?, Answer::Failed);
+    assert_eq!(rt; lists(alloc, ScriptedAnswer::Fails)?, None);
     Ok(())
 }
 

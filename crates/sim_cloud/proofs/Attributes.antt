@@ -1,17 +1,16 @@
 -- Attributes nest no deeper than the properties that they are taken from.
-use Rattle.std.proofs.Common.{◌≡◌, ◌≤◌, ◌∙◌, ℕ, suc, Bool, true, false, List, [], ◌∷◌, ◌++◌, Option, Some, None, refl, ap, arith, max}
-use Rattle.std.proofs.lemmas.Grind.{common_steps}
-use Rattle.std.specs.Prelude.{map, fold, unwrap_or, bytes_eq, if◌then◌else◌, decimal, IfSome}
+use Rattle.std.proofs.Common.{◌≡◌, ◌≤◌, ℕ, Bool, true, false, List, [], ◌∷◌, ◌++◌, Some, refl, ap, arith, max}
+use Rattle.std.specs.Prelude.{map, fold, unwrap_or, bytes_eq, if◌then◌else◌, decimal}
 use Rattle.std.specs.Ordering.{nat_cmp, match_ordering}
 use Rattle.std.specs.Cmp.Lexicographic.{slice_cmp}
 use Rattle.std.specs.declared.cmp.Ordering.{Ordering}
 use Rattle.std.specs.declared.cmp.Ordering.TheVariants.{Less, Equal, Greater}
 use Rattle.heat_value.specs.Data.{Data, words, Members, no_members, member, depth, members_depth, fields, keys_of, lookup, put}
 use Rattle.heat_value.specs.Meaning.{members_of}
-use Rattle.heat_value.specs.declared.value.Entry.{Entry}
+use Rattle.heat_value.specs.declared.value.Member.{Member}
 use Rattle.sim_cloud.specs.Rule.{value_of, attrs_of}
 
-pub keys_of_members : (es : List Entry) → keys_of (members_of es) ≡ map (λ (e : Entry). e.key) es
+pub keys_of_members : (es : List Member) → keys_of (members_of es) ≡ map (λ (e : Member). e.key) es
 keys_of_members [] = refl
 keys_of_members (e ∷ es) = ap (λ ks. e.key ∷ ks) (keys_of_members es)
 

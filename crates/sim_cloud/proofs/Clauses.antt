@@ -1,6 +1,6 @@
 -- What the trait asks of each step, over the lists before and after it.
-use Rattle.std.proofs.Common.{◌≡◌, ◌≢◌, ◌<◌, ◌-◌, ℕ, Bool, true, false, List, [], ◌∷◌, ◌++◌, length, zero, suc, Option, Some, None, ◌∙◌, refl, sym, ap, arith, inl, inr}
-use Rattle.std.specs.Prelude.{Result, Ok, Err, OnOk, position, find, remove, slice_set, slice_get, IsSome}
+use Rattle.std.proofs.Common.{◌≡◌, ◌≢◌, ◌<◌, ◌-◌, ℕ, true, false, List, [], ◌∷◌, ◌++◌, length, zero, suc, Option, Some, None, ◌∙◌, refl, sym, ap, arith, inl, inr}
+use Rattle.std.specs.Prelude.{Result, Ok, Err, IfOk, OnOk, position, find, remove, slice_set, slice_get, IsSome}
 use Rattle.std.specs.List.{position_or_len}
 use Rattle.std.proofs.lemmas.List.Folds.{find_at}
 use Rattle.heat_value.specs.Data.{Members}
@@ -15,16 +15,24 @@ use Rattle.provider.specs.Cloud.{IsAlive, IsFull, entry_of}
 use Rattle.provider.specs.Changes.{Notes, Takes}
 use Rattle.provider.specs.Calls.{MayGo, Waits, IsReady, IsGone, Lingers}
 use Rattle.sim_cloud.specs.declared.held.Held.{Held}
-use Rattle.sim_cloud.specs.Holding.{is_of, held_of, place_of, whats, IsHolding}
+use Rattle.sim_cloud.specs.Holding.{is_of, held_of, place_of, IsHolding}
 use Rattle.sim_cloud.specs.Rule.{fresh, facts_again}
-use Rattle.sim_cloud.specs.Shown.{Beside, shown, leaving_of, left_of, IsMade, IsMadeAnew, IsSentAway}
+use Rattle.sim_cloud.specs.Shown.{Beside, shown, leaving_of, left_of, IsMade, IsMadeAnew, IsSentAway, HasFacts, IsUnready}
 use Rattle.sim_cloud.proofs.Places.{position-first, find-position, find-position_None}
-use Rattle.sim_cloud.proofs.Effects.{Becomes, becomes-set, becomes-push, shows, others-becomes, stays, adds, sets, sends, removes, lowers}
+use Rattle.sim_cloud.proofs.Effects.{becomes-set, becomes-push, shows, others-becomes, stays, renews, adds, sets, sends, removes, lowers}
 
 some_within : {X : Type 0} (xs : List X) (i : ℕ) → i < length xs → IsSome (slice_get xs i)
 some_within [] i lt = absurd (omega (arith, lt))
 some_within (x ∷ xs) zero lt = refl
 some_within (x ∷ xs) (suc i) lt = some_within xs i (omega (arith, lt))
+
+the : {X : Type 0} (o : Option X) → IsSome o → (x : X) × (o ≡ Some x)
+the None e = cc
+the (Some x) e = (x, refl)
+
+-- what stands at a token's place
+pub at_place : (xs : List Held) (token : Token) (i : ℕ) → place_of xs token ≡ Some i → (h : Held) × (slice_get xs i ≡ Some h)
+at_place xs token i at = the (slice_get xs i) (some_within xs i (position-first (is_of token) xs i at).1)
 
 some_what : (o : Option Held) → IsSome o → IsSome (Rattle.std.specs.Prelude.option_map (λ (h : Held). h.what) o)
 some_what None e = cc
@@ -55,7 +63,7 @@ leaving_at xs u token i h at here may = let e = may (placed xs u token i at) in 
 -- ---- create
 
 pub create_there : (xs : List Held) (u v : Beside) (token : Token) (kind : List ℕ) (props : Members) (i : ℕ) → place_of xs token ≡ Some i → Takes token (ask.Create kind props) (shown xs u) (shown xs v)
-create_there xs u v token kind props i at = inr (placed xs u token i at, stays xs u v)
+create_there xs u v token kind props i at = inr (placed xs u token i at, renews xs u v token)
 
 abbrev made : Token → Kind → Members → ℕ → Held
 made token kind props left = record { what = fresh token kind props; leaving = false; left = left }
@@ -64,24 +72,28 @@ pub create_new : (xs : List Held) (u v : Beside) (token : Token) (kind : Kind) (
     → Takes token (ask.Create kind.name props) (shown xs u) (shown (xs ++ made token kind props left ∷ []) v)
 create_new xs u v token kind props left none room = inl (adds xs (made token kind props left) u v none (room (unplaced xs u token none)) refl refl)
 
-pub made_there : (xs ys : List Held) (u v : Beside) (token : Token) (kind : Kind) (props : Members) (left i : ℕ) → place_of xs token ≡ Some i → IsMade token kind props left (shown xs u) (shown ys v)
-made_there xs ys u v token kind props left i at =
+pub made_there : (xs : List Held) (u v : Beside) (token : Token) (kind : Kind) (props : Members) (left i : ℕ) → place_of xs token ≡ Some i → IsMade token kind props left (shown xs u) (shown xs v)
+made_there xs u v token kind props left i at =
     let there = placed xs u token i at in
-    record { entry = λ none. cc; left = λ none. cc }
+    record { entry = λ none. cc; left = λ none. cc; again = λ _. stays xs u v }
 
 pub made_new : (xs : List Held) (u v : Beside) (token : Token) (kind : Kind) (props : Members) (left : ℕ) → place_of xs token ≡ None
     → IsMade token kind props left (shown xs u) (shown (xs ++ made token kind props left ∷ []) v)
 made_new xs u v token kind props left none =
     let one = made token kind props left in
     let b = becomes-push xs one none in
-    record { entry = λ _. shows (xs ++ one ∷ []) v token (Some one) b.is; left = λ _. rw b.is refl }
+    record {
+      entry = λ _. shows (xs ++ one ∷ []) v token (Some one) b.is;
+      left = λ _. rw b.is refl;
+      again = λ there. absurd (not_placed xs u token none there);
+    }
 
 -- ---- update
 
 pub update_same : (xs : List Held) (u v : Beside) (token : Token) (props : Members) (i : ℕ) (h : Held) → place_of xs token ≡ Some i → slice_get xs i ≡ Some h → h.what.props ≡ props
     → Takes token (ask.Update props) (shown xs u) (shown xs v)
 update_same xs u v token props i h at here same =
-    inr (record { it = h.what; entry = shows xs u token (Some h) (found xs token i h at here); same = same }, stays xs u v)
+    inr (record { it = h.what; entry = shows xs u token (Some h) (found xs token i h at here); same = same }, renews xs u v token)
 
 abbrev set : Held → Members → Facts → ℕ → Held
 set h props facts left = record h { what = record h.what { props = props; facts = facts; ready = false }; left = left }
@@ -93,33 +105,37 @@ update_set xs u v token props facts left i h at here differs = inl (sets token x
 pub same_some : {X : Type 0} (a b : X) → Some a ≡ Some b → a ≡ b
 same_some a b e = cc
 
-pub anew_same : (xs ys : List Held) (u v : Beside) (token : Token) (props : Members) (left i : ℕ) (h : Held) → place_of xs token ≡ Some i → slice_get xs i ≡ Some h → h.what.props ≡ props
-    → IsMadeAnew token props left (shown xs u) (shown ys v)
-anew_same xs ys u v token props left i h at here same =
-    let entry = shows xs u token (Some h) (found xs token i h at here) in
+-- what is shown of a token is what stands at its place
+pub is_at : (xs : List Held) (u : Beside) (token : Token) (i : ℕ) (h : Held) (it : Alive) → place_of xs token ≡ Some i → slice_get xs i ≡ Some h → entry_of (shown xs u) token ≡ Some it → h.what ≡ it
+is_at xs u token i h it at here e = same_some h.what it (sym (shows xs u token (Some h) (found xs token i h at here)) ∙ e)
+
+pub anew_same : (xs : List Held) (u v : Beside) (token : Token) (props : Members) (left i : ℕ) (h : Held) → place_of xs token ≡ Some i → slice_get xs i ≡ Some h → h.what.props ≡ props
+    → IsMadeAnew token props left (shown xs u) (shown xs v)
+anew_same xs u v token props left i h at here same =
     record {
-      entry = λ it e differs. absurd (differs (let is = same_some h.what it (sym entry ∙ e) in rw (← is) same));
-      left = λ it e differs. absurd (differs (let is = same_some h.what it (sym entry ∙ e) in rw (← is) same));
+      entry = λ it e differs. absurd (differs (rw (← is_at xs u token i h it at here e) same));
+      left = λ it e differs. absurd (differs (rw (← is_at xs u token i h it at here e) same));
+      again = λ _. stays xs u v;
     }
 
-pub anew_set : (xs : List Held) (u v : Beside) (token : Token) (props : Members) (left i : ℕ) (h : Held) → place_of xs token ≡ Some i → slice_get xs i ≡ Some h
+pub anew_set : (xs : List Held) (u v : Beside) (token : Token) (props : Members) (left i : ℕ) (h : Held) → place_of xs token ≡ Some i → slice_get xs i ≡ Some h → h.what.props ≢ props
     → IsMadeAnew token props left (shown xs u) (shown (slice_set xs i (set h props (facts_again h.what.facts props token.row) left)) v)
-anew_set xs u v token props left i h at here =
+anew_set xs u v token props left i h at here other =
     let after = set h props (facts_again h.what.facts props token.row) left in
     let b = becomes-set token xs i h after at here refl in
-    let entry = shows xs u token (Some h) (found xs token i h at here) in
     record {
-      entry = λ it e differs. let is = same_some h.what it (sym entry ∙ e) in rw (← is) (shows (slice_set xs i after) v token (Some after) b.is);
+      entry = λ it e differs. rw (← is_at xs u token i h it at here e) (shows (slice_set xs i after) v token (Some after) b.is);
       left = λ it e differs. rw b.is refl;
+      again = λ has. absurd (other (rw (is_at xs u token i h has.it at here has.entry) has.same));
     }
 
 -- ---- delete
 
 pub delete_absent : (xs : List Held) (u v : Beside) (token : Token) → place_of xs token ≡ None → Takes token ask.Delete (shown xs u) (shown xs v)
-delete_absent xs u v token none = inr ((λ there. absurd (not_placed xs u token none there)), stays xs u v)
+delete_absent xs u v token none = inr ((λ there. absurd (not_placed xs u token none there)), renews xs u v token)
 
 pub delete_again : (xs : List Held) (u v : Beside) (token : Token) (i : ℕ) (h : Held) → place_of xs token ≡ Some i → slice_get xs i ≡ Some h → h.leaving ≡ true → Takes token ask.Delete (shown xs u) (shown xs v)
-delete_again xs u v token i h at here leaving = inr ((λ there. rw (found xs token i h at here) leaving), stays xs u v)
+delete_again xs u v token i h at here leaving = inr ((λ there. rw (found xs token i h at here) leaving), renews xs u v token)
 
 abbrev sent : Held → ℕ → Held
 sent h left = record h { leaving = true; left = left }
@@ -128,15 +144,20 @@ pub delete_first : (xs : List Held) (u v : Beside) (token : Token) (left i : ℕ
     → Takes token ask.Delete (shown xs u) (shown (slice_set xs i (sent h left)) v)
 delete_first xs u v token left i h at here stays_on = inl (sends token xs i h u v left at here stays_on)
 
-pub sent_absent : (xs ys : List Held) (u v : Beside) (token : Token) (left : ℕ) → place_of xs token ≡ None → IsSentAway token left (shown xs u) (shown ys v)
-sent_absent xs ys u v token left none = λ it e. let f = unplaced xs u token none in cc
+pub sent_absent : (xs : List Held) (u v : Beside) (token : Token) (left : ℕ) → place_of xs token ≡ None → IsSentAway token left (shown xs u) (shown xs v)
+sent_absent xs u v token left none = record { left = λ it e. let f = unplaced xs u token none in cc; again = λ _. stays xs u v }
 
-pub sent_again : (xs ys : List Held) (u v : Beside) (token : Token) (left i : ℕ) (h : Held) → place_of xs token ≡ Some i → slice_get xs i ≡ Some h → h.leaving ≡ true → IsSentAway token left (shown xs u) (shown ys v)
-sent_again xs ys u v token left i h at here leaving = λ it e before. let f = ap leaving_of (found xs token i h at here) in cc
+pub sent_again : (xs : List Held) (u v : Beside) (token : Token) (left i : ℕ) (h : Held) → place_of xs token ≡ Some i → slice_get xs i ≡ Some h → h.leaving ≡ true → IsSentAway token left (shown xs u) (shown xs v)
+sent_again xs u v token left i h at here leaving = record { left = λ it e before. let f = ap leaving_of (found xs token i h at here) in cc; again = λ _. stays xs u v }
 
-pub sent_first : (xs : List Held) (u v : Beside) (token : Token) (left i : ℕ) (h : Held) → place_of xs token ≡ Some i → slice_get xs i ≡ Some h
+pub sent_first : (xs : List Held) (u v : Beside) (token : Token) (left i : ℕ) (h : Held) → place_of xs token ≡ Some i → slice_get xs i ≡ Some h → h.leaving ≡ false
     → IsSentAway token left (shown xs u) (shown (slice_set xs i (sent h left)) v)
-sent_first xs u v token left i h at here = let b = becomes-set token xs i h (sent h left) at here refl in λ it e before. rw b.is refl
+sent_first xs u v token left i h at here stays_on =
+    let b = becomes-set token xs i h (sent h left) at here refl in
+    record {
+      left = λ it e before. rw b.is refl;
+      again = λ gone. let leaving = gone (placed xs u token i at) in let f = ap leaving_of (found xs token i h at here) in cc;
+    }
 
 -- ---- poll
 
@@ -148,23 +169,33 @@ pub poll_waits : (xs : List Held) (u v : Beside) (token : Token) (i : ℕ) (h : 
     → Waits token (shown xs u) (shown (slice_set xs i (record h { left = h.left - 1 })) v)
 poll_waits xs u v token i h at here some notes = record { noted = notes; lowers = lowers token xs i h u v at here some }
 
-pub poll_ready : (xs : List Held) (u v : Beside) (token : Token) (i : ℕ) (h : Held) → place_of xs token ≡ Some i → slice_get xs i ≡ Some h → h.left ≡ 0
-    → Notes (Called token ask.Poll (answer.Ready h.what.facts)) (shown xs u) (shown (slice_set xs i (record h { what = record h.what { ready = true } })) v)
-    → IsReady token h.what.facts (shown xs u) (shown (slice_set xs i (record h { what = record h.what { ready = true } })) v)
-poll_ready xs u v token i h at here due notes =
-    let after : Held = record h { what = record h.what { ready = true } } in
-    let ys = slice_set xs i after in
-    let b = becomes-set token xs i h after at here refl in
+pub left_absent : (xs : List Held) (token : Token) → place_of xs token ≡ None → left_of (held_of xs token) ≡ 0
+left_absent xs token none = ap left_of (find-position_None (is_of token) xs none)
+
+abbrev pub told : Held → Facts → Held
+told h facts = record h { what = record h.what { facts = facts; ready = true }; left = 0 }
+
+pub poll_ready : (xs : List Held) (u v : Beside) (token : Token) (facts : Facts) (i : ℕ) (h : Held) → place_of xs token ≡ Some i → slice_get xs i ≡ Some h → (h.what.ready ≡ true → h.what.facts ≡ facts)
+    → Notes (Called token ask.Poll (answer.Ready facts)) (shown xs u) (shown (slice_set xs i (told h facts)) v)
+    → IsReady token facts (shown xs u) (shown (slice_set xs i (told h facts)) v)
+poll_ready xs u v token facts i h at here steady notes =
+    let ys = slice_set xs i (told h facts) in
+    let b = becomes-set token xs i h (told h facts) at here refl in
     record {
       noted = notes;
-      due = rw b.was due;
       before = h.what;
-      told = refl;
-      turns = record { was = shows xs u token (Some h) b.was; is = shows ys v token (Some after) b.is };
+      turns = record { was = shows xs u token (Some h) b.was; is = shows ys v token (Some (told h facts)) b.is };
+      steady = steady;
       leaving = rw (b.was, b.is) refl;
-      left = rw b.is due;
-      others = others-becomes token xs ys u v (Some h) (Some after) b;
+      left = rw (b.was, b.is) (omega arith);
+      others = others-becomes token xs ys u v (Some h) (Some (told h facts)) b;
     }
+
+pub has_facts : (xs : List Held) (u : Beside) (token : Token) (i : ℕ) (h : Held) → place_of xs token ≡ Some i → slice_get xs i ≡ Some h → HasFacts (shown xs u) token h.what.facts
+has_facts xs u token i h at here it e = rw (is_at xs u token i h it at here e) refl
+
+pub unready_at : (xs : List Held) (u : Beside) (token : Token) (i : ℕ) (h : Held) → place_of xs token ≡ Some i → slice_get xs i ≡ Some h → IsUnready (shown xs u) token → h.what.ready ≡ false
+unready_at xs u token i h at here it = rw (is_at xs u token i h it.0 at here it.1) it.2
 
 -- ---- gone
 
@@ -172,9 +203,9 @@ pub gone_absent : (xs : List Held) (u v : Beside) (token : Token) → place_of x
     → Notes (Called token ask.Gone answer.Gone) (shown xs u) (shown xs v) → IsGone token (shown xs u) (shown xs v)
 gone_absent xs u v token none notes = record { noted = notes; effect = inr (unplaced xs u token none, stays xs u v) }
 
-pub gone_removed : (xs : List Held) (u v : Beside) (token : Token) (i : ℕ) (h : Held) → IsHolding xs → place_of xs token ≡ Some i → slice_get xs i ≡ Some h → h.left ≡ 0 → h.leaving ≡ true
+pub gone_removed : (xs : List Held) (u v : Beside) (token : Token) (i : ℕ) (h : Held) → IsHolding xs → place_of xs token ≡ Some i → slice_get xs i ≡ Some h → h.leaving ≡ true
     → Notes (Called token ask.Gone answer.Gone) (shown xs u) (shown (remove xs i) v) → IsGone token (shown xs u) (shown (remove xs i) v)
-gone_removed xs u v token i h fit at here due leaving notes = record { noted = notes; effect = inl (removes token xs i h u v fit at here leaving due) }
+gone_removed xs u v token i h fit at here leaving notes = record { noted = notes; effect = inl (removes token xs i h u v fit at here leaving) }
 
 pub gone_lingers : (xs : List Held) (u v : Beside) (token : Token) (i : ℕ) (h : Held) → place_of xs token ≡ Some i → slice_get xs i ≡ Some h → 0 < h.left → h.leaving ≡ true
     → Notes (Called token ask.Gone answer.NotYet) (shown xs u) (shown (slice_set xs i (record h { left = h.left - 1 })) v)
@@ -191,6 +222,10 @@ gone_lingers xs u v token i h at here some leaving notes = record {
 pub on_ok : {T E A B : Type 0} (r : Result T E) → OnOk r A → (A → B) → OnOk r B
 on_ok (Ok v) a f = f a
 on_ok (Err e) a f = tt
+
+pub if_ok : {T E : Type 0} {P Q : T → Type 0} (r : Result T E) → IfOk r P → ((v : T) → P v → Q v) → IfOk r Q
+if_ok (Ok v) p f = f v p
+if_ok (Err e) p f = tt
 
 pub on_ok_both : {T E A B C : Type 0} (r : Result T E) → OnOk r A → OnOk r B → (A → B → C) → OnOk r C
 on_ok_both (Ok v) a b f = f a b

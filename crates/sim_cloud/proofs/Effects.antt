@@ -1,26 +1,23 @@
 -- What each change of the holdings makes of what the cloud shows.
-use Rattle.std.proofs.Common.{◌≡◌, ◌≢◌, ◌⊎◌, ◌<◌, ◌≤◌, ◌-◌, ◌∙◌, ℕ, suc, Bool, true, false, true≢false, List, [], ◌∷◌, ◌++◌, length, get_or, map, Option, Some, None, refl, sym, ap, arith, inl, inr}
+use Rattle.std.proofs.Common.{◌≡◌, ◌≢◌, ◌⊎◌, ◌<◌, ◌≤◌, ◌-◌, ◌∙◌, ℕ, Bool, true, false, true≢false, List, [], ◌∷◌, ◌++◌, length, get_or, Option, Some, None, refl, sym, ap, arith, inl, inr}
 use Rattle.std.proofs.lemmas.Grind.{common_steps}
-use Rattle.std.specs.Prelude.{find, position, remove, slice_set, slice_get, option_map, IsSome}
+use Rattle.std.specs.Prelude.{remove, slice_set, slice_get, option_map}
 use Rattle.std.proofs.lemmas.Option.{slice_get_within, get_or_from_slice_get}
 use Rattle.std.proofs.Math.Seq.{map-set_same}
 use Rattle.std.proofs.lemmas.List.Folds.{find_past}
 use Rattle.heat_value.specs.Data.{Members}
 use Rattle.heat_plan.specs.declared.token.Token.{Token}
 use Rattle.heat_plan.specs.declared.facts.Facts.{Facts}
-use Rattle.heat_plan.specs.declared.kind.Kind.{Kind}
-use Rattle.heat_plan.specs.declared.calls.Request.TheVariants as ask
-use Rattle.provider.specs.declared.alive.Alive.{Alive}
 use Rattle.provider.specs.declared.traced.Traced.{Traced}
 use Rattle.provider.proofs.Sames.{same_token-same, same_token-other, same_token-true}
 use Rattle.provider.specs.Same.{same_token}
-use Rattle.provider.specs.Cloud.{Cloud, IsAlive, IsFull, entry_of}
-use Rattle.provider.specs.Changes.{Notes, Stays, IsKept, KeepsOthers, Turns, Adds, Sets, SendsAway, Removes, HasProps, Takes, Lowers}
+use Rattle.provider.specs.Cloud.{IsAlive, IsFull, entry_of}
+use Rattle.provider.specs.Changes.{Notes, Stays, Renews, KeepsOthers, Adds, Sets, SendsAway, Removes, Lowers}
 use Rattle.sim_cloud.specs.declared.held.Held.{Held}
 use Rattle.sim_cloud.specs.Holding.{is_of, held_of, place_of, whats, IsHolding}
-use Rattle.sim_cloud.specs.Shown.{Beside, shown, leaving_of, left_of}
+use Rattle.sim_cloud.specs.Shown.{Beside, shown, leaving_of}
 use Rattle.sim_cloud.specs.Sound.{find_whats}
-use Rattle.sim_cloud.proofs.Places.{position-first, find-position, find-position_None, find-position_set, passes, find-push, find-push_other, find-remove, find-remove_other}
+use Rattle.sim_cloud.proofs.Places.{find-position, find-position_None, find-position_set, passes, find-push, find-push_other, find-remove, find-remove_other}
 
 -- the token is held before and after so, and others as before
 pub record Becomes (token : Token) (xs ys : List Held) (before after : Option Held) : Type 0 where
@@ -89,6 +86,9 @@ noted held more u v call trace faults quota = record { trace = trace; faults = f
 pub stays : (held : List Held) (u v : Beside) → Stays (shown held u) (shown held v)
 stays held u v = record { alive = refl; leaving = λ t. refl; left = λ t. refl }
 
+pub renews : (held : List Held) (u v : Beside) (token : Token) → Renews token (shown held u) (shown held v)
+renews held u v token = record { alive = refl; leaving = λ t. refl; others = λ t ne. refl }
+
 pub adds : (xs : List Held) (one : Held) (u v : Beside) → place_of xs one.what.token ≡ None → ¬ IsFull (shown xs u) one.what.kind → one.leaving ≡ false → one.what.ready ≡ false
     → Adds one.what.token one.what.kind one.what.props (shown xs u) (shown (xs ++ one ∷ []) v)
 adds xs one u v none room young unready =
@@ -134,14 +134,13 @@ sends token xs i a u v left at here before =
       others = others-becomes token xs ys u v (Some a) (Some after) b;
     }
 
-pub removes : (token : Token) (xs : List Held) (i : ℕ) (a : Held) (u v : Beside) → IsHolding xs → place_of xs token ≡ Some i → slice_get xs i ≡ Some a → a.leaving ≡ true → a.left ≡ 0
+pub removes : (token : Token) (xs : List Held) (i : ℕ) (a : Held) (u v : Beside) → IsHolding xs → place_of xs token ≡ Some i → slice_get xs i ≡ Some a → a.leaving ≡ true
     → Removes token (shown xs u) (shown (remove xs i) v)
-removes token xs i a u v h at here leaving due =
+removes token xs i a u v h at here leaving =
     let b = becomes-remove token xs i a h at here in
     record {
       there = alive-becomes token xs (remove xs i) u a None b;
       leaving = rw b.was leaving;
-      due = rw b.was due;
       absent = shows (remove xs i) v token None b.is;
       others = others-becomes token xs (remove xs i) u v (Some a) None b;
     }
@@ -159,7 +158,9 @@ lowers token xs i a u v at here some =
     let b = becomes-set token xs i a after at here refl in
     record {
       lower = rw (b.was, b.is) (omega (arith, some));
-      alive = whats-set xs i a after here refl;
-      leaving = λ t. same_leaving token xs ys a after b refl t (same_token t token) refl;
-      others = λ t ne. rw (b.others t ne) refl;
+      rest = record {
+        alive = whats-set xs i a after here refl;
+        leaving = λ t. same_leaving token xs ys a after b refl t (same_token t token) refl;
+        others = λ t ne. rw (b.others t ne) refl;
+      };
     }

@@ -1,5 +1,5 @@
 -- Calls of an inventory that failed.
-use Rattle.std.proofs.Common.{◌≡◌, ◌⊎◌, ◌≤◌, ◌+◌, ◌-◌, ◌^◌, min, ℕ, List, [], ◌∷◌, ◌++◌, refl, arith, inl, inr}
+use Rattle.std.proofs.Common.{◌≡◌, ◌⊎◌, ◌≤◌, ◌+◌, ◌-◌, ◌^◌, min, List, [], ◌∷◌, ◌++◌, refl, arith, inl, inr}
 use Rattle.heat_plan.specs.declared.token.Token.{Token}
 use Rattle.heat_plan.specs.declared.calls.Request.{Request}
 use Rattle.heat_plan.specs.declared.calls.Request.TheVariants.{Create, Update, Delete, Poll, Gone}
@@ -8,13 +8,12 @@ use Rattle.provider.specs.declared.traced.Traced.{Traced}
 use Rattle.provider.specs.declared.traced.Traced.TheVariants.{Called, Listed}
 use Rattle.provider.specs.declared.traced.Listing.TheVariants as listing
 use Rattle.provider.specs.Cloud.{Cloud}
-use Rattle.provider.specs.Changes.{Notes, Stays, KeepsOthers, Adds, Sets, SendsAway, Takes}
+use Rattle.provider.specs.Changes.{Notes, Stays, Renews, KeepsOthers, Takes}
 use Rattle.provider.specs.Calls.{HasFailed, ListsNone}
 use Rattle.sim_cloud.specs.declared.held.Held.{Held}
 use Rattle.sim_cloud.specs.declared.inventory.Inventory.{Inventory}
 use Rattle.sim_cloud.specs.Shown.{Beside, shown, quota_in}
 use Rattle.sim_cloud.specs.Simulated.{beside_of, shown_by}
-use Rattle.sim_cloud.proofs.Effects.{noted}
 
 -- the inventory's quotas and count, with another trace
 abbrev pub with_trace : Inventory → List Traced → Beside
@@ -26,17 +25,20 @@ others_on token old ys v w k t ne = let o = k t ne in record { entry = o.entry; 
 stays_on : (old : Cloud) (ys : List Held) (v w : Beside) → Stays old (shown ys v) → Stays old (shown ys w)
 stays_on old ys v w s = record { alive = s.alive; leaving = s.leaving; left = s.left }
 
+renews_on : (token : Token) (old : Cloud) (ys : List Held) (v w : Beside) → Renews token old (shown ys v) → Renews token old (shown ys w)
+renews_on token old ys v w s = record { alive = s.alive; leaving = s.leaving; others = s.others }
+
 -- an effect is one of the resources alone
 takes_on : (token : Token) (request : Request) (old : Cloud) (ys : List Held) (v w : Beside) → Takes token request old (shown ys v) → Takes token request old (shown ys w)
 takes_on token (Create kind props) old ys v w (inl a) =
     inl (record { absent = a.absent; room = a.room; facts = a.facts; entry = a.entry; young = a.young; others = others_on token old ys v w a.others })
-takes_on token (Create kind props) old ys v w (inr s) = inr (s.0, stays_on old ys v w s.1)
+takes_on token (Create kind props) old ys v w (inr s) = inr (s.0, renews_on token old ys v w s.1)
 takes_on token (Update props) old ys v w (inl a) =
     inl (record { before = a.before; facts = a.facts; differs = a.differs; turns = record { was = a.turns.was; is = a.turns.is }; leaving = a.leaving; others = others_on token old ys v w a.others })
-takes_on token (Update props) old ys v w (inr s) = inr (s.0, stays_on old ys v w s.1)
+takes_on token (Update props) old ys v w (inr s) = inr (s.0, renews_on token old ys v w s.1)
 takes_on token Delete old ys v w (inl a) =
     inl (record { there = a.there; before = a.before; now = a.now; alive = a.alive; others = others_on token old ys v w a.others })
-takes_on token Delete old ys v w (inr s) = inr (s.0, stays_on old ys v w s.1)
+takes_on token Delete old ys v w (inr s) = inr (s.0, renews_on token old ys v w s.1)
 takes_on token Poll old ys v w e = absurd e
 takes_on token Gone old ys v w e = absurd e
 

@@ -1,7 +1,7 @@
 -- Distinct tokens and few polls left are kept by each change.
-use Rattle.std.proofs.Common.{◌≡◌, ◌≢◌, ◌⊎◌, ◌<◌, ◌≤◌, ◌∙◌, ◌+◌, ℕ, zero, suc, cond, Option, Bool, true, false, true≢false, List, [], ◌∷◌, ◌++◌, length, get_or, Some, None, refl, sym, ap, arith, inl, inr}
-use Rattle.std.proofs.lemmas.Grind.{common_steps, get_or-set_at}
-use Rattle.std.specs.Prelude.{find, position, remove, slice_set, slice_get, All, AllPairs}
+use Rattle.std.proofs.Common.{◌≡◌, ◌≢◌, ◌⊎◌, ◌<◌, ◌≤◌, ◌∙◌, ◌+◌, ℕ, zero, suc, cond, Option, Bool, true, false, true≢false, List, [], ◌∷◌, ◌++◌, length, get_or, Some, None, refl, sym, arith, inl, inr}
+use Rattle.std.proofs.lemmas.Grind.{common_steps}
+use Rattle.std.specs.Prelude.{find, remove, slice_set, slice_get, All, AllPairs}
 use Rattle.std.proofs.lemmas.List.Elements.{All-set, All-push}
 use Rattle.std.proofs.lemmas.List.Quantifiers.{all_pairs_push, all_pairs_remove}
 use Rattle.std.proofs.lemmas.List.Edits.{get_or-remove_below, get_or-remove_above, length-remove}

@@ -1,5 +1,5 @@
 -- The resources that a simulated cloud holds, by token.
-use Rattle.std.specs.Prelude.{◌≡◌, ◌≢◌, ◌≤◌, ℕ, List, Bool, false, Option, Some, None, find, position, map, All, AllPairs}
+use Rattle.std.specs.Prelude.{◌≢◌, ◌≤◌, ℕ, List, Bool, Option, find, position, map, All, AllPairs}
 use Rattle.heat_plan.specs.declared.token.Token.{Token}
 use Rattle.provider.specs.declared.alive.Alive.{Alive}
 use Rattle.provider.specs.Same.{same_token}

@@ -1,11 +1,13 @@
 -- What a cloud in memory shows, and what its calls say beyond the trait.
-use Rattle.std.specs.Prelude.{◌≡◌, ◌≢◌, ℕ, List, Bool, false, Option, Some, None, option_map, find, bytes_eq}
+use Rattle.std.specs.Prelude.{◌≡◌, ◌≢◌, ℕ, List, Bool, true, false, Option, Some, None, option_map, find, bytes_eq}
 use Rattle.heat_value.specs.Data.{Members}
+use Rattle.heat_plan.specs.declared.facts.Facts.{Facts}
 use Rattle.heat_plan.specs.declared.kind.Kind.{Kind}
 use Rattle.heat_plan.specs.declared.token.Token.{Token}
 use Rattle.provider.specs.declared.alive.Alive.{Alive}
 use Rattle.provider.specs.declared.traced.Traced.{Traced}
-use Rattle.provider.specs.Cloud.{Cloud, entry_of}
+use Rattle.provider.specs.Cloud.{Cloud, IsAlive, entry_of}
+use Rattle.provider.specs.Changes.{Stays, HasProps}
 use Rattle.sim_cloud.specs.declared.held.Held.{Held}
 use Rattle.sim_cloud.specs.declared.settings.KindQuota.{KindQuota}
 use Rattle.sim_cloud.specs.Holding.{held_of, whats}
@@ -39,17 +41,28 @@ shown held beside = record {
 abbrev pub quota_in : List KindQuota → List ℕ → Option ℕ
 quota_in quotas kind = option_map (λ (q : KindQuota). q.most) (find (λ (q : KindQuota). bytes_eq q.kind kind) quotas)
 
--- create, begun: a token that wasn't alive has its id and attributes by the rule, and so many polls left
+-- create, begun: a token that wasn't alive has its id and attributes by the rule, and so many polls left; else nothing changes
 pub record IsMade (token : Token) (kind : Kind) (props : Members) (polls : ℕ) (old new : Cloud) : Type 0 where
   pub entry : entry_of old token ≡ None → entry_of new token ≡ Some (fresh token kind props)
   pub left : entry_of old token ≡ None → new.left token ≡ polls
+  pub again : IsAlive old token → Stays old new
 
--- update, begun: other properties give the attributes anew, and so many polls left
+-- update, begun: other properties give the attributes anew, and so many polls left; else nothing changes
 pub record IsMadeAnew (token : Token) (props : Members) (polls : ℕ) (old new : Cloud) : Type 0 where
   pub entry : (it : Alive) → entry_of old token ≡ Some it → it.props ≢ props
       → entry_of new token ≡ Some (record it { props = props; facts = facts_again it.facts props token.row; ready = false })
   pub left : (it : Alive) → entry_of old token ≡ Some it → it.props ≢ props → new.left token ≡ polls
+  pub again : HasProps old token props → Stays old new
 
--- delete, begun: an alive token that wasn't leaving has so many polls left
-abbrev pub IsSentAway : Token → ℕ → Cloud → Cloud → Type 0
-IsSentAway token polls old new = (it : Alive) → entry_of old token ≡ Some it → old.leaving token ≡ false → new.left token ≡ polls
+-- delete, begun: an alive token that wasn't leaving has so many polls left; else nothing changes
+pub record IsSentAway (token : Token) (polls : ℕ) (old new : Cloud) : Type 0 where
+  pub left : (it : Alive) → entry_of old token ≡ Some it → old.leaving token ≡ false → new.left token ≡ polls
+  pub again : (IsAlive old token → old.leaving token ≡ true) → Stays old new
+
+-- the token's resource has these facts
+abbrev pub HasFacts : Cloud → Token → Facts → Type 0
+HasFacts cloud token facts = (it : Alive) → entry_of cloud token ≡ Some it → it.facts ≡ facts
+
+-- the token has a resource, and it isn't ready
+abbrev pub IsUnready : Cloud → Token → Type 0
+IsUnready cloud token = (it : Alive) × (entry_of cloud token ≡ Some it) × (it.ready ≡ false)

@@ -1,11 +1,10 @@
 -- What a simulated cloud shows is lawful.
 use Rattle.std.specs.Prelude.{◌≡◌, ◌≢◌, ◌<◌, ◌≤◌, ℕ, Bool, true, false, cond, List, [], ◌∷◌, length, Option, Some, None, zero, suc, map, find, option_map, slice_index_or, AllPairs, All, IsTrue}
-use Rattle.std.proofs.Common.{refl, ap, sym, arith, get_or}
-use Rattle.std.proofs.lemmas.Grind.{common_steps}
+use Rattle.std.proofs.Common.{refl, ap, arith, get_or}
 use Rattle.heat_plan.specs.declared.token.Token.{Token}
 use Rattle.provider.specs.declared.alive.Alive.{Alive}
 use Rattle.provider.specs.Same.{same_token}
-use Rattle.provider.specs.Cloud.{IsLawful, IsAlive, entry_of}
+use Rattle.provider.specs.Cloud.{IsLawful}
 use Rattle.sim_cloud.specs.declared.held.Held.{Held}
 use Rattle.sim_cloud.specs.Holding.{is_of, held_of, whats, IsHolding}
 use Rattle.sim_cloud.specs.Shown.{Beside, shown, leaving_of, left_of}

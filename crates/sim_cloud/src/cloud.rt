@@ -1,5 +1,6 @@
-//! The simulated cloud as a provider. Its own clauses say the ids and the attributes that it gives, that
-//! no polls are left after a request, and that it never fails and breaks nothing.
+//! The simulated cloud as a provider. Its own clauses say the ids and the attributes that it gives, that a
+//! resource keeps them from its create on, that no polls are left after a request and a second one changes
+//! nothing, that NotYet comes exactly where polls are left, and that it never fails and breaks nothing.
 ghost use Rattle.std.specs.Prelude.{◌≡◌, ◌≢◌, ℕ, List};
 ghost use Rattle.heat_plan.specs.declared.facts.Facts.{Facts as facts_type};
 ghost use Rattle.heat_plan.specs.declared.calls.Request.TheVariants as ask;
@@ -7,7 +8,7 @@ ghost use Rattle.provider.specs.declared.alive.Alive.{Alive};
 ghost use Rattle.provider.specs.Cloud.{IsAlive};
 ghost use Rattle.provider.specs.Changes.{IsAsBefore};
 ghost use Rattle.provider.specs.Calls.{MayGo, HasBegun, IsRefused, Waits, IsReady, IsGone, Lingers, Lists};
-ghost use Rattle.sim_cloud.specs.Shown.{IsMade, IsMadeAnew, IsSentAway};
+ghost use Rattle.sim_cloud.specs.Shown.{IsMade, IsMadeAnew, IsSentAway, HasFacts};
 ghost use Rattle.sim_cloud.specs.Sound.{lawful_shown};
 ghost use Rattle.sim_cloud.specs.Simulated.{beside_of, cloud_of};
 
@@ -70,6 +71,10 @@ impl Provider for SimCloud {
             Waits token.now (cloud_of self.old) (cloud_of self.new) }
         ensures ready { (facts : facts_type) → result ≡ Poll.Ready facts →
             IsReady token.now facts (cloud_of self.old) (cloud_of self.new) }
+        ensures due { result ≢ Poll.NotYet → result ≢ Poll.Memory →
+            (cloud_of self.old).left token.now ≡ 0 }
+        ensures had { (facts : facts_type) → result ≡ Poll.Ready facts →
+            HasFacts (cloud_of self.old) token.now facts }
         ensures memory { result ≡ Poll.Memory → IsAsBefore (cloud_of self.old) (cloud_of self.new) }
     {
         self.all.poll(Course::Works, token, None)
@@ -79,6 +84,7 @@ impl Provider for SimCloud {
         requires { MayGo (cloud_of self.old) token.now }
         ensures never { result ≢ Gone.Failed }
         ensures gone { result ≡ Gone.Gone → IsGone token.now (cloud_of self.old) (cloud_of self.new) }
+        ensures due { result ≡ Gone.Gone → (cloud_of self.old).left token.now ≡ 0 }
         ensures not_yet { result ≡ Gone.NotYet →
             Lingers token.now (cloud_of self.old) (cloud_of self.new) }
         ensures memory { result ≡ Gone.Memory → IsAsBefore (cloud_of self.old) (cloud_of self.new) }

@@ -80,15 +80,20 @@ impl Holdings {
         one.left = one.left.saturating_sub(1);
     }
 
-    /// The resource is ready.
+    /// The resource is ready with these facts, and no polls are left.
     #[tactic(auto, using(crate::proofs::Kept::holding_set))]
-    pub fn mark_ready(&mut self, at: usize)
+    pub fn mark_ready(&mut self, at: usize, facts: Facts)
         requires { at < length self.old.all }
         ensures { (h : held_type) → slice_get self.old.all at ≡ Some h →
-            self.new.all ≡ slice_set self.old.all at
-            (record h { what = record h.what { ready = true } }) }
+            self.new.all ≡ slice_set self.old.all at (record h {
+              what = record h.what { facts = facts; ready = true };
+              left = 0;
+            }) }
     {
-        self.all.item_mut(at).what.ready = true;
+        let one = self.all.item_mut(at);
+        one.what.facts = facts;
+        one.what.ready = true;
+        one.left = 0;
     }
 
     /// The resource is leaving, with so many polls left.

@@ -1,6 +1,6 @@
 //! What a cloud in memory has: its resources, its quotas, its trace, and how often it has failed. Each of
 //! its calls is told its course, and meets the clauses of the provider's call of that name.
-ghost use Rattle.std.specs.Prelude.{◌≡◌, ◌≤◌, ◌++◌, ◌∷◌, [], ◌≢◌, ◌+◌, ◌-◌, ◌^◌, min, None, OnOk, OnErr, IsTrue, IsFalse};
+ghost use Rattle.std.specs.Prelude.{◌≡◌, ◌≤◌, ◌++◌, ◌∷◌, [], ◌≢◌, ◌+◌, ◌-◌, ◌^◌, min, None, Some, OnOk, OnErr, IsTrue, IsFalse};
 ghost use Rattle.provider.specs.declared.traced.Traced.TheVariants.{Called};
 
 use crate::holdings::Holdings;
@@ -37,11 +37,33 @@ impl Inventory {
 }
 
 impl Inventory {
+    ghost use Rattle.provider.specs.declared.alive.Alive.{Alive as alive_type};
     ghost use Rattle.provider.specs.Cloud.{IsFull, entry_of};
     ghost use Rattle.provider.specs.Changes.{IsAsBefore};
     ghost use Rattle.provider.specs.Calls.{HasFailed};
     ghost use Rattle.sim_cloud.specs.Shown.{quota_in};
     ghost use Rattle.sim_cloud.specs.Simulated.{shown_by};
+
+    /// Whether an alive token's resource is ready.
+    pub fn is_ready(&self, token: &Token) -> bool
+        ensures { (it : alive_type) → entry_of (shown_by self.now) token.now ≡ Some it →
+            result ≡ it.ready }
+    {
+        match self.held.place_of(token) {
+            Some(at) => self.held.get(at).what.ready,
+            None => false,
+        }
+    }
+
+    /// How many polls of the token are left.
+    pub fn left(&self, token: &Token) -> u8
+        ensures { result ≡ (shown_by self.now).left token.now }
+    {
+        match self.held.place_of(token) {
+            Some(at) => self.held.get(at).left,
+            None => 0,
+        }
+    }
 
     /// A call fails with nothing done.
     pub(crate) fn fail(&mut self, token: &Token, request: Request) -> Result<(), AllocError>

@@ -8,6 +8,7 @@ ghost use Rattle.provider.specs.Cloud.{IsAlive};
 ghost use Rattle.provider.specs.Changes.{IsAsBefore};
 ghost use Rattle.provider.specs.Calls.{MayGo, HasFailed, Waits, IsReady, IsBroken, IsGone, Lingers, Lists, ListsNone};
 ghost use Rattle.sim_cloud.specs.Holding.{place_of, whats};
+ghost use Rattle.sim_cloud.specs.Shown.{HasFacts, IsUnready};
 ghost use Rattle.sim_cloud.specs.Simulated.{shown_by};
 ghost use Rattle.sim_cloud.specs.declared.held.Held.{Held as held_type};
 
@@ -29,6 +30,10 @@ impl Inventory {
             IsReady token.now facts (shown_by self.old) (shown_by self.new) }
         ensures broken { (code : List ℕ) → result ≡ Poll.Broken code →
             IsBroken token.now code (shown_by self.old) (shown_by self.new) }
+        ensures due { result ≢ Poll.NotYet → result ≢ Poll.Failed → result ≢ Poll.Memory →
+            (shown_by self.old).left token.now ≡ 0 }
+        ensures had { (facts : facts_type) → result ≡ Poll.Ready facts →
+            HasFacts (shown_by self.old) token.now facts }
         ensures code { (text : List ℕ) → result ≡ Poll.Broken text →
             option_map (λ c. c.now) code.entry ≡ Some text }
         ensures whole { (facts : facts_type) → result ≡ Poll.Ready facts → code.entry ≡ None }
@@ -56,6 +61,10 @@ impl Inventory {
             IsReady token.now facts (shown_by self.old) (shown_by self.new) }
         ensures broken { (code : List ℕ) → result ≡ Poll.Broken code →
             IsBroken token.now code (shown_by self.old) (shown_by self.new) }
+        ensures due { result ≢ Poll.NotYet → result ≢ Poll.Failed → result ≢ Poll.Memory →
+            (shown_by self.old).left token.now ≡ 0 }
+        ensures had { (facts : facts_type) → result ≡ Poll.Ready facts →
+            HasFacts (shown_by self.old) token.now facts }
         ensures code { (text : List ℕ) → result ≡ Poll.Broken text →
             option_map (λ c. c.now) code.entry ≡ Some text }
         ensures whole { (facts : facts_type) → result ≡ Poll.Ready facts → code.entry ≡ None }
@@ -79,13 +88,14 @@ impl Inventory {
 
     // A poll of the resource at this place, which has no polls left.
     fn poll_due(&mut self, at: usize, token: &Token, code: Option<&Text>) -> Poll
-        requires at { place_of self.old.held.all token.now ≡ Some at }
-        requires due { (shown_by self.old).left token.now ≡ 0 }
+        requires { place_of self.old.held.all token.now ≡ Some at }
         ensures not_yet { result ≢ Poll.NotYet }
         ensures ready { (facts : facts_type) → result ≡ Poll.Ready facts →
             IsReady token.now facts (shown_by self.old) (shown_by self.new) }
         ensures broken { (code : List ℕ) → result ≡ Poll.Broken code →
             IsBroken token.now code (shown_by self.old) (shown_by self.new) }
+        ensures had { (facts : facts_type) → result ≡ Poll.Ready facts →
+            HasFacts (shown_by self.old) token.now facts }
         ensures code { (text : List ℕ) → result ≡ Poll.Broken text →
             option_map (λ c. c.now) code.entry ≡ Some text }
         ensures whole { (facts : facts_type) → result ≡ Poll.Ready facts → code.entry ≡ None }
@@ -116,28 +126,58 @@ impl Inventory {
         Ok(())
     }
 
-    // Answers Ready.
+    // Answers Ready with the facts that the resource has.
     fn ready_at(&mut self, at: usize, token: &Token) -> Result<Facts, AllocError>
-        requires at { place_of self.old.held.all token.now ≡ Some at }
-        requires due { (shown_by self.old).left token.now ≡ 0 }
+        requires { place_of self.old.held.all token.now ≡ Some at }
         ensures ok { IfOk result (λ f.
             IsReady token.now f (shown_by self.old) (shown_by self.new)) }
+        ensures had { IfOk result (λ f. HasFacts (shown_by self.old) token.now f) }
         ensures memory { OnErr result (IsAsBefore (shown_by self.old) (shown_by self.new)) }
     {
         let facts = self.held.get(at).what.facts.copy()?;
+        self.tell_at(at, token, facts)
+    }
+
+    // Answers Ready with these facts.
+    fn tell_at(&mut self, at: usize, token: &Token, facts: Facts) -> Result<Facts, AllocError>
+        requires at { place_of self.old.held.all token.now ≡ Some at }
+        requires steady { (h : held_type) → slice_get self.old.held.all at ≡ Some h →
+            h.what.ready ≡ true → h.what.facts ≡ facts }
+        ensures ok { OnOk result (IsReady token.now facts (shown_by self.old) (shown_by self.new)) }
+        ensures same { IfOk result (λ f. f ≡ facts) }
+        ensures memory { OnErr result (IsAsBefore (shown_by self.old) (shown_by self.new)) }
+    {
+        let kept = facts.copy()?;
         note(
             &mut self.trace,
             token,
             Request::Poll,
             Answered::Ready(facts.copy()?),
         )?;
-        self.held.mark_ready(at);
+        self.held.mark_ready(at, kept);
         Ok(facts)
+    }
+
+    /// Answers Ready for a resource that isn't ready, whatever polls are left. The facts told are the
+    /// resource's from then on, and no polls are left.
+    pub fn tell(&mut self, token: &Token, facts: Facts) -> Poll
+        requires { IsUnready (shown_by self.old) token.now }
+        ensures ready { result ≢ Poll.Memory →
+            IsReady token.now facts (shown_by self.old) (shown_by self.new) }
+        ensures only { (result ≡ Poll.Ready facts) ⊎ (result ≡ Poll.Memory) }
+        ensures memory { result ≡ Poll.Memory → IsAsBefore (shown_by self.old) (shown_by self.new) }
+    {
+        match self.held.place_of(token) {
+            None => unreachable!(),
+            Some(at) => match self.tell_at(at, token, facts) {
+                Ok(facts) => Poll::Ready(facts),
+                Err(_) => Poll::Memory,
+            },
+        }
     }
 
     // Answers Broken.
     fn break_with(&mut self, token: &Token, code: &Text) -> Result<Text, AllocError>
-        requires { (shown_by self.old).left token.now ≡ 0 }
         ensures code { IfOk result (λ c. c ≡ code.now) }
         ensures ok { OnOk result (IsBroken token.now code.now (shown_by self.old) (shown_by self.new)) }
         ensures memory { OnErr result (IsAsBefore (shown_by self.old) (shown_by self.new)) }
@@ -156,6 +196,7 @@ impl Inventory {
     pub fn gone(&mut self, course: Course, token: &Token) -> Gone
         requires { MayGo (shown_by self.old) token.now }
         ensures gone { result ≡ Gone.Gone → IsGone token.now (shown_by self.old) (shown_by self.new) }
+        ensures due { result ≡ Gone.Gone → (shown_by self.old).left token.now ≡ 0 }
         ensures not_yet { result ≡ Gone.NotYet →
             Lingers token.now (shown_by self.old) (shown_by self.new) }
         ensures failed { result ≡ Gone.Failed →
@@ -182,6 +223,7 @@ impl Inventory {
         requires { MayGo (shown_by self.old) token.now }
         ensures gone { IfOk result (λ b. IsTrue b →
             IsGone token.now (shown_by self.old) (shown_by self.new)) }
+        ensures due { IfOk result (λ b. IsTrue b → (shown_by self.old).left token.now ≡ 0) }
         ensures not_yet { IfOk result (λ b. IsFalse b →
             Lingers token.now (shown_by self.old) (shown_by self.new)) }
         ensures memory { OnErr result (IsAsBefore (shown_by self.old) (shown_by self.new)) }
@@ -219,8 +261,7 @@ impl Inventory {
     // Answers Gone.
     fn let_go_at(&mut self, at: usize, token: &Token) -> Result<(), AllocError>
         requires { place_of self.old.held.all token.now ≡ Some at }
-        ensures ok { (h : held_type) → slice_get self.old.held.all at ≡ Some h → h.left ≡ 0 →
-            h.leaving ≡ true →
+        ensures ok { (h : held_type) → slice_get self.old.held.all at ≡ Some h → h.leaving ≡ true →
             OnOk result (IsGone token.now (shown_by self.old) (shown_by self.new)) }
         ensures memory { OnErr result (IsAsBefore (shown_by self.old) (shown_by self.new)) }
     {

@@ -18,7 +18,7 @@ use crate::holdings::Holdings;
 use crate::inventory::{Inventory, note};
 use crate::rule::{facts_anew, new_resource};
 use heat_plan::{Answered, Facts, Kind, Properties, Request, Token};
-use heat_value::TryCopy;
+use heat_value::{Equals, TryCopy};
 use provider::Answer;
 use std::alloc::AllocError;
 
@@ -47,14 +47,11 @@ impl Inventory {
     {
         match course {
             Course::Works => self.create_now(token, kind, props, left),
-            Course::Fails => match self.fail_create(token, kind, props) {
-                Ok(()) => Answer::Failed,
-                Err(_) => Answer::Memory,
-            },
-            Course::FailsLate => match self.create_late(token, kind, props, left) {
-                Ok(()) => Answer::Failed,
-                Err(_) => Answer::Memory,
-            },
+            Course::Fails => answer_or_memory(Answer::Failed, self.fail_create(token, kind, props)),
+            Course::FailsLate => answer_or_memory(
+                Answer::Failed,
+                self.create_late(token, kind, props, left),
+            ),
         }
     }
 
@@ -71,15 +68,12 @@ impl Inventory {
         ensures memory { result ≡ Answer.Memory → IsAsBefore (shown_by self.old) (shown_by self.new) }
     {
         if self.refuses(token, &kind.name) {
-            match self.refuse(token, kind, props) {
-                Ok(()) => Answer::Quota,
-                Err(_) => Answer::Memory,
-            }
+            answer_or_memory(Answer::Quota, self.refuse(token, kind, props))
         } else {
-            match self.begin_create(Answered::Begun, token, kind, props, left) {
-                Ok(()) => Answer::Begun,
-                Err(_) => Answer::Memory,
-            }
+            answer_or_memory(
+                Answer::Begun,
+                self.begin_create(Answered::Begun, token, kind, props, left),
+            )
         }
     }
 
@@ -210,18 +204,15 @@ impl Inventory {
         ensures memory { result ≡ Answer.Memory → IsAsBefore (shown_by self.old) (shown_by self.new) }
     {
         match course {
-            Course::Works => match self.begin_update(Answered::Begun, token, props, left) {
-                Ok(()) => Answer::Begun,
-                Err(_) => Answer::Memory,
-            },
-            Course::Fails => match self.fail_update(token, props) {
-                Ok(()) => Answer::Failed,
-                Err(_) => Answer::Memory,
-            },
-            Course::FailsLate => match self.update_late(token, props, left) {
-                Ok(()) => Answer::Failed,
-                Err(_) => Answer::Memory,
-            },
+            Course::Works => answer_or_memory(
+                Answer::Begun,
+                self.begin_update(Answered::Begun, token, props, left),
+            ),
+            Course::Fails => answer_or_memory(Answer::Failed, self.fail_update(token, props)),
+            Course::FailsLate => answer_or_memory(
+                Answer::Failed,
+                self.update_late(token, props, left),
+            ),
         }
     }
 
@@ -301,7 +292,7 @@ impl Inventory {
             h.what.props ≢ props.now → OnOk result (Takes token.now (ask.Update props.now)
             (shown_by self.old) (shown_by self.new)) }
         ensures made { (h : held_type) → slice_get self.old.held.all at ≡ Some h →
-            OnOk result (IsMadeAnew token.now props.now left
+            h.what.props ≢ props.now → OnOk result (IsMadeAnew token.now props.now left
             (shown_by self.old) (shown_by self.new)) }
         ensures memory { OnErr result (IsAsBefore (shown_by self.old) (shown_by self.new)) }
         ensures faults { self.new.faults ≡ self.old.faults }
@@ -333,18 +324,12 @@ impl Inventory {
         ensures memory { result ≡ Answer.Memory → IsAsBefore (shown_by self.old) (shown_by self.new) }
     {
         match course {
-            Course::Works => match self.begin_delete(Answered::Begun, token, left) {
-                Ok(()) => Answer::Begun,
-                Err(_) => Answer::Memory,
-            },
-            Course::Fails => match self.fail(token, Request::Delete) {
-                Ok(()) => Answer::Failed,
-                Err(_) => Answer::Memory,
-            },
-            Course::FailsLate => match self.delete_late(token, left) {
-                Ok(()) => Answer::Failed,
-                Err(_) => Answer::Memory,
-            },
+            Course::Works => answer_or_memory(
+                Answer::Begun,
+                self.begin_delete(Answered::Begun, token, left),
+            ),
+            Course::Fails => answer_or_memory(Answer::Failed, self.fail(token, Request::Delete)),
+            Course::FailsLate => answer_or_memory(Answer::Failed, self.delete_late(token, left)),
         }
     }
 
@@ -387,6 +372,17 @@ impl Inventory {
             }
         }
         Ok(())
+    }
+}
+
+// The answer of what was done, or Memory.
+fn answer_or_memory(answer: Answer, done: Result<(), AllocError>) -> Answer
+    ensures ok { OnOk done (result ≡ answer) }
+    ensures memory { OnErr done (result ≡ Answer.Memory) }
+{
+    match done {
+        Ok(()) => answer,
+        Err(_) => Answer::Memory,
     }
 }
 

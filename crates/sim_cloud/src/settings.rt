@@ -1,6 +1,7 @@
 //! What a simulated cloud is made with.
 use heat_value::{Seq, Text};
 use provider::Alive;
+use std::alloc::Global;
 
 /// A resource that is there from the start; polls left are at most 64.
 #[derive(Debug, Drop)]
@@ -41,4 +42,22 @@ pub struct Settings {
     pub broken: Seq<NameCode>,
     pub faults: Seq<u64>,
     pub late: Seq<u64>,
+}
+
+impl Settings {
+    ghost use Rattle.sim_cloud.specs.Settings.{HasNothingSet};
+
+    /// Nothing is set.
+    pub fn empty(alloc: Global) -> Settings
+        ensures { HasNothingSet result }
+    {
+        Settings {
+            alive: Seq::new(alloc),
+            quotas: Seq::new(alloc),
+            delays: Seq::new(alloc),
+            broken: Seq::new(alloc),
+            faults: Seq::new(alloc),
+            late: Seq::new(alloc),
+        }
+    }
 }

@@ -1,12 +1,15 @@
 -- Candidates considered one after another, on the list and on the graph.
-use Rattle.std.proofs.Common.{◌≡◌, ℕ, ◌<◌, ◌^◌, List, [], ◌∷◌, ◌++◌, refl, sym, ap, ◌∙◌, inl, inr, append_assoc, arith}
+use Rattle.std.proofs.Common.{◌≡◌, ◌↔◌, ℕ, ◌<◌, ◌^◌, Bool, true, false, IsTrue, length, List, [], ◌∷◌, ◌++◌, refl, sym, ap, ◌∙◌, inl, inr, append_assoc, arith}
 use Rattle.std.specs.Prelude.{Contains}
+use Rattle.std.proofs.lemmas.Bool.{false≢true}
 use Rattle.std.proofs.lemmas.List.{append-nil}
 use Rattle.std.proofs.lemmas.List.Elements.{Contains-push, Contains-push_cases, Contains-append_left}
-use Rattle.dep_graph.specs.Paths.{IsPath, HasPath, IsAcyclic}
-use Rattle.dep_graph.specs.Edges.{Links, HasEdge, IsBare}
+use Rattle.dep_graph.specs.Paths.{HasPath, IsAcyclic}
+use Rattle.dep_graph.specs.Edges.{Links, HasEdge, IsBare, AddsEdge}
 use Rattle.dep_graph.specs.Closings.{Opens, Closes}
-use Rattle.dep_graph.proofs.PathLemmas.{IsPath-weaker, HasPath-leads, Leads-weaker, leads_of, acyclic_from, no_loop}
+use Rattle.dep_graph.proofs.PathLemmas.{HasPath-leads, Leads-weaker, leads_of, acyclic_from, no_loop}
+use Rattle.dep_graph.specs.Marks.{IsMarked, MarksAll}
+use Rattle.dep_graph.proofs.ClosingLemmas.{acyclic_added, reached_same, reaching_same}
 use Rattle.traversal_graph.specs.declared.draft.Draft.{Draft}
 use Rattle.traversal_graph.specs.Builds.{Joins, Considers, Keeps}
 use Rattle.traversal_graph.specs.Builds.Keeps.{begins, goes_on}
@@ -66,17 +69,52 @@ Draws-added old graph edges before after draft opens acyclic made = record {
       | inr e ↦ inr (sym (ap (λ (p : ℕ × ℕ). p.0) e), sym (ap (λ (p : ℕ × ℕ). p.1) e))
     ])
 
+-- a candidate that would close a cycle leaves all as it is
+pub Draws-same : (old : Draft) (before after : ℕ) → IsDraft old → HasPath (HasEdge old.graph) after before
+    → Draws ((before, after) ∷ []) old old
+Draws-same old before after draft h = record {
+  size = refl;
+  draft_is = draft;
+  keeps = one old.edges old.edges before after
+      (inl (path_along (HasEdge old.graph) (Joins old.edges) (λ x y k. (draft.edges x y).0 k) after before h, refl));
+}
+
 pub Draws-refused : (old : Draft) (graph : Links) (before after : ℕ) (path : List ℕ) → IsDraft old
     → Closes before after old.graph graph path
     → Draws ((before, after) ∷ []) old (record { graph = graph; edges = old.edges })
-Draws-refused old graph before after path draft closes = rw closes.same (record {
-  size = refl;
-  draft_is = draft;
-  keeps = one old.edges old.edges before after (inl ((path, closing), refl));
-})
-  where
-    closing : IsPath (Joins old.edges) after before path
-    closing = IsPath-weaker (HasEdge old.graph) (Joins old.edges) (λ x y k. (draft.edges x y).0 k) after before path closes.path_is
+Draws-refused old graph before after path draft closes = rw closes.same (Draws-same old before after draft (path, closes.path_is))
+
+-- an edge that is added where no path leads back
+pub Draws-opened : (old : Draft) (graph : Links) (edges : List (ℕ × ℕ)) (before after : ℕ) → IsDraft old
+    → ¬ HasPath (HasEdge old.graph) after before → AddsEdge before after old.graph graph → edges ≡ old.edges ++ (before, after) ∷ []
+    → Draws ((before, after) ∷ []) old (record { graph = graph; edges = edges })
+Draws-opened old graph edges before after draft open' adds made =
+    Draws-added old graph edges before after draft (record { open_ = open'; added = adds })
+    (acyclic_added old.graph graph before after adds draft.acyclic open') made
+
+-- marks on what is reached from an edge's after stay right, and so do those on what reaches its before
+pub reached_kept : (old new : Links) (before after : ℕ) (marks : List Bool) → AddsEdge before after old new
+    → ¬ HasPath (HasEdge old) after before → MarksAll (HasPath (HasEdge old) after) marks → MarksAll (HasPath (HasEdge new) after) marks
+reached_kept old new before after marks adds open' exact node lt =
+    let same = reached_same old new before after adds open' node in
+    let was = exact node lt in
+    (λ m. same.0 (was.0 m), λ h. was.1 (same.1 h))
+
+pub reaching_kept : (old new : Links) (before after : ℕ) (marks : List Bool) → AddsEdge before after old new
+    → MarksAll (λ node. HasPath (HasEdge old) node before) marks → MarksAll (λ node. HasPath (HasEdge new) node before) marks
+reaching_kept old new before after marks adds exact node lt =
+    let same = reaching_same old new before after adds node in
+    let was = exact node lt in
+    (λ m. same.0 (was.0 m), λ h. was.1 (same.1 h))
+
+-- what a mark says of its node
+pub kind_from_mark : (Is : ℕ → Type 0) (marks : List Bool) (node : ℕ) (found : Bool) → node < length marks → MarksAll Is marks
+    → IsTrue found ↔ IsMarked marks node → found ≡ true → Is node
+kind_from_mark Is marks node found lt exact has e = (exact node lt).0 (has.0 e)
+
+pub none_from_mark : (Is : ℕ → Type 0) (marks : List Bool) (node : ℕ) (found : Bool) → node < length marks → MarksAll Is marks
+    → IsTrue found ↔ IsMarked marks node → found ≡ false → ¬ Is node
+none_from_mark Is marks node found lt exact has e is = false≢true (sym e ∙ has.1 ((exact node lt).1 is))
 
 -- what the graph tells of cycles holds of the list
 pub acyclic_list : (draft : Draft) → IsDraft draft → IsAcyclic (Joins draft.edges)

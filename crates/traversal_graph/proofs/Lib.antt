@@ -3,3 +3,10 @@ pub mod EachLemmas
 pub mod ListLemmas
 pub mod NodeLemmas
 pub mod PlaceLemmas
+pub mod NeighbourLemmas
+pub mod EachMembers
+pub mod Membership
+pub mod NeedMembers
+pub mod Listings
+pub mod OrderListings
+pub mod KeptLemmas

@@ -1,7 +1,7 @@
 //! What a graph is built from, of each row of the stack.
 
 use heat_plan::{ResName, RowNo};
-use heat_value::{Seq, TryCopy};
+use heat_value::{Equals, Seq, TryCopy};
 use std::alloc::AllocError;
 
 /// A row as the graph sees it.
@@ -22,5 +22,14 @@ impl TryCopy for RowBrief {
             requires_: Seq::from_vec(Vec::from_slice(self.requires_.allocator(), required)?),
             replaces: self.replaces,
         })
+    }
+}
+
+impl Equals for RowBrief {
+    fn equals(&self, other: &RowBrief) -> bool {
+        self.no == other.no
+            && self.name.equals(&other.name)
+            && self.requires_.equals(&other.requires_)
+            && self.replaces.equals(&other.replaces)
     }
 }

@@ -2,16 +2,23 @@
 
 ghost use Rattle.std.specs.Prelude.{◌≡◌, ◌==◌, ◌+◌, ◌<◌, ◌≤◌, false, length, OnOk};
 ghost use Rattle.std.specs.Option.{option_map_or};
+ghost use Rattle.dep_graph.specs.Edges.{HasEdge};
+ghost use Rattle.dep_graph.specs.Marks.{MarksAll};
+ghost use Rattle.dep_graph.specs.Paths.{HasPath};
+ghost use Rattle.heat_plan.specs.Order.{Rising};
+ghost use Rattle.heat_plan.specs.Plans.{names_of};
 ghost use Rattle.traversal_graph.specs.Candidates.{place_of, need_edges, needs_into, row_edges, rows_behind, require_edges, required_behind, replace_edges, replaced_behind};
 ghost use Rattle.traversal_graph.specs.Drafts.{IsDraft, Draws};
 
 use crate::RowBrief;
 use crate::draft::Draft;
+use dep_graph::Marks;
 use heat_plan::{Item, ResName, RowNo};
 use std::alloc::AllocError;
 
 /// From each item that an item needs to that item.
 pub(crate) fn add_needs(draft: &mut Draft, items: &[Item]) -> Result<(), AllocError>
+    requires rising { Rising (names_of items.now) }
     requires draft { IsDraft draft.old }
     requires size { length items.now ≤ length draft.old.graph }
     ensures { OnOk result (Draws (need_edges items.now) draft.old draft.new) }
@@ -22,22 +29,44 @@ pub(crate) fn add_needs(draft: &mut Draft, items: &[Item]) -> Result<(), AllocEr
     Ok(())
 }
 
-/// From each item that one item needs to that item.
+/// From each item that one item needs to that item. No edge leads out of the item meanwhile, so what is
+/// reached from it stays the same.
 fn add_needs_of(
     draft: &mut Draft,
     items: &[Item],
     place: u32,
     item: &Item,
 ) -> Result<(), AllocError>
+    requires rising { Rising (names_of items.now) }
     requires draft { IsDraft draft.old }
     requires size { length items.now ≤ length draft.old.graph }
     requires place { place < length items.now }
     ensures { OnOk result (Draws (needs_into items.now place item.now) draft.old draft.new) }
 {
+    let reached = draft.graph.reached(place)?;
+    draw_needs(draft, items, place, item, &reached)
+}
+
+/// Considers the needs of an item, from which those nodes are reached.
+fn draw_needs(
+    draft: &mut Draft,
+    items: &[Item],
+    place: u32,
+    item: &Item,
+    reached: &Marks,
+) -> Result<(), AllocError>
+    requires rising { Rising (names_of items.now) }
+    requires draft { IsDraft draft.old }
+    requires size { length items.now ≤ length draft.old.graph }
+    requires place { place < length items.now }
+    requires marks { length reached.now ≡ length draft.old.graph }
+    requires reached { MarksAll (HasPath (HasEdge draft.old.graph) place) reached.now }
+    ensures { OnOk result (Draws (needs_into items.now place item.now) draft.old draft.new) }
+{
     for need in item.needs.as_slice() {
         let before = place_of_name(items, need);
         if before < items.len() {
-            draft.draw(before as u32, place)?;
+            draft.draw_into(reached, before as u32, place)?;
         }
     }
     Ok(())
@@ -45,14 +74,13 @@ fn add_needs_of(
 
 /// The place of the item of a name, and past all items where there is none.
 fn place_of_name(items: &[Item], name: &ResName) -> usize
+    requires { Rising (names_of items.now) }
     ensures { result ≡ place_of items.now name.now }
 {
-    for (place, item) in items.iter().enumerate() {
-        if *name == item.name {
-            return place;
-        }
+    match items.binary_search_by(|item| item.name.cmp(name)) {
+        Ok(place) => place,
+        Err(_) => items.len(),
     }
-    items.len()
 }
 
 /// From each item to the rows of its name.
@@ -107,7 +135,8 @@ pub(crate) fn add_requires(
     Ok(())
 }
 
-/// From one row to the rows that it requires.
+/// From one row to the rows that it requires. No edge leads to the row meanwhile, so what reaches it
+/// stays the same.
 fn add_required_behind(
     draft: &mut Draft,
     first: u32,
@@ -120,9 +149,31 @@ fn add_required_behind(
     requires place { r < length rows.now }
     ensures { OnOk result (Draws (required_behind first rows.now r row.now) draft.old draft.new) }
 {
+    let reaching = draft.graph.reaching(first + r as u32)?;
+    draw_required(draft, first, rows, r, row, &reaching)
+}
+
+/// Considers the rows that a row requires, which those nodes reach.
+fn draw_required(
+    draft: &mut Draft,
+    first: u32,
+    rows: &[RowBrief],
+    r: usize,
+    row: &RowBrief,
+    reaching: &Marks,
+) -> Result<(), AllocError>
+    requires draft { IsDraft draft.old }
+    requires size { first + length rows.now ≤ length draft.old.graph }
+    requires place { r < length rows.now }
+    requires marks { length reaching.now ≡ length draft.old.graph }
+    requires reaching { MarksAll (λ node. HasPath (HasEdge draft.old.graph) node (first + r))
+        reaching.now }
+    ensures { OnOk result (Draws (required_behind first rows.now r row.now) draft.old draft.new) }
+{
     for (q, other) in rows.iter().enumerate() {
-        let required = row.requires_.as_slice().contains(&other.no);
-        draft.draw_if(required, first + r as u32, first + q as u32)?;
+        if row.requires_.as_slice().contains(&other.no) {
+            draft.draw_from(reaching, first + r as u32, first + q as u32)?;
+        }
     }
     Ok(())
 }

@@ -1,8 +1,11 @@
 //! A graph while it is drawn: its edges so far, in the order in which they were kept.
 
 ghost use Rattle.std.specs.Prelude.{◌≡◌, ◌<◌, [], ◌∷◌, length, IfOk, OnOk};
+ghost use Rattle.dep_graph.specs.Edges.{HasEdge};
+ghost use Rattle.dep_graph.specs.Marks.{MarksAll};
+ghost use Rattle.dep_graph.specs.Paths.{HasPath};
 
-use dep_graph::{Added, Graph};
+use dep_graph::{Added, Graph, Marks};
 use heat_value::Seq;
 use std::alloc::{AllocError, Global};
 
@@ -37,6 +40,55 @@ impl Draft {
         if let Added::WouldClose(_) = self.graph.add_unless_cycle(before, after)? {
             return Ok(());
         }
+        self.edges.push((before, after))?;
+        Ok(())
+    }
+
+    /// Keeps an edge into a node whose reach is known, unless it would close a cycle.
+    pub(crate) fn draw_into(
+        &mut self,
+        reached: &Marks,
+        before: u32,
+        after: u32,
+    ) -> Result<(), AllocError>
+        requires draft { IsDraft self.old }
+        requires before { before < length self.old.graph }
+        requires after { after < length self.old.graph }
+        requires size { length reached.now ≡ length self.old.graph }
+        requires reached { MarksAll (HasPath (HasEdge self.old.graph) after) reached.now }
+        ensures draws { OnOk result (Draws ((before, after) ∷ []) self.old self.new) }
+        ensures reached { OnOk result
+            (MarksAll (HasPath (HasEdge self.new.graph) after) reached.now) }
+    {
+        if reached.has(before) {
+            return Ok(());
+        }
+        self.graph.add_edge(before, after)?;
+        self.edges.push((before, after))?;
+        Ok(())
+    }
+
+    /// Keeps an edge out of a node of which is known what reaches it, unless it would close a cycle.
+    pub(crate) fn draw_from(
+        &mut self,
+        reaching: &Marks,
+        before: u32,
+        after: u32,
+    ) -> Result<(), AllocError>
+        requires draft { IsDraft self.old }
+        requires before { before < length self.old.graph }
+        requires after { after < length self.old.graph }
+        requires size { length reaching.now ≡ length self.old.graph }
+        requires reaching { MarksAll (λ node. HasPath (HasEdge self.old.graph) node before)
+            reaching.now }
+        ensures draws { OnOk result (Draws ((before, after) ∷ []) self.old self.new) }
+        ensures reaching { OnOk result
+            (MarksAll (λ node. HasPath (HasEdge self.new.graph) node before) reaching.now) }
+    {
+        if reaching.has(after) {
+            return Ok(());
+        }
+        self.graph.add_edge(before, after)?;
         self.edges.push((before, after))?;
         Ok(())
     }

@@ -7,6 +7,7 @@ mod brief;
 mod building;
 mod candidates;
 mod draft;
+mod laws;
 mod lists;
 mod shape;
 #[cfg(test)]
@@ -14,4 +15,8 @@ mod tests;
 
 pub use brief::RowBrief;
 pub use building::build;
+pub use laws::{
+    listed_needs_are_acyclic, needs_are_candidates, orders_are_listings, plans_keep_edges,
+    replaced_are_candidates, required_are_candidates, rows_are_candidates,
+};
 pub use shape::{Node, TravGraph};

@@ -1,14 +1,15 @@
 //! The lists that a traversal reads from its graph, each rising.
 
-ghost use Rattle.std.specs.Prelude.{◌≡◌, ◌<◌, ℕ, IfOk, length};
+ghost use Rattle.std.specs.Prelude.{◌≡◌, ◌<◌, ℕ, [], IfOk, OnOk, OnErr, length, replicate, slice_index_or};
 ghost use Rattle.std.specs.Bool.{OnTrue, OnFalse};
 ghost use Rattle.dep_graph.specs.Lists.{ListsAll};
 ghost use Rattle.traversal_graph.specs.Builds.{Joins};
+ghost use Rattle.traversal_graph.specs.Neighbours.{AreRising, ListsPreds, PutsPred};
 
 use crate::TravGraph;
-use dep_graph::put_in;
+use dep_graph::{put_in, with_node};
 use heat_value::Seq;
-use std::alloc::AllocError;
+use std::alloc::{AllocError, Global};
 
 impl TravGraph {
     /// The nodes into which no edge leads, rising.
@@ -42,6 +43,17 @@ impl TravGraph {
         Ok(preds)
     }
 
+    /// For each node the nodes from which an edge leads to it, rising, by one pass over the edges.
+    pub fn all_preds(&self) -> Result<Seq<Seq<u32>>, AllocError>
+        ensures { IfOk result (ListsPreds self.now.edges (length self.now.nodes)) }
+    {
+        let mut all = empty_lists(self.nodes.allocator(), self.nodes.len())?;
+        for (before, after) in self.edges.as_slice() {
+            put_pred(&mut all, *before, *after)?;
+        }
+        Ok(all)
+    }
+
     /// The nodes to which an edge leads from this one, rising.
     pub fn succs(&self, node: u32) -> Result<Seq<u32>, AllocError>
         requires { node < length self.now.nodes }
@@ -68,4 +80,28 @@ fn is_behind(edges: &[(u32, u32)], node: u32) -> bool
         }
     }
     false
+}
+
+/// So many lists without nodes.
+fn empty_lists(alloc: Global, count: usize) -> Result<Seq<Seq<u32>>, AllocError>
+    ensures { IfOk result (λ all. all ≡ replicate count []) }
+{
+    let mut all = Seq::with_capacity(alloc, count)?;
+    for _ in 0..count {
+        all.push(Seq::new(alloc))?;
+    }
+    Ok(all)
+}
+
+/// Puts a node in among another's predecessors, where there is such a list.
+fn put_pred(all: &mut Seq<Seq<u32>>, before: u32, after: u32) -> Result<(), AllocError>
+    requires { AreRising all.old }
+    ensures { OnOk result (PutsPred before after all.old all.new) }
+{
+    let at = after as usize;
+    if at < all.len() {
+        let preds = with_node(&all.as_slice()[at], before)?;
+        all.set(at, preds);
+    }
+    Ok(())
 }

@@ -1,7 +1,7 @@
 //! A traversal's graph as the state keeps it: its nodes in order, and edges between their places.
 
 use heat_plan::{ResName, RowNo};
-use heat_value::{Seq, TryCopy};
+use heat_value::{Equals, Seq, TryCopy};
 use std::alloc::AllocError;
 
 /// What is done at a node: the update of an item, with the row chosen for it, or a row's clean-up.
@@ -34,5 +34,23 @@ impl TryCopy for TravGraph {
             nodes: self.nodes.copy()?,
             edges: Seq::from_vec(edges),
         })
+    }
+}
+
+impl Equals for Node {
+    fn equals(&self, other: &Node) -> bool {
+        match (self, other) {
+            (Node::U(name, row), Node::U(its_name, its_row)) => {
+                name.equals(its_name) && *row == *its_row
+            }
+            (Node::C(row), Node::C(its_row)) => *row == *its_row,
+            _ => false,
+        }
+    }
+}
+
+impl Equals for TravGraph {
+    fn equals(&self, other: &TravGraph) -> bool {
+        self.nodes.equals(&other.nodes) && self.edges.equals(&other.edges)
     }
 }

@@ -2,8 +2,8 @@
 //! single letters.
 
 use crate::{Node, RowBrief, TravGraph, build};
-use heat_plan::{Item, Kind, Needs, Policy, Properties, ResName, RowNo, is_rising};
-use heat_value::{Seq, Text, TryCopy};
+use heat_plan::{Item, Kind, Needs, Policy, Properties, ResName, RowNo, are_in_order, is_rising};
+use heat_value::{Equals, Seq, Text, TryCopy};
 use std::process::Abort;
 use std::test::Fail;
 
@@ -81,6 +81,7 @@ fn draws(rt: &(impl Abort + AllocGlobal), case: &Case<'_>) -> Result<(), Fail> {
     let rows = rows_of(rt, case)?;
     let chosen = chosen_for(rt, items.len())?;
     assert_eq!(rt; chosen.len(), items.len());
+    assert!(rt; are_in_order(&items));
     let graph = build(rt.alloc(), &items, &chosen, &rows)?;
     shows(rt, case, &graph)
 }
@@ -195,10 +196,31 @@ fn reads_what_stands_beside_a_node(rt: HostRuntime) -> Result<(), Fail> {
     for no in 1..5 {
         nodes.push(Node::C(number(no)?))?;
     }
-    let graph = TravGraph { nodes, edges }.copy()?;
+    let drawn = TravGraph { nodes, edges };
+    let graph = drawn.copy()?;
+    assert!(rt; graph.equals(&drawn));
     assert_eq!(rt; graph.nodes.len(), 4);
     assert_eq!(rt; graph.preds(1)?.as_slice(), [0, 2, 3].as_slice());
     assert_eq!(rt; graph.succs(0)?.as_slice(), [1, 3].as_slice());
     assert_eq!(rt; graph.leaves()?.as_slice(), [0, 2].as_slice());
+    let all = graph.all_preds()?;
+    assert_eq!(rt; all.len(), 4);
+    assert_eq!(rt; all.as_slice()[1].as_slice(), [0, 2, 3].as_slice());
+    assert_eq!(rt; all.as_slice()[3].as_slice(), [0].as_slice());
+    Ok(())
+}
+
+#[test]
+fn briefs_are_compared(rt: HostRuntime) -> Result<(), Fail> {
+    let mut brief = RowBrief {
+        no: number(1)?,
+        name: name_of(&rt, b'a')?,
+        requires_: Seq::new(rt.alloc()),
+        replaces: None,
+    };
+    assert!(rt; brief.copy()?.equals(&brief));
+    let same = brief.copy()?;
+    brief.replaces = Some(number(2)?);
+    assert!(rt; !same.equals(&brief));
     Ok(())
 }

@@ -6,7 +6,7 @@ ghost use Rattle.heat_value.specs.Meaning.{data_of};
 ghost use Rattle.heat_value.specs.Reading.{IsOfNumber, first_bad, items_bad, members_bad, under};
 ghost use Rattle.heat_value.specs.declared.path.Step.{Step};
 
-use crate::{Entry, Items, Props, Step, Text, Value, ValueFault};
+use crate::{Items, Member, Props, Step, Text, Value, ValueFault};
 use serde_json::{Map, Value as Json};
 use std::alloc::{AllocError, Global};
 
@@ -54,19 +54,19 @@ fn converted_members(alloc: Global, members: &Map<String, Json>) -> Result<Props
     ensures whole { OnOk result (members_bad (members_view members.now.entries) ≡ None) }
     ensures err { IfErr result (λ e. IsOfNumber e (members_bad (members_view members.now.entries))) }
 {
-    let mut entries = Vec::new(alloc);
+    let mut taken = Vec::new(alloc);
     for (key, member) in members.iter() {
         match converted_member(alloc, key, member) {
-            Ok(entry) => push(&mut entries, entry)?,
+            Ok(member) => push(&mut taken, member)?,
             Err(fault) => return Err(fault),
         }
     }
-    Ok(Props { entries })
+    Ok(Props { members: taken })
 }
 
 // One member of a reading.
 #[cycle(conversion)]
-fn converted_member(alloc: Global, key: &String, member: &Json) -> Result<Entry, ValueFault>
+fn converted_member(alloc: Global, key: &String, member: &Json) -> Result<Member, ValueFault>
     ensures key { IfOk result (λ e. e.key ≡ string_bytes key.now) }
     ensures value { IfOk result (λ e. json_of (data_of e.value) ≡ view member.now) }
     ensures whole { OnOk result (first_bad (view member.now) ≡ None) }
@@ -75,7 +75,7 @@ fn converted_member(alloc: Global, key: &String, member: &Json) -> Result<Entry,
 {
     let text = Text::from_str(alloc, key.as_str())?;
     match converted(alloc, member) {
-        Ok(value) => Ok(Entry { key: text, value }),
+        Ok(value) => Ok(Member { key: text, value }),
         Err(fault) => Err(fault_under(Step::Key(text), fault)),
     }
 }

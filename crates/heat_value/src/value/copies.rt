@@ -1,5 +1,5 @@
 //! Copies of values, equal to what they were made from.
-use crate::{Entry, Items, Props, TryCopy, Value};
+use crate::{Items, Member, Props, TryCopy, Value};
 use std::alloc::AllocError;
 
 impl TryCopy for Value {
@@ -27,10 +27,10 @@ impl TryCopy for Items {
     }
 }
 
-impl TryCopy for Entry {
+impl TryCopy for Member {
     #[cycle(copies)]
-    fn copy(&self) -> Result<Entry, AllocError> {
-        Ok(Entry {
+    fn copy(&self) -> Result<Member, AllocError> {
+        Ok(Member {
             key: self.key.copy()?,
             value: self.value.copy()?,
         })
@@ -40,10 +40,10 @@ impl TryCopy for Entry {
 impl TryCopy for Props {
     #[cycle(copies)]
     fn copy(&self) -> Result<Props, AllocError> {
-        let mut entries = Vec::with_capacity(*self.entries.allocator(), self.entries.len())?;
-        for entry in &self.entries {
-            entries.push(entry.copy()?)?;
+        let mut members = Vec::with_capacity(*self.members.allocator(), self.members.len())?;
+        for member in &self.members {
+            members.push(member.copy()?)?;
         }
-        Ok(Props { entries })
+        Ok(Props { members })
     }
 }

@@ -41,8 +41,8 @@ impl Props {
     pub fn are_within(&self, limit: u32) -> bool
         ensures { IsTrue result ↔ (members_depth self.now ≤ limit) }
     {
-        for entry in &self.entries {
-            if !entry.value.is_within(limit) {
+        for member in &self.members {
+            if !member.value.is_within(limit) {
                 return false;
             }
         }

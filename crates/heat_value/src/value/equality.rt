@@ -1,14 +1,9 @@
 //! Whether two values hold the same.
-ghost use Rattle.std.specs.Prelude.{◌≡◌, ◌↔◌, IsTrue};
+use crate::{Equals, Items, Member, Props, Value};
 
-use crate::{Items, Props, Value};
-
-impl Value {
-    /// Whether the values hold the same.
+impl Equals for Value {
     #[cycle(equal)]
-    pub fn equals(&self, other: &Value) -> bool
-        ensures { IsTrue result ↔ (self.now ≡ other.now) }
-    {
+    fn equals(&self, other: &Value) -> bool {
         match (self, other) {
             (Value::Null, Value::Null) => true,
             (Value::Flag(mine), Value::Flag(its)) => *mine == *its,
@@ -21,13 +16,10 @@ impl Value {
     }
 }
 
-impl Items {
-    /// Whether the lists hold the same.
+impl Equals for Items {
     #[cycle(equal)]
     #[tactic(auto, using(crate::proofs::Sameness::for_equals))]
-    pub fn equals(&self, other: &Items) -> bool
-        ensures { IsTrue result ↔ (self.now ≡ other.now) }
-    {
+    fn equals(&self, other: &Items) -> bool {
         if self.all.len() != other.all.len() {
             return false;
         }
@@ -40,21 +32,22 @@ impl Items {
     }
 }
 
-impl Props {
-    /// Whether the maps hold the same.
+impl Equals for Member {
+    #[cycle(equal)]
+    fn equals(&self, other: &Member) -> bool {
+        self.key == other.key && self.value.equals(&other.value)
+    }
+}
+
+impl Equals for Props {
     #[cycle(equal)]
     #[tactic(auto, using(crate::proofs::Sameness::for_equals))]
-    pub fn equals(&self, other: &Props) -> bool
-        ensures { IsTrue result ↔ (self.now ≡ other.now) }
-    {
-        if self.entries.len() != other.entries.len() {
+    fn equals(&self, other: &Props) -> bool {
+        if self.members.len() != other.members.len() {
             return false;
         }
-        for i in 0..self.entries.len() {
-            if self.entries[i].key != other.entries[i].key {
-                return false;
-            }
-            if !self.entries[i].value.equals(&other.entries[i].value) {
+        for i in 0..self.members.len() {
+            if !self.members[i].equals(&other.members[i]) {
                 return false;
             }
         }

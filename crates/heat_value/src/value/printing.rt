@@ -69,13 +69,13 @@ impl Props {
         ensures { OnOk result (string_bytes out.new ≡ string_bytes out.old ++ fields_text false self.now) }
     {
         let mut later = false;
-        for entry in self.entries.iter() {
+        for member in self.members.iter() {
             if later {
                 out.push_str(",")?;
             }
-            write_words(alloc, out, entry.key.as_str())?;
+            write_words(alloc, out, member.key.as_str())?;
             out.push_str(":")?;
-            entry.value.write(alloc, out)?;
+            member.value.write(alloc, out)?;
             later = true;
         }
         out.push_str("}")

@@ -1,5 +1,5 @@
 use Rattle.std.proofs.Common.{refl}
-use Rattle.core_state.specs.declared.mail.Stage.TheVariants.{Asking}
+use Rattle.mail_table.specs.declared.mail.Stage.TheVariants.{Asking}
 use Rattle.book.specs.Scenes.{worn, at_call}
 use Rattle.book.proofs.Unmade.{unasked, worn_by}
 use Rattle.book.proofs.ask.ask_for.Goals as goal

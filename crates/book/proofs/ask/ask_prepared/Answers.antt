@@ -1,7 +1,7 @@
 -- The step that was prepared for the answer is made, and the call is told.
 use Rattle.std.proofs.Common.{refl}
 use Rattle.heat_plan.specs.declared.calls.Answered.TheVariants as answer
-use Rattle.core_state.specs.declared.mail.Stage.TheVariants.{Asking}
+use Rattle.mail_table.specs.declared.mail.Stage.TheVariants.{Asking}
 use Rattle.book.specs.Scenes.{asked}
 use Rattle.book.proofs.Tolds.{begun_told, quota_told, create_failed_told}
 use Rattle.book.proofs.ask.ask_prepared.Goals as goal

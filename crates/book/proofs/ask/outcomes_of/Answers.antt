@@ -1,6 +1,6 @@
 -- Each answer is one that a create may have.
 use Rattle.std.proofs.Common.{◌∙◌, ap, refl}
-use Rattle.core_state.specs.declared.mail.Stage.TheVariants.{Asking}
+use Rattle.mail_table.specs.declared.mail.Stage.TheVariants.{Asking}
 use Rattle.core_state.specs.Turns.{token_of}
 use Rattle.check_steps.specs.Held.{begun, quota, failed}
 use Rattle.book.proofs.ask.outcomes_of.Goals as goal

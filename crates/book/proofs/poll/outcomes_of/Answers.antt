@@ -1,6 +1,6 @@
 -- Each answer is one that a poll may have.
 use Rattle.std.proofs.Common.{◌∙◌, ap, refl}
-use Rattle.core_state.specs.declared.mail.Stage.TheVariants.{Polling}
+use Rattle.mail_table.specs.declared.mail.Stage.TheVariants.{Polling}
 use Rattle.core_state.specs.Turns.{token_of}
 use Rattle.check_steps.specs.Held.{not_yet, poll_failed}
 use Rattle.book.proofs.poll.outcomes_of.Goals as goal

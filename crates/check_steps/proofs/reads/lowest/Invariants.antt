@@ -1,6 +1,6 @@
 use Rattle.std.proofs.Common.{drop}
 use Rattle.std.specs.Prelude.{option_map}
-use Rattle.core_state.specs.declared.mail.Letter.{Letter}
+use Rattle.mail_table.specs.declared.mail.Letter.{Letter}
 use Rattle.core_state.specs.Reads.{IsLowest}
 use Rattle.check_steps.proofs.LetterLemmas.{Comes}
 use Rattle.check_steps.proofs.reads.lowest.Given as goal

@@ -1,6 +1,6 @@
 use Rattle.std.proofs.Common.{◌≡◌, refl, ap}
 use Rattle.std.specs.Prelude.{option_map}
-use Rattle.core_state.specs.declared.mail.Letter.{Letter}
+use Rattle.mail_table.specs.declared.mail.Letter.{Letter}
 use Rattle.core_state.specs.State.{StateData}
 use Rattle.core_state.specs.Turns.{Takes}
 use Rattle.core_state.specs.Steps.{take as take_turn}

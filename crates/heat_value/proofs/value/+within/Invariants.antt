@@ -8,6 +8,6 @@ abbrev pub invariant-Items::are_within-loop-value : goal.invariant-Items::are_wi
 invariant-Items::are_within-loop-value l =
     (nodes_depth (nodes_of l.value-items) ≤ l.limit) ↔ (nodes_depth (nodes_of (drop l.value-index l.value-items)) ≤ l.limit)
 
-abbrev pub invariant-Props::are_within-loop-entry : goal.invariant-Props::are_within-loop-entry
-invariant-Props::are_within-loop-entry l =
-    (members_depth (members_of l.entry-items) ≤ l.limit) ↔ (members_depth (members_of (drop l.entry-index l.entry-items)) ≤ l.limit)
+abbrev pub invariant-Props::are_within-loop-member : goal.invariant-Props::are_within-loop-member
+invariant-Props::are_within-loop-member l =
+    (members_depth (members_of l.member-items) ≤ l.limit) ↔ (members_depth (members_of (drop l.member-index l.member-items)) ≤ l.limit)

@@ -8,6 +8,6 @@ abbrev pub invariant-Items::write-loop-value : goal.invariant-Items::write-loop-
 invariant-Items::write-loop-value l =
     string_bytes l.out ++ nodes_text l.later (nodes_of (drop l.value-index l.value-items)) ≡ string_bytes l.fn.out ++ nodes_text false (nodes_of l.value-items)
 
-abbrev pub invariant-Props::write-loop-entry : goal.invariant-Props::write-loop-entry
-invariant-Props::write-loop-entry l =
-    string_bytes l.out ++ fields_text l.later (members_of (drop l.entry-index l.entry-items)) ≡ string_bytes l.fn.out ++ fields_text false (members_of l.entry-items)
+abbrev pub invariant-Props::write-loop-member : goal.invariant-Props::write-loop-member
+invariant-Props::write-loop-member l =
+    string_bytes l.out ++ fields_text l.later (members_of (drop l.member-index l.member-items)) ≡ string_bytes l.fn.out ++ fields_text false (members_of l.member-items)

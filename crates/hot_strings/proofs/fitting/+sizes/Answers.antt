@@ -15,13 +15,13 @@ list_size-loop-value-preserved t c =
       omega (arith, c.loop-value.invariant.2, length-nodes_text-drop c.args.values.now c.loop-value.value-index c.value-item.result below c.value-item.is),
     )
 
-pub map_size-loop-entry-preserved : goal.map_size-loop-entry-preserved
-map_size-loop-entry-preserved t c =
-    let n = c.loop-entry.invariant.0 in
-    let below : c.loop-entry.entry-index < length c.args.entries.now = omega arith in (
-      n + 1 + (length (quoted c.entry-item.result.key) + 1 + length (compact (data_of c.entry-item.result.value))),
-      min-saturating c.loop-entry.size c.saturating_add.result c.entry_size.result c.saturating_add-size.result n
-          (length (quoted c.entry-item.result.key) + 1 + length (compact (data_of c.entry-item.result.value)))
-          c.loop-entry.invariant.1 c.saturating_add.ensures c.entry_size.ensures c.saturating_add-size.ensures,
-      omega (arith, c.loop-entry.invariant.2, length-fields_text-drop c.args.entries.now c.loop-entry.entry-index c.entry-item.result below c.entry-item.is),
+pub map_size-loop-member-preserved : goal.map_size-loop-member-preserved
+map_size-loop-member-preserved t c =
+    let n = c.loop-member.invariant.0 in
+    let below : c.loop-member.member-index < length c.args.members.now = omega arith in (
+      n + 1 + (length (quoted c.member-item.result.key) + 1 + length (compact (data_of c.member-item.result.value))),
+      min-saturating c.loop-member.size c.saturating_add.result c.member_size.result c.saturating_add-size.result n
+          (length (quoted c.member-item.result.key) + 1 + length (compact (data_of c.member-item.result.value)))
+          c.loop-member.invariant.1 c.saturating_add.ensures c.member_size.ensures c.saturating_add-size.ensures,
+      omega (arith, c.loop-member.invariant.2, length-fields_text-drop c.args.members.now c.loop-member.member-index c.member-item.result below c.member-item.is),
     )

@@ -8,7 +8,7 @@ use Rattle.hot_strings.proofs.joining.join.Goals as goal
 pub loop-item-init : goal.loop-item-init
 loop-item-init c =
     rw (c.in-Some.ensures.cases.0, joined-cons c.args.delimiter.now c.in-Some.first.now c.in-Some.others.now)
-    (rw (c.in_ok-push.ensures.ok, c.new-draft.ensures, c.as_str.ensures) refl)
+    (rw (c.in_ok-push.ensures.ok, c.new-draft.ensures, c.as_str.ensures.value) refl)
 
 pub returns-in_err-push-3-clause-err : goal.returns-in_err-push-3-clause-err
 returns-in_err-push-3-clause-err c =
@@ -17,5 +17,5 @@ returns-in_err-push-3-clause-err c =
     let step = joined_on-step c.loop-item.draft c.args.delimiter.now c.in-Some.others.now c.loop-item.item-index c.item-item.result below c.item-item.is in
     let rest = joined_on c.args.delimiter.now (drop (c.loop-item.item-index + 1) c.in-Some.others.now) in
     let whole : joined c.args.delimiter.now c.args.items.now ≡ (c.push-in-loop-item.new.self ++ c.as_str-in-loop-item-2.result.now) ++ rest
-    = cc (step, c.in_ok-push-2.ensures.ok, c.loop-item.invariant, c.as_str-in-loop-item.ensures, c.as_str-in-loop-item-2.ensures) in
+    = cc (step, c.in_ok-push-2.ensures.ok, c.loop-item.invariant, c.as_str-in-loop-item.ensures.value, c.as_str-in-loop-item-2.ensures.value) in
     rw (p.1, p.2) (IsOfResult-append _ _ rest _ whole c.in_err-push-3.ensures.err)

@@ -10,9 +10,9 @@ returns-in-Some-clause-piece c =
     let below : c.in-Some.i < length c.args.params.now = slice_get_within c.args.params.now c.in-Some.i (found.0, found.1) found.2 in
     let item = item_there c.args.params.now c.in-Some.i c.index-params-i.result found.0 found.1 below c.index-params-i.is found.2 in (
       key found.0 found.1,
-      c.behind.ensures.value ∙ ap (λ k. k ++ c.behind.result.now) (c.as_str-in-Some.ensures ∙ item.0),
+      c.behind.ensures.value ∙ ap (λ k. k ++ c.behind.result.now) (c.as_str-in-Some.ensures.value ∙ item.0),
       found.3,
-      c.as_str.ensures ∙ item.1,
+      c.as_str.ensures.value ∙ item.1,
     )
 
 pub returns-in-None-clause-piece : goal.returns-in-None-clause-piece

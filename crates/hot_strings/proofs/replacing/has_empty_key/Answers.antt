@@ -7,9 +7,9 @@ pub loop-param-preserved : goal.loop-param-preserved
 loop-param-preserved c =
     let below : c.loop-param.param-index < length c.args.params.now = omega arith in (
       All-step (λ p. p.0 ≢ []) c.args.params.now c.loop-param.param-index c.param-item.result below c.param-item.is
-          (not_empty c.as_str.result.now c.param-item.result.0 c.as_str.ensures c.if-is_empty.ensures) c.loop-param.invariant.0,
+          (not_empty c.as_str.result.now c.param-item.result.0 c.as_str.ensures.value c.if-is_empty.ensures) c.loop-param.invariant.0,
       All-step (λ p. IsUtf8 p.0) c.args.params.now c.loop-param.param-index c.param-item.result below c.param-item.is
-          (subst IsUtf8 c.as_str.ensures c.as_str.utf8) c.loop-param.invariant.1,
+          (subst IsUtf8 c.as_str.ensures.value c.as_str.utf8) c.loop-param.invariant.1,
     )
 
 pub returns : goal.returns

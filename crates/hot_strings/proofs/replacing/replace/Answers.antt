@@ -8,18 +8,18 @@ use Rattle.hot_strings.proofs.replacing.replace.Goals as goal
 
 pub returns-then-strict_fails-clause-one : goal.returns-then-strict_fails-clause-one
 returns-then-strict_fails-clause-one c =
-    ArePieces-one c.args.params.now c.args.template.now c.requires c.if-has_empty_key.ensures.1 (subst IsUtf8 c.as_str.ensures c.as_str.utf8)
+    ArePieces-one c.args.params.now c.args.template.now c.requires c.if-has_empty_key.ensures.1 (subst IsUtf8 c.as_str.ensures.value c.as_str.utf8)
 
 pub returns-clause-all : goal.returns-clause-all
-returns-clause-all c = OnOk-always c.filled.result (subst (λ (t : List ℕ). IsTrue c.args.strict → HasEveryKey c.args.params.now t) c.as_str.ensures c.if-strict_fails.ensures)
+returns-clause-all c = OnOk-always c.filled.result (subst (λ (t : List ℕ). IsTrue c.args.strict → HasEveryKey c.args.params.now t) c.as_str.ensures.value c.if-strict_fails.ensures)
 
 pub returns-clause-err : goal.returns-clause-err
 returns-clause-err c =
-    let every = subst (λ (t : List ℕ). IsTrue c.args.strict → HasEveryKey c.args.params.now t) c.as_str.ensures c.if-strict_fails.ensures in
+    let every = subst (λ (t : List ℕ). IsTrue c.args.strict → HasEveryKey c.args.params.now t) c.as_str.ensures.value c.if-strict_fails.ensures in
     IfErr-weaker c.filled.result (λ e. IsOfReplaced e c.args.params.now c.as_str-2.result.now) (λ e. IsReplaceFault e c.args.params.now c.args.template.now c.args.strict)
-    (λ e h. IsReplaceFault-checked e c.args.params.now c.args.template.now c.args.strict c.if-has_empty_key.ensures.0 every (subst (λ (t : List ℕ). IsOfReplaced e c.args.params.now t) c.as_str-2.ensures h))
+    (λ e h. IsReplaceFault-checked e c.args.params.now c.args.template.now c.args.strict c.if-has_empty_key.ensures.0 every (subst (λ (t : List ℕ). IsOfReplaced e c.args.params.now t) c.as_str-2.ensures.value h))
     c.filled.ensures.err
 
 pub returns-clause-one : goal.returns-clause-one
 returns-clause-one c =
-    ArePieces-one c.args.params.now c.args.template.now c.requires c.if-has_empty_key.ensures.1 (subst IsUtf8 c.as_str.ensures c.as_str.utf8)
+    ArePieces-one c.args.params.now c.args.template.now c.requires c.if-has_empty_key.ensures.1 (subst IsUtf8 c.as_str.ensures.value c.as_str.utf8)

@@ -5,10 +5,10 @@ use Rattle.script_lines.proofs.body.few_of.Goals as goal
 
 pub returns-then-as_slice-gt-MOST_RESOURCES : goal.returns-then-as_slice-gt-MOST_RESOURCES
 returns-then-as_slice-gt-MOST_RESOURCES c few =
-    let counted = ap (λ (ms : Members). length (keys_of ms)) (sym c.as_slice.ensures.entries) ∙ length-keys_of c.as_slice.result.now in
+    let counted = ap (λ (ms : Members). length (keys_of ms)) (sym c.as_slice.ensures.members) ∙ length-keys_of c.as_slice.result.now in
     absurd (omega (arith, counted, few))
 
 pub returns : goal.returns
 returns c =
-    let counted = ap (λ (ms : Members). length (keys_of ms)) (sym c.as_slice.ensures.entries) ∙ length-keys_of c.as_slice.result.now in
+    let counted = ap (λ (ms : Members). length (keys_of ms)) (sym c.as_slice.ensures.members) ∙ length-keys_of c.as_slice.result.now in
     (omega (arith, counted), refl)

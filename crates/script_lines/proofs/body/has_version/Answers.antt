@@ -13,10 +13,10 @@ returns-in-Words c =
       (λ found. record {
         version = c.in-Words.words;
         shape = ap data_of c.in-Words.is;
-        listed = contains-found c.in-Words.words versions (subst Found c.as_str.ensures (sym c.is_among.ensures ∙ found));
+        listed = contains-found c.in-Words.words versions (subst Found c.as_str.ensures.value (sym c.is_among.ensures ∙ found));
       }),
       λ is.
           let both : words c.in-Words.words ≡ words is.version = sym (ap data_of c.in-Words.is) ∙ is.shape in
           let same : is.version ≡ c.in-Words.words = cc in
-          c.is_among.ensures ∙ subst Found (sym c.as_str.ensures) (found-contains c.in-Words.words versions (subst Listed same is.listed)),
+          c.is_among.ensures ∙ subst Found (sym c.as_str.ensures.value) (found-contains c.in-Words.words versions (subst Listed same is.listed)),
     )

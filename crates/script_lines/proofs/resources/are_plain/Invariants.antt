@@ -4,5 +4,5 @@ use Rattle.script_lines.specs.Bodies.{ArePlain}
 use Rattle.script_lines.proofs.resources.are_plain.Given as goal
 
 -- what is left decides
-abbrev pub invariant-loop-entry : goal.invariant-loop-entry
-invariant-loop-entry l = ArePlain l.given ↔ ArePlain (members_of (drop l.entry-index l.entry-items))
+abbrev pub invariant-loop-member : goal.invariant-loop-member
+invariant-loop-member l = ArePlain l.given ↔ ArePlain (members_of (drop l.member-index l.member-items))

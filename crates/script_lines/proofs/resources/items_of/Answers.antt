@@ -9,10 +9,10 @@ pub returns-in_err-item_of-clause-none : goal.returns-in_err-item_of-clause-none
 returns-in_err-item_of-clause-none c =
     let p = err_from_is_err_and c.from_residual-in_err-item_of.result c.from_residual-in_err-item_of.ensures.1 in
     rw (p.1, p.2) (λ e all are.
-    let here = subst (λ (rs : Members). AreItems rs all) (sym c.as_slice-entries.ensures.entries) are in
-    let found = item_at _ _ c.entry-item.result all c.loop-entry-test.true c.entry-item.is here in
+    let here = subst (λ (rs : Members). AreItems rs all) (sym c.as_slice-members.ensures.members) are in
+    let found = item_at _ _ c.member-item.result all c.loop-member-test.true c.member-item.is here in
     c.in_err-item_of.ensures.none e found.0 found.1)
 
-pub loop-entry-preserved : goal.loop-entry-preserved
-loop-entry-preserved c =
-    rw c.in_ok-push.ensures.ok (items_more _ _ c.entry-item.result _ _ c.loop-entry-test.true c.entry-item.is c.loop-entry.invariant c.in_ok-item_of.ensures.ok)
+pub loop-member-preserved : goal.loop-member-preserved
+loop-member-preserved c =
+    rw c.in_ok-push.ensures.ok (items_more _ _ c.member-item.result _ _ c.loop-member-test.true c.member-item.is c.loop-member.invariant c.in_ok-item_of.ensures.ok)

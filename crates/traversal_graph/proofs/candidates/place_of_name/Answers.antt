@@ -1,12 +1,18 @@
--- No item before the place has the name.
-use Rattle.std.proofs.Common.{sym, ◌∙◌, arith}
-use Rattle.traversal_graph.proofs.PlaceLemmas.{place_is, place_past}
+-- The search compares names with the one that is wanted.
+use Rattle.std.proofs.Common.{rules}
+use Rattle.std.specs.Ordering.{nat_cmp}
+use Rattle.std.specs.Cmp.Lexicographic.{slice_cmp}
+use Rattle.std.proofs.lemmas.Fn.{always_returns_same}
+use Rattle.heat_plan.specs.declared.item.Item.{Item}
+use Rattle.traversal_graph.proofs.PlaceLemmas.{names_rise, place_found, place_missed}
 use Rattle.traversal_graph.proofs.candidates.place_of_name.Goals as goal
 
-pub returns-then-eq : goal.returns-then-eq
-returns-then-eq c =
-    place_is _ _ c.loop-place.place c.index-items-place.result (omega arith) c.loop-place.invariant
-    (λ _. rw (← c.index-items-place.is) (sym c.eq.ensures ∙ c.if-eq.true))
+pub returns-in-Ok : goal.returns-in-Ok
+returns-in-Ok c =
+    let by_name = c.binary_search_by.ensures.position (λ (x : Item). slice_cmp nat_cmp x.name c.args.name.now) (always_returns_same _ _ _ (λ a r f called. (search rules, search rules))) in
+    place_found c.args.items.now c.args.name.now c.in-Ok.place c.requires (rw c.in-Ok.is at c.binary_search_by.ensures.bound) (rw c.in-Ok.is at by_name)
 
-pub returns : goal.returns
-returns c = place_past _ _ (λ k e lt. c.loop-place.invariant k e (omega arith))
+pub returns-in-Err : goal.returns-in-Err
+returns-in-Err c =
+    let by_name = c.binary_search_by.ensures.position (λ (x : Item). slice_cmp nat_cmp x.name c.args.name.now) (always_returns_same _ _ _ (λ a r f called. (search rules, search rules))) in
+    place_missed c.args.items.now c.args.name.now c.in-Err.field-0 ((rw c.in-Err.is at by_name) (names_rise c.args.items.now c.args.name.now c.requires))

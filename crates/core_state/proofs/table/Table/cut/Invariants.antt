@@ -1,5 +1,5 @@
 use Rattle.std.proofs.Common.{◌≡◌, ◌++◌, ◌≤◌, take, drop}
-use Rattle.core_state.specs.Tables.{cut}
+use Rattle.heat_plan.specs.Tables.{cut}
 use Rattle.core_state.proofs.table.Table.cut.Given as goal
 
 abbrev pub invariant-loop-at : goal.invariant-loop-at

@@ -1,5 +1,5 @@
 use Rattle.std.proofs.Common.{◌≡◌, drop}
-use Rattle.core_state.specs.Tables.{at}
+use Rattle.heat_plan.specs.Tables.{at}
 use Rattle.core_state.proofs.table.Table.get.Given as goal
 
 abbrev pub invariant-loop-item : goal.invariant-loop-item

@@ -3,13 +3,13 @@ use Rattle.std.proofs.Common.{◌<◌, length}
 use Rattle.dep_graph.proofs.EdgeLemmas.{rising_read, edge_made}
 use Rattle.dep_graph.proofs.edges.Graph.add_edge.Goals as goal
 
-pub with-requires : goal.with-requires
-with-requires c =
+pub with_node-requires : goal.with_node-requires
+with_node-requires c =
     let within : c.args.after < length c.self.inside.preds.items = rw c.self.view_is c.requires.after in
     rising_read _ _ _ c.self.invariant.rising_preds within c.index.ensures
 
-pub with-requires-2 : goal.with-requires-2
-with-requires-2 c =
+pub with_node-requires-2 : goal.with_node-requires-2
+with_node-requires-2 c =
     let within : c.args.before < length c.self.inside.succs.items = rw (c.self.invariant.same, c.self.view_is) c.requires.before in
     rising_read _ _ _ c.self.invariant.rising_succs within c.index-2.ensures
 

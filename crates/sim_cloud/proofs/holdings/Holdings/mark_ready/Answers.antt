@@ -1,6 +1,6 @@
 use Rattle.std.proofs.Common.{refl, arith}
-use Rattle.sim_cloud.proofs.Kept.{holding_set, few_at}
+use Rattle.sim_cloud.proofs.Kept.{holding_set}
 use Rattle.sim_cloud.proofs.holdings.Holdings.mark_ready.Goals as goal
 
 pub invariant_of-self : goal.invariant_of-self
-invariant_of-self c = record { fit = holding_set c.args.self.now.all c.args.at c.item_mut.result.now _ c.args.self.now.fit c.item_mut.ensures.value refl (few_at c.args.self.now.all c.args.at c.item_mut.result.now c.args.self.now.fit c.item_mut.ensures.value) }
+invariant_of-self c = record { fit = holding_set c.args.self.now.all c.args.at c.item_mut-one.result.now _ c.args.self.now.fit c.item_mut-one.ensures.value refl (omega arith) }

@@ -1,5 +1,5 @@
-use Rattle.std.proofs.Common.{refl, arith}
-use Rattle.sim_cloud.proofs.Kept.{holding_set, few_at}
+use Rattle.std.proofs.Common.{refl}
+use Rattle.sim_cloud.proofs.Kept.{holding_set}
 use Rattle.sim_cloud.proofs.holdings.Holdings.send_away.Goals as goal
 
 pub invariant_of-self : goal.invariant_of-self

@@ -8,7 +8,7 @@ pub returns-in-Some-clause-effect : goal.returns-in-Some-clause-effect
 returns-in-Some-clause-effect c = create_there c.args.self.now.held.all (beside_of c.args.self.now) (with_trace c.args.self.now c.note.new.trace) c.args.token.now c.args.kind.now.name c.args.props.now c.in-Some.field-0 (sym c.in-Some.ensures)
 
 pub returns-in-Some-clause-made : goal.returns-in-Some-clause-made
-returns-in-Some-clause-made c = made_there c.args.self.now.held.all c.args.self.now.held.all (beside_of c.args.self.now) (with_trace c.args.self.now c.note.new.trace) c.args.token.now c.args.kind.now c.args.props.now c.args.left c.in-Some.field-0 (sym c.in-Some.ensures)
+returns-in-Some-clause-made c = made_there c.args.self.now.held.all (beside_of c.args.self.now) (with_trace c.args.self.now c.note.new.trace) c.args.token.now c.args.kind.now c.args.props.now c.args.left c.in-Some.field-0 (sym c.in-Some.ensures)
 
 pub returns-in-None-clause-effect : goal.returns-in-None-clause-effect
 returns-in-None-clause-effect c = on_ok c.add_noted.result c.add_noted.ensures.ok (λ held.

@@ -13,4 +13,4 @@ returns-in_ok-copy-in-Some-clause-effect c = on_ok c.note.result c.note.ensures.
 
 pub returns-in_ok-copy-in-Some-clause-made : goal.returns-in_ok-copy-in-Some-clause-made
 returns-in_ok-copy-in-Some-clause-made c = on_ok c.note.result c.note.ensures.ok (λ _.
-    anew_same c.args.self.now.held.all c.args.self.now.held.all (beside_of c.args.self.now) (with_trace c.args.self.now c.note.new.trace) c.args.token.now c.args.props.now c.args.left c.in-Some.at c.get.result.now (sym c.in-Some.ensures) c.get.ensures (c.equals.ensures.0 c.if-equals.true))
+    anew_same c.args.self.now.held.all (beside_of c.args.self.now) (with_trace c.args.self.now c.note.new.trace) c.args.token.now c.args.props.now c.args.left c.in-Some.at c.get.result.now (sym c.in-Some.ensures) c.get.ensures (c.equals.ensures.0 c.if-equals.true))

@@ -6,5 +6,6 @@ use Rattle.sim_cloud.proofs.inventory.Inventory.poll_now.Goals as goal
 pub unreachable-requires : goal.unreachable-requires
 unreachable-requires c = not_placed c.args.self.now.held.all (beside_of c.args.self.now) c.args.token.now (sym c.in-None.ensures) c.requires
 
-pub poll_due-requires-clause-due : goal.poll_due-requires-clause-due
-poll_due-requires-clause-due c = left_at c.args.self.now.held.all (beside_of c.args.self.now) c.args.token.now c.in-Some.at c.get.result.now (sym c.in-Some.ensures) c.get.ensures ∙ omega (arith, c.if-get-gt0.false)
+pub returns-else-get-gt0-clause-due : goal.returns-else-get-gt0-clause-due
+returns-else-get-gt0-clause-due c _ _ _ =
+    left_at c.args.self.now.held.all (beside_of c.args.self.now) c.args.token.now c.in-Some.at c.get.result.now (sym c.in-Some.ensures) c.get.ensures ∙ omega (arith, c.if-get-gt0.false)

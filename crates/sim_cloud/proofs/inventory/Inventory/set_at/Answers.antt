@@ -8,5 +8,5 @@ returns-clause-effect c h at differs =
     rw (c.set.ensures h at, c.in_ok-copy.ensures) (update_set c.args.self.now.held.all (beside_of c.args.self.now) (with_trace c.args.self.now c.note.new.trace) c.args.token.now c.args.props.now c.in_ok-facts.facts c.args.left c.args.at h c.requires.at at differs)
 
 pub returns-clause-made : goal.returns-clause-made
-returns-clause-made c h at =
-    rw (c.set.ensures h at, c.in_ok-copy.ensures, c.in_ok-facts.ensures h at) (anew_set c.args.self.now.held.all (beside_of c.args.self.now) (with_trace c.args.self.now c.note.new.trace) c.args.token.now c.args.props.now c.args.left c.args.at h c.requires.at at)
+returns-clause-made c h at differs =
+    rw (c.set.ensures h at, c.in_ok-copy.ensures, c.in_ok-facts.ensures h at) (anew_set c.args.self.now.held.all (beside_of c.args.self.now) (with_trace c.args.self.now c.note.new.trace) c.args.token.now c.args.props.now c.args.left c.args.at h c.requires.at at differs)

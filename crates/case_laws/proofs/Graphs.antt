@@ -1,0 +1,22 @@
+-- The cases of `specs/Graphs.antt`, each by the law of moves through its constructor.
+use Rattle.std.proofs.Common.{None, refl}
+use Rattle.step_relation.specs.Given.{Nothing, Prepared}
+use Rattle.step_relation.specs.Moves.{begin_replaced, clean_retained, finish}
+use Rattle.step_relation.specs.Runs.{Judges, nothing}
+use Rattle.case_laws.specs.Graphs.{FinishFits, GivenUpFits, ReplacementFits}
+use Rattle.graph_laws.proofs.Moves.{graphs_moved}
+
+-- a registry without a judge
+unjudged : Judges
+unjudged name = None
+
+pub replacement_fits : ReplacementFits
+replacement_fits judges s e k props effect h act go tied =
+    graphs_moved judges s e (Prepared props effect) None _ _ h (begin_replaced k props effect _ _ act go refl refl) tied
+
+pub finish_fits : FinishFits
+finish_fits s e k h open_ = graphs_moved unjudged s e Nothing None _ _ h (finish k _ _ open_ refl refl) nothing
+
+pub given_up_fits : GivenUpFits
+given_up_fits s e k r h at loose act unstuck policy =
+    graphs_moved unjudged s e Nothing None _ _ h (clean_retained k r _ _ at loose act unstuck policy refl refl) nothing

@@ -1,0 +1,7 @@
+pub mod Boxes
+pub mod Turning
+pub mod Noting
+pub mod Lining
+pub mod Driving
+pub mod Answering
+pub mod Handing

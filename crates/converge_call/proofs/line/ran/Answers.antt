@@ -1,0 +1,5 @@
+use Rattle.core_state.specs.Steps.{ran}
+use Rattle.converge_call.proofs.line.ran.Goals as goal
+
+pub note-requires : goal.note-requires
+note-requires g c = ran _ _

@@ -1,0 +1,10 @@
+use Rattle.book.specs.Kept.{IsSameBook}
+use Rattle.book.specs.Quiet.{page}
+use Rattle.converge_call.proofs.Turning.{SoFar}
+use Rattle.converge_call.proofs.ran.turns.Given as goal
+
+abbrev pub invariant-loop-made : goal.invariant-loop-made
+invariant-loop-made g l = record {
+  so : SoFar (page l.initial.book.state l.initial.book.entries) (page l.book.state l.book.entries) l.made;
+  same : IsSameBook l.initial.book l.book;
+}

@@ -1,0 +1,98 @@
+//! Reads a script line by line, does each, and writes what it added to the text.
+ghost use Rattle.std.specs.Prelude.{◌≡◌, ◌≤◌, [], length, IsErrOf};
+ghost use Rattle.heat_value.specs.Counts.{Rose};
+ghost use Rattle.report.specs.Text.{text_after};
+ghost use Rattle.book.specs.Kept.{IsSameBook};
+ghost use Rattle.book.specs.Quiet.{page};
+ghost use Rattle.converge_call.specs.Drives.{streams, Drove, LineAnswered, Written};
+
+use crate::exit::Exit;
+use crate::line::do_line;
+use book::Book;
+use heat_io::{LineReader, Next, PutFault, SCRIPT_LIMIT, Sink, Source, put_all};
+use provider::Provider;
+use report::lines_of;
+use std::alloc::Global;
+
+/// Drives the book by the lines of the source. No script has more lines than bytes, and one more read
+/// finds its end.
+pub fn drive<S: Source, K: Sink, P: Provider>(
+    alloc: Global,
+    source: &mut S,
+    sink: &mut K,
+    book: &mut Book<P>,
+) -> Exit
+    requires fresh { book.old.entries ≡ [] }
+    requires opened { book.old.state ≡ book.old.opening }
+    ensures drove { Drove (streams (S.left source.old) (K.holds sink.old))
+        (streams (S.left source.new) (K.holds sink.new))
+        book.old.opening book.new.state book.new.entries result }
+    ensures read { result ≡ Exit.ReadFault → Rose (S.faults source.old) (S.faults source.new) }
+    ensures write { result ≡ Exit.WriteFault → Rose (K.faults sink.old) (K.faults sink.new) }
+    ensures same { IsSameBook book.old book.new }
+{
+    let mut reader = LineReader::new(alloc);
+    for number in 1..=SCRIPT_LIMIT + 1 {
+        let line = match reader.next(source) {
+            Next::Line(line) => line,
+            Next::End => return Exit::Done,
+            Next::LineTooLong | Next::ScriptTooLong => return Exit::TooLong,
+            Next::ReadFault => return Exit::ReadFault,
+            Next::Memory => return Exit::Memory,
+        };
+        match answer(alloc, sink, book, number, line.as_slice()) {
+            Ok(()) => {}
+            Err(exit) => return exit,
+        }
+    }
+    unreachable!()
+}
+
+// Does a line and writes what it added to the text.
+fn answer<K: Sink, P: Provider>(
+    alloc: Global,
+    sink: &mut K,
+    book: &mut Book<P>,
+    number: u64,
+    line: &[u8],
+) -> Result<(), Exit>
+    ensures answered { LineAnswered number line.now book.old.opening
+        (page book.old.state book.old.entries) (page book.new.state book.new.entries)
+        (K.holds sink.old) (K.holds sink.new) result }
+    ensures later { K.faults sink.old ≤ K.faults sink.new }
+    ensures write { IsErrOf result Exit.WriteFault → Rose (K.faults sink.old) (K.faults sink.new) }
+    ensures same { IsSameBook book.old book.new }
+{
+    let from = book.entries().len();
+    match do_line(alloc, book, number, line) {
+        Ok(()) => write_from(alloc, sink, book, from),
+        Err(exit) => Err(exit),
+    }
+}
+
+// Writes what the entries from a place on add to the text. Where there are none, no entry is looked at.
+fn write_from<K: Sink, P: Provider>(
+    alloc: Global,
+    sink: &mut K,
+    book: &Book<P>,
+    from: usize,
+) -> Result<(), Exit>
+    requires { from ≤ length book.now.entries }
+    ensures written { Written (K.holds sink.old) (K.holds sink.new)
+        (text_after book.now.opening book.now.entries from) result }
+    ensures later { K.faults sink.old ≤ K.faults sink.new }
+    ensures write { IsErrOf result Exit.WriteFault → Rose (K.faults sink.old) (K.faults sink.new) }
+{
+    let entries = book.entries();
+    if from == entries.len() {
+        return Ok(());
+    }
+    let Ok(text) = lines_of(alloc, book.opening(), entries, from) else {
+        return Err(Exit::Memory);
+    };
+    match put_all(sink, text.as_str().as_bytes()) {
+        Ok(()) => Ok(()),
+        Err(PutFault::WriteFault) => Err(Exit::WriteFault),
+        Err(PutFault::Memory) => Err(Exit::Memory),
+    }
+}

@@ -1,0 +1,100 @@
+//! The top call: from the words and the bytes that come in to the bytes that go out.
+ghost use Rattle.std.specs.Prelude.{◌≡◌, ◌≢◌, ◌∷◌, ◌↔◌, [], codes};
+ghost use Rattle.book.specs.Kept.{Shown, HasOpened};
+ghost use Rattle.converge_call.specs.Ends.{outside, HasDriven, IsUntouched};
+
+use crate::drive::drive;
+use crate::exit::Exit;
+use crate::words::words_of;
+use book::{Book, Opened};
+use heat_io::{Sink, Source};
+use heat_value::Text;
+use provider::Provider;
+use std::alloc::Global;
+
+/// What is left at the end: the book, or the cloud as it was where no book was opened.
+pub enum End<P: Provider> {
+    Book(Book<P>),
+    Unopened(P),
+}
+
+impl<P: Provider> End<P> {
+    /// The cloud, as the book's calls have left it.
+    pub fn give_back(self) -> P
+        ensures book { (b : Shown P) → self ≡ End.Book b → result ≡ b.cloud }
+        ensures unopened { (p : P) → self ≡ End.Unopened p → result ≡ p }
+    {
+        match self {
+            End::Book(book) => book.give_back(),
+            End::Unopened(cloud) => cloud,
+        }
+    }
+}
+
+/// The status, and what is left.
+pub struct Outcome<P: Provider> {
+    pub status: Exit,
+    pub end: End<P>,
+}
+
+/// Drives a book over the cloud by the source's script, as the words say, and writes its text.
+pub fn converge<S: Source, K: Sink, P: Provider>(
+    alloc: Global,
+    words: &[Text],
+    source: &mut S,
+    sink: &mut K,
+    cloud: P,
+) -> Outcome<P>
+    // Usage comes exactly where the words aren't the form; nothing is then read or written.
+    ensures usage { (result.status ≡ Exit.Usage) ↔ (words.now ≢ codes "drive" ∷ []) }
+    ensures source { result.status ≡ Exit.Usage → source.new ≡ source.old }
+    ensures sink { result.status ≡ Exit.Usage → sink.new ≡ sink.old }
+
+    // No book is opened for the words or for want of memory alone; nothing is then done at all.
+    ensures unopened { (p : P) → result.end ≡ End.Unopened p
+        → IsUntouched source.old source.new sink.old sink.new cloud p result.status }
+
+    // A book that is handed back was driven by the lines, and the headline holds of it.
+    ensures driven { (b : Shown P) → result.end ≡ End.Book b → HasDriven P.cloud cloud
+        (outside (S.left source.old) (S.faults source.old) (K.holds sink.old) (K.faults sink.old))
+        (outside (S.left source.new) (S.faults source.new) (K.holds sink.new) (K.faults sink.new))
+        result.status b }
+{
+    if words_of(words).is_err() {
+        return Outcome {
+            status: Exit::Usage,
+            end: End::Unopened(cloud),
+        };
+    }
+    match Book::recover(alloc, cloud) {
+        Opened::Book(book) => driven(alloc, source, sink, book),
+        Opened::Memory(cloud) => Outcome {
+            status: Exit::Memory,
+            end: End::Unopened(cloud),
+        },
+    }
+}
+
+// Drives a book that was just opened.
+fn driven<S: Source, K: Sink, P: Provider>(
+    alloc: Global,
+    source: &mut S,
+    sink: &mut K,
+    book: Book<P>,
+) -> Outcome<P>
+    requires { HasOpened book.origin book }
+    ensures status { result.status ≢ Exit.Usage }
+    ensures book { (p : P) → result.end ≢ End.Unopened p }
+    ensures driven { (b : Shown P) → result.end ≡ End.Book b → HasDriven P.cloud book.origin
+        (outside (S.left source.old) (S.faults source.old) (K.holds sink.old) (K.faults sink.old))
+        (outside (S.left source.new) (S.faults source.new) (K.holds sink.new) (K.faults sink.new))
+        result.status b }
+{
+    let mut book = book;
+    let status = drive(alloc, source, sink, &mut book);
+    book.promises();
+    Outcome {
+        status,
+        end: End::Book(book),
+    }
+}

@@ -1,0 +1,43 @@
+//! What a stack could go back to.
+ghost use Rattle.std.specs.Str.{bytes_eq};
+
+use crate::shared_plan::SharedPlan;
+use crate::table::Keyed;
+use heat_plan::StackName;
+use heat_value::{TryCopy, copy_option};
+use std::alloc::AllocError;
+
+/// Whether a failure of the stack's newest traversal is rolled back, and the plan that a rollback goes
+/// back to: none is the empty plan. A stack without a past has no rollback and no such plan.
+#[derive(Debug, Drop)]
+pub struct Past {
+    pub stack: StackName,
+    pub rollback: bool,
+    pub back: Option<SharedPlan>,
+}
+
+impl Keyed for Past {
+    type Key = StackName;
+
+    ghost key_of = { λ p. p.stack };
+
+    ghost same = { bytes_eq };
+
+    fn has_key(&self, key: &StackName) -> bool {
+        self.stack == *key
+    }
+
+    fn shares_key(&self, other: &Past) -> bool {
+        self.stack == other.stack
+    }
+}
+
+impl TryCopy for Past {
+    fn copy(&self) -> Result<Past, AllocError> {
+        Ok(Past {
+            stack: self.stack.copy()?,
+            rollback: self.rollback,
+            back: copy_option(&self.back)?,
+        })
+    }
+}

@@ -1,0 +1,10 @@
+pub mod Carried
+pub mod Steps
+pub mod Begun
+pub mod Told
+pub mod Taken
+pub mod Finished
+pub mod Commands
+pub mod Engines
+pub mod Moves
+pub mod Cases

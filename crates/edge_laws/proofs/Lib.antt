@@ -1,0 +1,4 @@
+pub mod Keeping
+pub mod ItemNames
+pub mod Members
+pub mod Ranks

@@ -1,0 +1,9 @@
+pub mod Same
+pub mod Graphs
+pub mod Mails
+pub mod Marks
+pub mod Others
+pub mod Pieces
+pub mod OnOne
+pub mod Commands
+pub mod Engines

@@ -1,4 +1,0 @@
-pub mod Boxes
-pub mod Turning
-pub mod Noting
-pub mod Driving

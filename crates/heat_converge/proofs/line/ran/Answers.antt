@@ -1,5 +1,0 @@
-use Rattle.core_state.specs.Steps.{ran}
-use Rattle.heat_converge.proofs.line.ran.Goals as goal
-
-pub note-requires : goal.note-requires
-note-requires g c = ran _ _

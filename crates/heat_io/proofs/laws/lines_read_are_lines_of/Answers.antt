@@ -1,5 +1,0 @@
-use Rattle.heat_io.proofs.Runs.{are_lines}
-use Rattle.heat_io.proofs.laws.lines_read_are_lines_of.Goals as goal
-
-pub returns : goal.returns
-returns c = are_lines

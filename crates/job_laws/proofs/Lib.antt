@@ -1,0 +1,9 @@
+pub mod Onward
+pub mod Steps
+pub mod Begun
+pub mod Told
+pub mod Finished
+pub mod Taken
+pub mod Commands
+pub mod Engines
+pub mod Moves

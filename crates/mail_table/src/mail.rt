@@ -1,0 +1,54 @@
+//! Letters that wait for an engine, and the jobs that engines have.
+
+use heat_plan::{EngineNo, LetterNo, RowNo, StackName, TravNo};
+use heat_value::TryCopy;
+use std::alloc::AllocError;
+
+/// A letter: somebody is to work at a node of this traversal's graph.
+#[derive(Debug, Drop)]
+pub struct Letter {
+    pub no: LetterNo,
+    pub stack: StackName,
+    pub trav: TravNo,
+    pub node: u32,
+}
+
+/// How far a job is.
+#[derive(Clone, Copy, Debug, PartialEq, Eq)]
+pub enum Stage {
+    Taken,
+    Asking,
+    Polling,
+    Ending,
+}
+
+/// A job: the engine that has it, the letter that it answers, the row that it works at, and its stage.
+#[derive(Debug, Drop)]
+pub struct Job {
+    pub engine: EngineNo,
+    pub letter: Letter,
+    pub row: RowNo,
+    pub stage: Stage,
+}
+
+impl TryCopy for Letter {
+    fn copy(&self) -> Result<Letter, AllocError> {
+        Ok(Letter {
+            no: self.no,
+            stack: self.stack.copy()?,
+            trav: self.trav,
+            node: self.node,
+        })
+    }
+}
+
+impl TryCopy for Job {
+    fn copy(&self) -> Result<Job, AllocError> {
+        Ok(Job {
+            engine: self.engine,
+            letter: self.letter.copy()?,
+            row: self.row,
+            stage: self.stage,
+        })
+    }
+}

@@ -1,0 +1,11 @@
+pub mod Rows
+pub mod Own
+pub mod Jobs
+pub mod Moves
+pub mod Fails
+pub mod Finish
+pub mod Kept
+pub mod Engines
+pub mod Laid
+pub mod Pasts
+pub mod Cases

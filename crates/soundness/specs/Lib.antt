@@ -1,0 +1,14 @@
+pub mod Numbered
+pub mod Linked
+pub mod GraphFits
+pub mod RowsFit
+pub mod MailFits
+pub mod Stir
+pub mod MarkFits
+pub mod Agrees
+pub mod Tells
+pub mod Elsewhere
+pub mod Sound
+pub mod Groups
+pub mod Headline
+pub mod Laws

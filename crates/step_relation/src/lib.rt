@@ -1,0 +1,2 @@
+//! Definitions alone.
+#![tactic(auto)]

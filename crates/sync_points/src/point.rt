@@ -1,0 +1,45 @@
+//! What the nodes of a graph were given by those before them.
+
+use heat_plan::{Facts, ResName, RowNo, StackName};
+use heat_value::{Seq, TryCopy, copy_option};
+use std::alloc::AllocError;
+
+/// What the node at the place `from` gave: the name and the facts are those of an update node.
+#[derive(Debug, Drop)]
+pub struct Input {
+    pub from: u32,
+    pub name: Option<ResName>,
+    pub row: RowNo,
+    pub facts: Option<Facts>,
+}
+
+/// What one node of a stack's graph was given, and whether it is done.
+#[derive(Debug, Drop)]
+pub struct Point {
+    pub stack: StackName,
+    pub node: u32,
+    pub inputs: Seq<Input>,
+    pub done: bool,
+}
+
+impl TryCopy for Input {
+    fn copy(&self) -> Result<Input, AllocError> {
+        Ok(Input {
+            from: self.from,
+            name: copy_option(&self.name)?,
+            row: self.row,
+            facts: copy_option(&self.facts)?,
+        })
+    }
+}
+
+impl TryCopy for Point {
+    fn copy(&self) -> Result<Point, AllocError> {
+        Ok(Point {
+            stack: self.stack.copy()?,
+            node: self.node,
+            inputs: self.inputs.copy()?,
+            done: self.done,
+        })
+    }
+}

@@ -1,0 +1,10 @@
+pub mod Tables
+pub mod Rows
+pub mod Alike
+pub mod Targets
+pub mod Points
+pub mod Frame
+pub mod Facts
+pub mod Puts
+pub mod Ordered
+pub mod Fresh
