@@ -1,0 +1,4 @@
+pub mod Listings
+pub mod Graphs
+pub mod Layouts
+pub mod Readings
