@@ -7,3 +7,5 @@ pub mod Works
 pub mod Parts
 pub mod Pairs
 pub mod Outcomes
+pub mod Turns
+pub mod Worn

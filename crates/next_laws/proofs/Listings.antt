@@ -7,14 +7,14 @@ module _ {A : Type 0} where
   no_member : (n : A) → Contains [] n → ⊥
   no_member n (i, lt, e) = omega (arith, lt)
 
-  cons_cases : (xs : List A) (y x : A) → Contains (y ∷ xs) x → (x ≡ y) ⊎ Contains xs x
+  pub cons_cases : (xs : List A) (y x : A) → Contains (y ∷ xs) x → (x ≡ y) ⊎ Contains xs x
   cons_cases xs y x (zero, lt, e) = inl (sym e)
   cons_cases xs y x (suc k, lt, e) = inr (k, omega arith, e)
 
-  in_tail : (xs : List A) (y x : A) → Contains xs x → Contains (y ∷ xs) x
+  pub in_tail : (xs : List A) (y x : A) → Contains xs x → Contains (y ∷ xs) x
   in_tail xs y x (k, lt, e) = (suc k, omega arith, e)
 
-  in_head : (xs : List A) (x : A) → Contains (x ∷ xs) x
+  pub in_head : (xs : List A) (x : A) → Contains (x ∷ xs) x
   in_head xs x = (0, omega arith, refl)
 
   module _ (key : A → ℕ) where
