@@ -1,5 +1,5 @@
 -- All of a kind below a bound, listed by rising number.
-use Rattle.std.proofs.Common.{◌≡◌, ◌⊎◌, inl, inr, ◌<◌, ◌≤◌, ℕ, zero, suc, ◌+◌, List, [], ◌∷◌, length, get_or, map, map-id, Option, Some, None, refl, sym, ap, subst, ◌∙◌, arith}
+use Rattle.std.proofs.Common.{◌≡◌, inl, inr, ◌<◌, ◌≤◌, ℕ, zero, suc, ◌+◌, List, [], ◌∷◌, length, get_or, map, map-id, Option, Some, None, refl, sym, ap, subst, arith}
 use Rattle.std.specs.Prelude.{Contains}
 use Rattle.std.proofs.lemmas.List.{get_or_default}
 use Rattle.dep_graph.specs.Lists.{IsRising, ListsAll}
@@ -34,41 +34,50 @@ module _ {A : Type 0} (key : A → ℕ) (find : ℕ → Option A) (keyed : (n : 
   ]
 
   collect : (count low high : ℕ) → low + count ≡ high → (xs : List A) × Collects low high xs
-  collect zero low high e = ([], record {
-    rising = rising-nil;
-    has = λ n x le lt. absurd (omega (arith, le, lt, e));
-    only = λ x c. absurd (no_member x c);
-    above = λ x c. absurd (no_member x c);
-  })
+  collect zero low high e = (
+    [],
+    record {
+      rising = rising-nil;
+      has = λ n x le lt. absurd (omega (arith, le, lt, e));
+      only = λ x c. absurd (no_member x c);
+      above = λ x c. absurd (no_member x c);
+    },
+  )
   collect (suc count) low high e = by (find low) refl (collect count (low + 1) high (omega (arith, e))) where
     by : (o : Option A) → find low ≡ o → (xs : List A) × Collects (low + 1) high xs → (xs : List A) × Collects low high xs
-    by None is (xs, c) = (xs, record {
-      rising = c.rising;
-      has = λ n x le lt found. elim (same_or_not low n) [
-        | inl same ↦ (let none : find n ≡ None = subst (λ (k : ℕ). find k ≡ None) same is in cc)
-        | inr ne ↦ c.has n x (omega (arith, le, ne)) lt found
-      ];
-      only = c.only;
-      above = λ x at. let h = c.above x at in omega (arith, h);
-    })
+    by None is (xs, c) = (
+      xs,
+      record {
+        rising = c.rising;
+        has = λ n x le lt found. elim (same_or_not low n) [
+          | inl same ↦ (let none : find n ≡ None = subst (λ (k : ℕ). find k ≡ None) same is in cc)
+          | inr ne ↦ c.has n x (omega (arith, le, ne)) lt found
+        ];
+        only = c.only;
+        above = λ x at. let h = c.above x at in omega (arith, h);
+      },
+    )
     by (Some y) is (xs, c) =
-        let at_y : key y ≡ low = keyed low y is in (y ∷ xs, record {
-          rising = rising-cons (key y) (map key xs)
-              (λ n at. let (x, at_x, e) = key_was xs n at in let h = c.above x at_x in omega (arith, h, e, at_y)) c.rising;
-          has = λ n x le lt found. elim (same_or_not low n) [
-            | inl same ↦ (let found_y : find n ≡ Some y = subst (λ (k : ℕ). find k ≡ Some y) same is in
-                let same_x : y ≡ x = cc in subst (Contains (y ∷ xs)) same_x (in_head xs y))
-            | inr ne ↦ in_tail xs y x (c.has n x (omega (arith, le, ne)) lt found)
-          ];
-          only = λ x at. elim (cons_cases xs y x at) [
-            | inl same ↦ subst (λ (z : A). find (key z) ≡ Some z) (sym same) (subst (λ (k : ℕ). find k ≡ Some y) (sym at_y) is)
-            | inr later ↦ c.only x later
-          ];
-          above = λ x at. elim (cons_cases xs y x at) [
-            | inl same ↦ (let e : key x ≡ key y = ap key same in omega (arith, e, at_y))
-            | inr later ↦ let h = c.above x later in omega (arith, h)
-          ];
-        })
+        let at_y : key y ≡ low = keyed low y is in (
+          y ∷ xs,
+          record {
+            rising = rising-cons (key y) (map key xs)
+                (λ n at. let (x, at_x, e) = key_was xs n at in let h = c.above x at_x in omega (arith, h, e, at_y)) c.rising;
+            has = λ n x le lt found. elim (same_or_not low n) [
+              | inl same ↦ (let found_y : find n ≡ Some y = subst (λ (k : ℕ). find k ≡ Some y) same is in
+                  let same_x : y ≡ x = cc in subst (Contains (y ∷ xs)) same_x (in_head xs y))
+              | inr ne ↦ in_tail xs y x (c.has n x (omega (arith, le, ne)) lt found)
+            ];
+            only = λ x at. elim (cons_cases xs y x at) [
+              | inl same ↦ subst (λ (z : A). find (key z) ≡ Some z) (sym same) (subst (λ (k : ℕ). find k ≡ Some y) (sym at_y) is)
+              | inr later ↦ c.only x later
+            ];
+            above = λ x at. elim (cons_cases xs y x at) [
+              | inl same ↦ (let e : key x ≡ key y = ap key same in omega (arith, e, at_y))
+              | inr later ↦ let h = c.above x later in omega (arith, h)
+            ];
+          },
+        )
 
   pub all_below : (b : ℕ) → (xs : List A) × Collects 0 b xs
   all_below b = collect b 0 b (omega arith)
@@ -89,8 +98,10 @@ module _ (P : ℕ → Type 0) (d : (n : ℕ) → Decided (P n)) where
 
   pub all_of : (b : ℕ) → ((n : ℕ) → P n → n < b) → (ns : List ℕ) × ListsAll P ns
   all_of b within =
-      let (ns, c) = all_below (λ (n : ℕ). n) (λ n. chosen (d n) n) (λ n x e. (chosen_is n x (d n) e).0) b in
-      (ns, record {
-        rising = subst IsRising (map-id ns) c.rising;
-        each = λ n. ((λ at. (chosen_is n n (d n) (c.only n at)).1), (λ p. c.has n n (omega arith) (within n p) (is_chosen n (d n) p)));
-      })
+      let (ns, c) = all_below (λ (n : ℕ). n) (λ n. chosen (d n) n) (λ n x e. (chosen_is n x (d n) e).0) b in (
+        ns,
+        record {
+          rising = subst IsRising (map-id ns) c.rising;
+          each = λ n. ((λ at. (chosen_is n n (d n) (c.only n at)).1), (λ p. c.has n n (omega arith) (within n p) (is_chosen n (d n) p)));
+        },
+      )

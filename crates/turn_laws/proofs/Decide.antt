@@ -1,5 +1,5 @@
 -- What can be decided: of numbers up to a bound, of the members of a list, and of the parts of both.
-use Rattle.std.proofs.Common.{◌≡◌, ◌≢◌, ◌⊎◌, inl, inr, ◌<◌, ◌≤◌, ℕ, zero, suc, ◌+◌, Bool, true, false, List, [], ◌∷◌, Option, Some, None, refl, sym, ap, subst, ◌∙◌, arith}
+use Rattle.std.proofs.Common.{◌≡◌, ◌⊎◌, inl, inr, ◌<◌, ◌≤◌, ℕ, zero, suc, ◌+◌, Bool, true, false, List, [], ◌∷◌, Some, refl, ap, subst, ◌∙◌, arith}
 use Rattle.std.specs.Prelude.{Contains, nat_eq}
 use Rattle.std.proofs.lemmas.Bool.Decides.{Decides-eqb}
 use Rattle.heat_plan.specs.Tables.{at}
@@ -64,14 +64,17 @@ greatest_or_none P d zero = inr (λ n lt p. omega (arith, lt))
 greatest_or_none P d (suc b) = elim (d b) [
   | inl p ↦ inl (b, record { is = p; below = omega arith; greatest = λ m lt q. omega (arith, lt) })
   | inr not ↦ elim (greatest_or_none P d b) [
-    | inl found ↦ let (n, g) = found in inl (n, record {
-      is = g.is;
-      below = omega (arith, g.below);
-      greatest = λ m lt q. elim (same_or_not m b) [
-        | inl is ↦ absurd (not (subst P is q))
-        | inr ne ↦ g.greatest m (elim (below_or_not m b) [ inl less ↦ less | inr le ↦ absurd (ne (omega (arith, lt, le))) ]) q
-      ];
-    })
+    | inl found ↦ let (n, g) = found in inl (
+      n,
+      record {
+        is = g.is;
+        below = omega (arith, g.below);
+        greatest = λ m lt q. elim (same_or_not m b) [
+          | inl is ↦ absurd (not (subst P is q))
+          | inr ne ↦ g.greatest m (elim (below_or_not m b) [ inl less ↦ less | inr le ↦ absurd (ne (omega (arith, lt, le))) ]) q
+        ];
+      },
+    )
     | inr none ↦ inr (λ n lt p. elim (same_or_not n b) [
       | inl is ↦ not (subst P is p)
       | inr ne ↦ none n (elim (below_or_not n b) [ inl less ↦ less | inr le ↦ absurd (ne (omega (arith, lt, le))) ]) p
@@ -124,19 +127,23 @@ pair_or_not x y = elim (same_or_not x.0 y.0) [
 pub bound_of : {A : Type 0} (key : A → ℕ) (xs : List A) → (b : ℕ) × ((x : A) → Contains xs x → key x < b)
 bound_of key [] = (0, λ x c. absurd (no_member x c))
 bound_of {A = A} key (y ∷ ys) =
-    let (b, fits) = bound_of key ys in
-    (key y + b + 1, λ x c. elim (cons_cases ys y x c) [
-      | inl is ↦ let e : key x ≡ key y = ap key is in omega (arith, e)
-      | inr later ↦ let lt = fits x later in omega (arith, lt)
-    ])
+    let (b, fits) = bound_of key ys in (
+      key y + b + 1,
+      λ x c. elim (cons_cases ys y x c) [
+        | inl is ↦ let e : key x ≡ key y = ap key is in omega (arith, e)
+        | inr later ↦ let lt = fits x later in omega (arith, lt)
+      ],
+    )
 
 -- so is each key under which a table finds something
 pub bound_at : {A : Type 0} (key : A → ℕ) (xs : List A) → (b : ℕ) × ((k : ℕ) (x : A) → at nat_eq key xs k ≡ Some x → k < b)
 unfolding at
 bound_at key [] = (0, λ k x h. cc)
 bound_at {A = A} key (y ∷ ys) =
-    let (b, fits) = bound_at key ys in
-    (key y + b + 1, λ k x h. elim (cases nat_eq Decides-eqb (λ (z : ℕ). z) (key y) k) [
-      | inl is ↦ omega (arith, is.1)
-      | inr not ↦ let lt = fits k x (rw not.0 at h) in omega (arith, lt)
-    ])
+    let (b, fits) = bound_at key ys in (
+      key y + b + 1,
+      λ k x h. elim (cases nat_eq Decides-eqb (λ (z : ℕ). z) (key y) k) [
+        | inl is ↦ omega (arith, is.1)
+        | inr not ↦ let lt = fits k x (rw not.0 at h) in omega (arith, lt)
+      ],
+    )

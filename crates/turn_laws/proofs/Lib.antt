@@ -3,3 +3,8 @@ pub mod Collect
 pub mod Targets
 pub mod Sights
 pub mod Waiting
+pub mod Paths
+pub mod Layings
+pub mod Fates
+pub mod Turning
+pub mod Nexts

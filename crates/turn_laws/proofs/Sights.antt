@@ -1,9 +1,8 @@
 -- Whether a letter or a job has work, and who holds a row, can be told.
-use Rattle.std.proofs.Common.{◌≡◌, ◌≢◌, ◌⊎◌, inl, inr, ◌<◌, ◌≤◌, ℕ, List, Option, Some, None, Bool, true, false, refl, sym, ap, subst, ◌∙◌, arith}
+use Rattle.std.proofs.Common.{◌≡◌, ◌≢◌, ◌⊎◌, inl, inr, ℕ, List, Option, Some, None, refl, sym, ap, subst, ◌∙◌}
 use Rattle.std.specs.Prelude.{Contains, slice_get}
 use Rattle.heat_plan.specs.declared.item.Item.{Item}
 use Rattle.heat_plan.specs.declared.phase.Act.TheVariants.{Delete}
-use Rattle.dep_graph.specs.Lists.{IsLeast}
 use Rattle.traversal_graph.specs.declared.shape.Node.{Node}
 use Rattle.traversal_graph.specs.declared.shape.Node.TheVariants.{C, U}
 use Rattle.row_table.specs.Rows.{row_at}
@@ -23,7 +22,7 @@ use Rattle.step_relation.specs.Takes.{HasNoHolder, IsHolder}
 use Rattle.step_relation.specs.Targets.{IsTarget}
 use Rattle.table_laws.proofs.Rows.{same_or_not, same_some}
 use Rattle.table_laws.proofs.Targets.{target_once}
-use Rattle.next_laws.proofs.Readings.{meant_one, names_one}
+use Rattle.next_laws.proofs.Readings.{names_one}
 use Rattle.turn_laws.proofs.Decide.{Decided, both_or_not, bound_at, each_or_one, exchanged, flag_or_not, implied_or_not, least_or_none, not_or, some_or_none}
 use Rattle.turn_laws.proofs.Targets.{delete_or_not, target_or_none}
 
@@ -42,7 +41,10 @@ named_or_not s l = by_stack (stack_at s.stacks l.stack) refl where
       let same : k.graph ≡ g = same_some k.graph g k.names.its_graph at_g in
       let there : slice_get g.graph.nodes l.node ≡ Some k.node = subst (λ (z : Graph). slice_get z.graph.nodes l.node ≡ Some k.node) same k.names.its_node in cc)
   by_node st g at newest at_g (Some node) found = inl (record {
-    stack = st; graph = g; node = node; names = record { in_table = at; newest = newest; its_graph = at_g; its_node = found }
+    stack = st;
+    graph = g;
+    node = node;
+    names = record { in_table = at; newest = newest; its_graph = at_g; its_node = found };
   })
 
   by_graph : (st : Stack) → stack_at s.stacks l.stack ≡ Some st → st.trav ≡ l.trav → (o : Option Graph) → graph_at s.graphs l.stack ≡ o → Decided (Named s l)
@@ -128,11 +130,15 @@ module _ (jobs : List Job) (n : ℕ) where
 
   pub holder_or_none : ((f : ℕ) × (j : Job) × IsHolder jobs n f j) ⊎ HasNoHolder jobs n
   holder_or_none = let (b, within) = bound_at job_key jobs in elim (least_or_none HasRow has_or_not b) [
-    | inl found ↦ let (f, l) = found in inl (f, l.is.job, record {
-      its = l.is.its;
-      has = l.is.has;
-      lowest = λ g k at on. l.least g (record { job = k; its = at; has = on });
-    })
+    | inl found ↦ let (f, l) = found in inl (
+      f,
+      l.is.job,
+      record {
+        its = l.is.its;
+        has = l.is.has;
+        lowest = λ g k at on. l.least g (record { job = k; its = at; has = on });
+      },
+    )
     | inr none ↦ inr (λ f j at on. none f (within f j at) (record { job = j; its = at; has = on }))
   ]
 

@@ -1,16 +1,16 @@
 -- The current row of a name, and the target of a node, can be found.
-use Rattle.std.proofs.Common.{◌≡◌, ◌≢◌, ◌⊎◌, inl, inr, ◌<◌, ◌≤◌, ℕ, zero, suc, ◌+◌, List, Option, Some, None, refl, sym, ap, subst, ◌∙◌, arith}
+use Rattle.std.proofs.Common.{◌≡◌, ◌⊎◌, inl, inr, ◌<◌, ◌≤◌, ℕ, zero, suc, ◌+◌, List, Option, Some, None, refl, sym, ap, subst, ◌∙◌, arith}
 use Rattle.heat_plan.specs.declared.phase.Act.{Act}
 use Rattle.heat_plan.specs.declared.phase.Act.TheVariants.{Create, Delete, Init, Rollback, Update}
 use Rattle.traversal_graph.specs.declared.shape.Node.{Node}
 use Rattle.traversal_graph.specs.declared.shape.Node.TheVariants.{C, U}
-use Rattle.row_table.specs.Chains.{IsCurrent, IsLast, Leads, ends, goes}
+use Rattle.row_table.specs.Chains.{IsCurrent, Leads, ends, goes}
 use Rattle.row_table.specs.Rows.{row_at, row_key}
 use Rattle.row_table.specs.declared.row.Row.{Row}
 use Rattle.step_relation.specs.Targets.{HasNoCurrent, IsCurrentOf, IsTarget, of_c, of_u, renewed}
 use Rattle.table_laws.proofs.Rows.{row-key, row_self, same_or_not, same_some, text_or_not}
 use Rattle.table_laws.proofs.Targets.{current_once, leads_stands}
-use Rattle.turn_laws.proofs.Decide.{Decided, IsGreatest, below_or_not, bound_at, both_or_not, exchanged, greatest_or_none}
+use Rattle.turn_laws.proofs.Decide.{Decided, below_or_not, bound_at, greatest_or_none}
 
 pub delete_or_not : (act : Act) → Decided (act ≡ Delete)
 delete_or_not Init = inr (λ e. cc)
@@ -62,15 +62,18 @@ module _ (rows : List Row) (stack name : List ℕ) where
   pub current_or_none : ((r : Row) × IsCurrentOf rows stack name r) ⊎ HasNoCurrent rows stack name
   current_or_none = let (b, within) = bound_at row_key rows in elim (greatest_or_none IsOne one_or_not b) [
     | inl found ↦ let (n, g) = found in
-        let number : g.is.row.no ≡ n = row-key rows n g.is.row g.is.found in inl (g.is.row, record {
-          found = row_self rows n g.is.row g.is.found;
-          stack_is = g.is.stack_is;
-          name_is = g.is.name_is;
-          current = g.is.current;
-          greatest = λ m q at of called current.
-              let le = g.greatest m (within m q at) (record { row = q; found = at; stack_is = of; name_is = called; current = current }) in
-              subst (λ (k : ℕ). m ≤ k) (sym number) le;
-        })
+        let number : g.is.row.no ≡ n = row-key rows n g.is.row g.is.found in inl (
+          g.is.row,
+          record {
+            found = row_self rows n g.is.row g.is.found;
+            stack_is = g.is.stack_is;
+            name_is = g.is.name_is;
+            current = g.is.current;
+            greatest = λ m q at of called current.
+                let le = g.greatest m (within m q at) (record { row = q; found = at; stack_is = of; name_is = called; current = current }) in
+                subst (λ (k : ℕ). m ≤ k) (sym number) le;
+          },
+        )
     | inr none ↦ inr (λ m q at of called current.
         none m (within m q at) (record { row = q; found = at; stack_is = of; name_is = called; current = current }))
   ]
@@ -94,8 +97,11 @@ module _ (rows : List Row) (b : ℕ) (within : (k : ℕ) (x : Row) → row_at ro
   leads_within (suc fuel) n r at reach = by r.replaced_by refl (λ m q at_m up. leads_within fuel m q at_m (omega (arith, up, reach))) where
     by_row : (m : ℕ) → r.replaced_by ≡ Some m → n < m → (o : Option Row) → row_at rows m ≡ o
         → ((m : ℕ) (q : Row) → row_at rows m ≡ Some q → n < m → (t : ℕ) × Leads rows m t) → (t : ℕ) × Leads rows n t
-    by_row m is up None none rest = (n, ends n r at (λ k q by_ lt found. let same : m ≡ k = cc in
-        let found_m : row_at rows m ≡ Some q = subst (λ (z : ℕ). row_at rows z ≡ Some q) (sym same) found in cc))
+    by_row m is up None none rest = (
+      n,
+      ends n r at (λ k q by_ lt found. let same : m ≡ k = cc in
+          let found_m : row_at rows m ≡ Some q = subst (λ (z : ℕ). row_at rows z ≡ Some q) (sym same) found in cc),
+    )
     by_row m is up (Some q) found rest = let (t, on) = rest m q found up in (t, goes n m t r at is up on)
 
     by : (o : Option ℕ) → r.replaced_by ≡ o → ((m : ℕ) (q : Row) → row_at rows m ≡ Some q → n < m → (t : ℕ) × Leads rows m t)
@@ -103,8 +109,11 @@ module _ (rows : List Row) (b : ℕ) (within : (k : ℕ) (x : Row) → row_at ro
     by None is rest = (n, ends n r at (λ m q by_ lt found. cc))
     by (Some m) is rest = elim (below_or_not n m) [
       | inl up ↦ by_row m is up (row_at rows m) refl rest
-      | inr le ↦ (n, ends n r at (λ k q by_ lt found. let same : m ≡ k = cc in
-          let number = row-key rows n r at in omega (arith, le, lt, same, number)))
+      | inr le ↦ (
+        n,
+        ends n r at (λ k q by_ lt found. let same : m ≡ k = cc in
+            let number = row-key rows n r at in omega (arith, le, lt, same, number)),
+      )
     ]
 
 pub leads_from : (rows : List Row) (n : ℕ) (r : Row) → row_at rows n ≡ Some r → (t : ℕ) × Leads rows n t

@@ -14,6 +14,7 @@ use Rattle.mail_table.specs.Mails.{job_at, letter_at}
 use Rattle.mail_table.specs.declared.mail.Job.{Job}
 use Rattle.mail_table.specs.declared.mail.Letter.{Letter}
 use Rattle.mail_table.specs.declared.mail.Stage.{Stage}
+use Rattle.mail_table.specs.declared.mail.Stage.TheVariants.{Asking, Polling}
 use Rattle.core_state.specs.State.{StateData}
 use Rattle.core_state.specs.declared.graph.Graph.{Graph}
 use Rattle.core_state.specs.declared.stack.Stack.{Stack}
@@ -31,7 +32,8 @@ use Rattle.table_laws.proofs.Facts.{named_fits}
 use Rattle.table_laws.proofs.Fresh.{fresh_of_newest, item_of}
 use Rattle.table_laws.proofs.Rows.{same_some, stack-key}
 use Rattle.headline_laws.proofs.Items.{All-among}
-use Rattle.work_laws.specs.Found.{CallsMayBeMade, CallsStand, IsAskedAt, OldIsStale, PointsStand, asks, polls}
+use Rattle.turn_laws.specs.HasTurn.{IsAskable}
+use Rattle.work_laws.specs.Found.{CallsMayBeMade, CallsStand, IsAskedAt, OldIsStale, PointsStand, SoundHasWork, asks, polls}
 use Rattle.step_relation.specs.Asks as call
 use Rattle.step_relation.specs.Freshness as work
 use Rattle.soundness.specs.MailFits as stages
@@ -126,3 +128,20 @@ old_is_stale = record { letters = letters; jobs = jobs } where
     (λ over st found newest. over (fresh_of_newest s S e j at st (record { in_table = found; newest = newest }))),
     (λ stale fresh. stale fresh.stack fresh.names.in_table fresh.names.newest),
   )
+
+asks_at : (s : StateData) (e : ℕ) (j : Job) → Standing s → job_at s.jobs e ≡ Some j → j.stage ≡ Asking → IsAskable s j
+asks_at s e j S its is =
+    let row = S.shape.jobs.under_way e j its (subst IsUnderWay (sym is) stages.asks) in
+    let (asked, asks_it) = asked_for row.row (S.shape.each_row j.row row.row row.found) row.status in
+    record { row = row.row; found = row.found; asked = asked; asks = asks_it }
+
+polls_at : (s : StateData) (e : ℕ) (j : Job) → Standing s → job_at s.jobs e ≡ Some j → j.stage ≡ Polling → (r : Row) × (row_at s.rows j.row ≡ Some r)
+polls_at s e j S its is =
+    let row = S.shape.jobs.under_way e j its (subst IsUnderWay (sym is) stages.polls) in (row.row, row.found)
+
+pub sound_has_work : SoundHasWork
+sound_has_work s S = record {
+  points = λ e j st g node its names. points_stand s j.letter st g node S names;
+  asking = λ e j its is. asks_at s e j S its is;
+  polling = λ e j its is. polls_at s e j S its is;
+}

@@ -24,6 +24,7 @@ use Rattle.history.specs.Opening.{Opening}
 use Rattle.soundness.specs.Headline.{MayBeAsked}
 use Rattle.soundness.specs.MailFits.{IsStale, IsUnderWay}
 use Rattle.soundness.specs.Sound.{Sound, Standing}
+use Rattle.turn_laws.specs.HasTurn.{HasWork}
 
 -- what a job at this stage asks for its row
 pub data IsAskedAt (r : Row) : Stage → Request → Type 0 where
@@ -59,3 +60,7 @@ pub record OldIsStale : Type 0 where
       → IsOutdated s l ↔ IsStale s.stacks l
   pub jobs : (s : StateData) (e : ℕ) (j : Job) → Standing s → job_at s.jobs e ≡ Some j
       → IsOverrun s j ↔ IsStale s.stacks j.letter
+
+-- so each job has what its next step needs
+abbrev pub SoundHasWork : Type 0
+SoundHasWork = (s : StateData) → Standing s → HasWork s

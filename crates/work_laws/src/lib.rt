@@ -2,7 +2,7 @@
 //! has an empty body and stands for its clauses.
 #![tactic(auto)]
 
-ghost use Rattle.work_laws.specs.Found.{CallsMayBeMade, CallsStand, OldIsStale, PointsStand};
+ghost use Rattle.work_laws.specs.Found.{CallsMayBeMade, CallsStand, OldIsStale, PointsStand, SoundHasWork};
 
 /// A job that asks or polls has a row under way for its letter's traversal, and the row's act says
 /// what is asked for it.
@@ -23,4 +23,10 @@ pub fn points_stand()
 /// A letter or a job has no work exactly where its stack is gone or has another traversal.
 pub fn old_is_stale()
     ensures { OldIsStale }
+{}
+
+/// In a sound state each job has what its next step needs, so that each live engine has a step for
+/// something or is idle.
+pub fn a_sound_state_has_work()
+    ensures { SoundHasWork }
 {}
