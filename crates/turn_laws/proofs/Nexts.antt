@@ -64,12 +64,12 @@ required_list inputs =
 polled_for : (r : Row) → (asked : Request) × Polls r asked
 polled_for r = elim (delete_or_not r.act) [ inl is ↦ (_, looks is) | inr not ↦ (_, polls not) ]
 
-module _ (s : StateData) (e : ℕ) (h : HasWork s) where
+module _ (s : StateData) (e : ℕ) (h : HasWork s e) where
   -- a job at Taken that has work
   begins_with : (j : Job) (w : Works s e j Taken) (st : Stack) (g : Graph) (node : Node) (row : Option Row) → Names s j.letter st g node
       → row_at s.rows j.row ≡ row → Serves st node row → Something s e
   begins_with j w st g _ _ names found (updates name chosen item r asked kept) =
-      let (p, there) = h.points e j st g (U name chosen) w.its names in
+      let (p, there) = h.points j st g (U name chosen) w.its names in
       let (ns, are) = required_list p.inputs in
       let k : Begins s e = record {
         job = j;
@@ -101,10 +101,10 @@ module _ (s : StateData) (e : ℕ) (h : HasWork s) where
   by_stage : (j : Job) (stage : Stage) → Works s e j stage → Something s e
   by_stage j Taken w = taken j w
   by_stage j Asking w =
-      let a = h.asking e j w.its w.stage_is in
+      let a = h.asking j w.its w.stage_is in
       (Answer answer.Failed, suits.asks (record { job = j; row = a.row; works = w; found = a.found }) a.asked answer.Failed a.asks (failed a.asked))
   by_stage j Polling w =
-      let (r, found) = h.polling e j w.its w.stage_is in
+      let (r, found) = h.polling j w.its w.stage_is in
       let (asked, is) = polled_for r in
       (Answer answer.Failed, suits.polls (record { job = j; row = r; works = w; found = found }) asked answer.Failed is (failed asked))
   by_stage j Ending w = (Nothing, suits.ends j w)
@@ -169,7 +169,7 @@ module _ (s : StateData) (e : ℕ) (live : Contains s.live e) where
     ]
   ]
 
-  either : HasWork s → Something s e ⊎ IsIdle s e
+  either : HasWork s e → Something s e ⊎ IsIdle s e
   either h = by (job_at s.jobs e) refl where
     by : (o : Option Job) → job_at s.jobs e ≡ o → Something s e ⊎ IsIdle s e
     by None none = jobless none

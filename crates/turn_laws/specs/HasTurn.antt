@@ -24,11 +24,6 @@ use Rattle.turn_laws.specs.Suits.{Suits}
 abbrev pub TurnExists : Type 0
 TurnExists = (s : StateData) (e : ℕ) (given : Given) → Suits s e given → (cs : List Change) × (es : List Entry) × Turn s e given cs es
 
--- each node that a job names has its point
-abbrev pub HasPoints : StateData → Type 0
-HasPoints s = (e : ℕ) (j : Job) (st : Stack) (g : Graph) (node : Node) → job_at s.jobs e ≡ Some j → Names s j.letter st g node
-    → (p : Point) × (slice_get g.points j.letter.node ≡ Some p)
-
 -- a job that asks has a row that something is asked for
 pub record IsAskable (s : StateData) (j : Job) : Type 0 where
   pub row : Row
@@ -36,11 +31,12 @@ pub record IsAskable (s : StateData) (j : Job) : Type 0 where
   pub asked : Request
   pub asks : Asks row asked
 
--- what each job of a state has
-pub record HasWork (s : StateData) : Type 0 where
-  pub points : HasPoints s
-  pub asking : (e : ℕ) (j : Job) → job_at s.jobs e ≡ Some j → j.stage ≡ Asking → IsAskable s j
-  pub polling : (e : ℕ) (j : Job) → job_at s.jobs e ≡ Some j → j.stage ≡ Polling → (r : Row) × (row_at s.rows j.row ≡ Some r)
+-- what an engine's job has, if it has one: the point of its node, and a row where it asks or polls
+pub record HasWork (s : StateData) (e : ℕ) : Type 0 where
+  pub points : (j : Job) (st : Stack) (g : Graph) (node : Node) → job_at s.jobs e ≡ Some j → Names s j.letter st g node
+      → (p : Point) × (slice_get g.points j.letter.node ≡ Some p)
+  pub asking : (j : Job) → job_at s.jobs e ≡ Some j → j.stage ≡ Asking → IsAskable s j
+  pub polling : (j : Job) → job_at s.jobs e ≡ Some j → j.stage ≡ Polling → (r : Row) × (row_at s.rows j.row ≡ Some r)
 
 -- each live engine has a step for something that suits it, or is idle, and never both
 pub record StepsOrIsIdle (s : StateData) (e : ℕ) : Type 0 where
@@ -48,4 +44,4 @@ pub record StepsOrIsIdle (s : StateData) (e : ℕ) : Type 0 where
   pub apart : (given : Given) → Suits s e given → ¬ IsIdle s e
 
 abbrev pub NextExists : Type 0
-NextExists = (s : StateData) (e : ℕ) → HasWork s → Contains s.live e → StepsOrIsIdle s e
+NextExists = (s : StateData) (e : ℕ) → HasWork s e → Contains s.live e → StepsOrIsIdle s e

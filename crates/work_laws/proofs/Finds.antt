@@ -140,8 +140,8 @@ polls_at s e j S its is =
     let row = S.shape.jobs.under_way e j its (subst IsUnderWay (sym is) stages.polls) in (row.row, row.found)
 
 pub sound_has_work : SoundHasWork
-sound_has_work s S = record {
-  points = λ e j st g node its names. points_stand s j.letter st g node S names;
-  asking = λ e j its is. asks_at s e j S its is;
-  polling = λ e j its is. polls_at s e j S its is;
+sound_has_work s e S = record {
+  points = λ j st g node its names. points_stand s j.letter st g node S names;
+  asking = λ j its is. asks_at s e j S its is;
+  polling = λ j its is. polls_at s e j S its is;
 }

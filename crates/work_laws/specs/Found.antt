@@ -63,4 +63,4 @@ pub record OldIsStale : Type 0 where
 
 -- so each job has what its next step needs
 abbrev pub SoundHasWork : Type 0
-SoundHasWork = (s : StateData) → Standing s → HasWork s
+SoundHasWork = (s : StateData) (e : ℕ) → Standing s → HasWork s e
