@@ -1,0 +1,12 @@
+pub mod Drawing
+pub mod Kept
+pub mod Tables
+pub mod Own
+pub mod Ends
+pub mod Begun
+pub mod Called
+pub mod Quiet
+pub mod Moved
+pub mod Laid
+pub mod Stepped
+pub mod Openings

@@ -1,0 +1,8 @@
+use Rattle.workable_laws.proofs.Openings.{has_work, may_ask}
+use Rattle.workable_laws.proofs.a_workable_state_has_work.Goals as goal
+
+pub returns-clause-work : goal.returns-clause-work
+returns-clause-work c = has_work
+
+pub returns-clause-asks : goal.returns-clause-asks
+returns-clause-asks c = may_ask

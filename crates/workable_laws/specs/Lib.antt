@@ -1,0 +1,3 @@
+pub mod Workable
+pub mod Admitted
+pub mod Laws
