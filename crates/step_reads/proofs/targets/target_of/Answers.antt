@@ -1,0 +1,1 @@
+use Rattle.step_reads.proofs.targets.target_of.Goals as goal
