@@ -63,7 +63,7 @@ current_of rows stack name (Some r) h = record {
   current = h.of.current;
   greatest = λ m q at of called is.
       let le : nat_le q.no r.now.no ≡ true = h.first q (row-among rows m q at) (row-self rows m q at)
-              (record { stack_is = of; name_is = called; current = is }) in
+      (record { stack_is = of; name_is = called; current = is }) in
       let key : q.no ≡ m = row-key rows m q at in
       let less : q.no ≤ r.now.no = grind (arith, nat_tests, le) in
       omega (arith, less, key);

@@ -52,8 +52,8 @@ module _ (s : StateData) (l : Letter) where
       → row_at s.rows t ≡ row → ¬ Serves st n row → ¬ IsMeant s l
   work_no st g n t row names to found not k =
       let is : k.target ≡ t = target_once s.rows l.stack n k.target t
-              (subst (λ (x : Node). IsTarget s.rows l.stack x k.target)
-              (sym (node_same st g n k.fresh.stack k.fresh.graph k.fresh.node names k.fresh.names)) k.to) to in
+      (subst (λ (x : Node). IsTarget s.rows l.stack x k.target)
+      (sym (node_same st g n k.fresh.stack k.fresh.graph k.fresh.node names k.fresh.names)) k.to) to in
       serves_no st g n t row names found not (subst (IsFresh s l) is k.fresh)
 
 -- a stack without a plan asks for nothing
