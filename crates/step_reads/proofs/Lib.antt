@@ -5,3 +5,4 @@ pub mod NextLemmas
 pub mod HeldLemmas
 pub mod TargetLemmas
 pub mod WorkLemmas
+pub mod StandingLemmas
