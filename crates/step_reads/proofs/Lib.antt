@@ -6,3 +6,5 @@ pub mod HeldLemmas
 pub mod TargetLemmas
 pub mod WorkLemmas
 pub mod StandingLemmas
+pub mod PointLemmas
+pub mod FinishLemmas
