@@ -9,3 +9,6 @@ pub mod StandingLemmas
 pub mod PointLemmas
 pub mod FinishLemmas
 pub mod ReadyLemmas
+pub mod GatherLemmas
+pub mod ThenLemmas
+pub mod InputLemmas

@@ -6,3 +6,4 @@ pub mod Waiting
 pub mod Inputs
 pub mod Standing
 pub mod Readiness
+pub mod Points
