@@ -1,6 +1,6 @@
 -- The rows whose chains end at one, gathered from the row of the greatest number down.
-use Rattle.std.proofs.Common.{◌≡◌, ◌<◌, ◌≤◌, ◌+◌, ◌-◌, ◌⊎◌, ◌↔◌, inl, inr, ℕ, List, [], ◌∷◌, ◌++◌, Bor, None, Some, refl, sym, ap, ◌∙◌, subst, arith, length, get_or}
-use Rattle.std.specs.Prelude.{Contains, map, slice_get}
+use Rattle.std.proofs.Common.{◌≡◌, ◌<◌, ◌≤◌, ◌+◌, ◌-◌, inl, inr, ℕ, List, [], ◌∷◌, ◌++◌, Bor, Some, refl, sym, ap, ◌∙◌, subst, arith, length, get_or}
+use Rattle.std.specs.Prelude.{Contains, slice_get}
 use Rattle.std.proofs.lemmas.Bool.{cases_lt, cases_order}
 use Rattle.std.proofs.lemmas.List.{get_or-map, length-map}
 use Rattle.std.proofs.lemmas.List.Elements.{Contains-append_left, Contains-push, Contains-push_cases}
@@ -117,3 +117,19 @@ module _ (rows standing : List Row) (firsts : AreFirsts rows standing) (end : �
 pub shown_at : (rows : List (Bor Row)) (i : ℕ) (r : Bor Row) → i < length rows → r ≡ get_or rows i r → slice_get (shown rows) i ≡ Some r.now
 shown_at rows i r lt is = slice_get_read (shown rows) (length rows) i r.now (sym (length-map rows (λ (x : Bor Row). x.now))) lt
     (ap (λ (x : Bor Row). x.now) is ∙ sym (get_or-map (λ (x : Bor Row). x.now) rows i r r.now lt))
+
+-- one row more, at the place before
+module _ (rows : List Row) (refs : List (Bor Row)) (firsts : AreFirsts rows (shown refs)) (end left : ℕ) (leading : List ℕ) (r : Bor Row)
+    (some : 0 < left) (is : r ≡ get_or refs (left - 1) r) (h : LeadingFrom rows (shown refs) leading left end) where
+  at : slice_get (shown refs) (left - 1) ≡ Some r.now
+  at = let size : length (shown refs) ≡ length refs = length-map refs (λ (x : Bor Row). x.now) in
+      shown_at refs (left - 1) r (omega (arith, some, size, h.within)) is
+
+  before : LeadingFrom rows (shown refs) leading (left - 1 + 1) end
+  before = let same : left ≡ left - 1 + 1 = omega (arith, some) in subst (λ (n : ℕ). LeadingFrom rows (shown refs) leading n end) same h
+
+  pub step_more : LeadsNext rows leading r.now end → LeadingFrom rows (shown refs) (leading ++ r.now.no ∷ []) (left - 1) end
+  step_more next = leading_more rows (shown refs) firsts end leading (left - 1) r.now at before next
+
+  pub step_skip : ¬ LeadsNext rows leading r.now end → LeadingFrom rows (shown refs) leading (left - 1) end
+  step_skip not = leading_skip rows (shown refs) firsts end leading (left - 1) r.now at before not

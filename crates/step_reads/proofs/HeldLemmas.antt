@@ -1,10 +1,10 @@
 -- The holder of a row, and the current row of a name, are the first of their kinds.
-use Rattle.std.proofs.Common.{◌≡◌, ◌<◌, ◌≤◌, ◌+◌, ℕ, Bool, true, false, List, [], Bor, None, Some, sym, subst, arith}
-use Rattle.std.specs.Prelude.{Contains, IfSome, IsNone, Option, nat_le, option_map}
+use Rattle.std.proofs.Common.{◌≡◌, ◌≤◌, ℕ, Bool, true, List, Bor, None, Some, arith}
+use Rattle.std.specs.Prelude.{IfSome, IsNone, Option, nat_le, option_map}
 use Rattle.std.proofs.lemmas.Bool.Decides.{nat_tests}
-use Rattle.mail_table.specs.Mails.{job_at, job_key}
+use Rattle.mail_table.specs.Mails.{job_key}
 use Rattle.mail_table.specs.declared.mail.Job.{Job}
-use Rattle.row_table.specs.Rows.{row_at, row_key}
+use Rattle.row_table.specs.Rows.{row_key}
 use Rattle.row_table.specs.declared.row.Row.{Row}
 use Rattle.step_relation.specs.Takes.{HasNoHolder, IsHolder}
 use Rattle.step_relation.specs.Targets.{HasNoCurrent, IsCurrentOf}

@@ -1,14 +1,14 @@
 -- What the best of all letters and jobs is.
-use Rattle.std.proofs.Common.{◌≡◌, ◌≤◌, ◌+◌, ℕ, List, [], Bor, None, Some, refl}
+use Rattle.std.proofs.Common.{◌≡◌, ℕ, List, [], Bor, None, Some, refl}
 use Rattle.std.specs.Prelude.{Contains, IfSome, IsNone, Option, option_map, ⊤}
 use Rattle.heat_plan.specs.Tables.{at}
-use Rattle.mail_table.specs.Mails.{job_at, job_key, letter_at, letter_key}
+use Rattle.mail_table.specs.Mails.{job_key, letter_at, letter_key}
 use Rattle.mail_table.specs.declared.mail.Job.{Job}
 use Rattle.mail_table.specs.declared.mail.Letter.{Letter}
 use Rattle.core_state.specs.State.{StateData}
-use Rattle.step_relation.specs.Nexts.{HasLeft, IsLowest}
+use Rattle.step_relation.specs.Nexts.{IsLowest}
 use Rattle.step_reads.specs.Tasks.{HasNoLetter, HasNoneLeft, IsLowestLeft}
-use Rattle.step_reads.proofs.Best.{IsBest, IsLeastOf}
+use Rattle.step_reads.proofs.Best.{IsBest}
 
 abbrev pub IsBestLetter : List Letter → Option Letter → Type 0
 IsBestLetter = IsBest letter_key (λ (_ : ℕ). ⊤)

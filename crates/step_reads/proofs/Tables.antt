@@ -1,6 +1,6 @@
 -- What is found in a table has the key, and is among its records.
-use Rattle.std.proofs.Common.{◌≡◌, ◌≢◌, ◌<◌, ◌+◌, ◌⊎◌, inl, inr, ℕ, zero, suc, Bool, true, false, cond, List, [], ◌∷◌, Some, None, refl, sym, subst, arith}
-use Rattle.std.specs.Prelude.{Contains, Decides, Option, nat_eq}
+use Rattle.std.proofs.Common.{◌≡◌, ◌≢◌, ◌⊎◌, inl, inr, ℕ, zero, suc, Bool, true, false, List, [], ◌∷◌, Some, refl, sym, subst, arith}
+use Rattle.std.specs.Prelude.{Contains, Decides, nat_eq}
 use Rattle.std.proofs.lemmas.Bool.Decides.{Decides-eqb}
 use Rattle.heat_plan.specs.Tables.{at}
 use Rattle.mail_table.specs.Mails.{job_at, job_key}

@@ -1,8 +1,8 @@
 -- The chain of a row, and that a node has one target.
-use Rattle.std.proofs.Common.{◌≡◌, ◌<◌, ◌≤◌, ◌+◌, ◌^◌, ℕ, List, Bor, None, Some, refl, sym, ap, ◌∙◌, subst, arith}
+use Rattle.std.proofs.Common.{◌≡◌, ◌<◌, ◌≤◌, ◌^◌, ℕ, List, Bor, None, Some, refl, sym, ap, ◌∙◌, subst, arith}
 use Rattle.std.specs.Prelude.{IfSome, Option, option_map}
 use Rattle.traversal_graph.specs.declared.shape.Node.{Node}
-use Rattle.traversal_graph.specs.declared.shape.Node.TheVariants.{C, U}
+use Rattle.traversal_graph.specs.declared.shape.Node.TheVariants.{U}
 use Rattle.row_table.specs.Chains.{IsLast, Leads, ends, goes}
 use Rattle.row_table.specs.Rows.{row_at}
 use Rattle.row_table.specs.declared.row.Row.{Row}

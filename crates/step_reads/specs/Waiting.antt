@@ -6,7 +6,6 @@ use Rattle.traversal_graph.specs.declared.shape.Node.TheVariants.{U}
 use Rattle.row_table.specs.declared.row.Row.{Row}
 use Rattle.sync_points.specs.declared.point.Input.{Input}
 use Rattle.sync_points.specs.declared.point.Point.{Point}
-use Rattle.mail_table.specs.declared.mail.Letter.{Letter}
 use Rattle.core_state.specs.Reads.{IsReady}
 use Rattle.core_state.specs.State.{StateData, stack_at}
 use Rattle.core_state.specs.declared.graph.Graph.{Graph}

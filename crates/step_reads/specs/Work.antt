@@ -1,5 +1,5 @@
 -- The parts of the work that a letter or a job still has.
-use Rattle.std.specs.Prelude.{List, Option, ℕ, ◌≡◌}
+use Rattle.std.specs.Prelude.{Option, ℕ, ◌≡◌}
 use Rattle.traversal_graph.specs.declared.shape.Node.{Node}
 use Rattle.row_table.specs.Rows.{row_at}
 use Rattle.row_table.specs.declared.row.Row.{Row}

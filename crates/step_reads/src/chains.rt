@@ -19,8 +19,9 @@ pub(crate) fn leading_to(alloc: Global, s: &State, row: RowNo) -> Result<Seq<Row
     let mut left = standing.len();
     while left > 0 {
         left -= 1;
-        if leads_next(s, leading.as_slice(), standing[left], row) {
-            leading.push(standing[left].no)?;
+        let other = standing.as_slice()[left];
+        if leads_next(s, leading.as_slice(), other, row) {
+            leading.push(other.no)?;
         }
     }
     Ok(leading)

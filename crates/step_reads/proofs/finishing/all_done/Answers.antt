@@ -1,4 +1,4 @@
-use Rattle.std.proofs.Common.{◌≡◌, ◌<◌, ◌≤◌, ◌+◌, ℕ, sym, subst, inl, inr, arith}
+use Rattle.std.proofs.Common.{◌≡◌, sym, subst, inl, inr, arith}
 use Rattle.std.proofs.lemmas.Bool.{OnTrue_at, OnFalse_at, cases_lt}
 use Rattle.step_reads.specs.Waiting.{IsDoneThen}
 use Rattle.step_reads.proofs.FinishLemmas.{all_done_then, not_all_done}

@@ -1,5 +1,4 @@
-use Rattle.std.proofs.Common.{Bor, refl, arith}
-use Rattle.std.specs.Prelude.{option_map}
+use Rattle.std.proofs.Common.{refl, arith}
 use Rattle.std.proofs.lemmas.Bool.Decides.{nat_tests}
 use Rattle.step_reads.specs.Best.{taken, other}
 use Rattle.step_reads.proofs.holders.lower.Goals as goal
