@@ -16,7 +16,8 @@ IsBestLetter = IsBest letter_key (λ (_ : ℕ). ⊤)
 abbrev pub IsBestLeft : StateData → List Job → Option Job → Type 0
 IsBestLeft s = IsBest job_key (λ (f : ℕ). ¬ Contains s.live f)
 
-pub lowest_of : (letters : List Letter) (best : Option (Bor Letter)) → IsBestLetter letters (option_map (λ b. b.now) best)
+pub lowest_of : (letters : List Letter) (best : Option (Bor Letter))
+    → IsBestLetter letters (option_map (λ b. b.now) best)
     → IfSome best (λ l. IsLowest letters l.now)
 lowest_of letters None h = tt
 lowest_of letters (Some l) h = record { waits = h.found; lowest = λ n x found. h.least n x found tt }

@@ -1,18 +1,18 @@
 -- Who is told again, from the least node that waits.
-use Rattle.std.proofs.Common.{◌≡◌, ◌<◌, ◌≤◌, ◌+◌, ◌⊎◌, inl, inr, ℕ, List, [], None, Some, refl, sym, ap, ◌∙◌, subst, arith, length, get_or}
+use Rattle.std.proofs.Common.{◌≡◌, ◌<◌, ◌≤◌, ◌+◌, ◌⊎◌, inl, inr, ℕ, List, [], None, Some, refl, sym, ap, ◌∙◌, subst}
+use Rattle.std.proofs.Common.{arith, length, get_or}
 use Rattle.std.specs.Prelude.{Contains, Option, slice_get}
 use Rattle.std.proofs.lemmas.Bool.{cases_lt}
 use Rattle.std.proofs.lemmas.Option.{slice_get_read, slice_get_within}
 use Rattle.dep_graph.specs.Lists.{IsLeast}
 use Rattle.traversal_graph.specs.declared.shape.Node.{Node}
 use Rattle.traversal_graph.specs.declared.shape.Node.TheVariants.{U}
-use Rattle.row_table.specs.Rows.{row_at}
 use Rattle.row_table.specs.declared.row.Row.{Row}
 use Rattle.core_state.specs.State.{StateData, graph_at, stack_at}
 use Rattle.core_state.specs.declared.graph.Graph.{Graph}
 use Rattle.core_state.specs.declared.stack.Stack.{Stack}
 use Rattle.step_relation.specs.Resends.{AwaitsCleanup, AwaitsUpdate, HasGraph, IsOpen, Resends, cleanup, nobody, update}
-use Rattle.step_relation.specs.Targets.{IsTarget, of_c, of_u, renewed}
+use Rattle.step_relation.specs.Targets.{IsTarget, of_u}
 use Rattle.step_reads.specs.Chains.{AreLeading}
 use Rattle.step_reads.specs.Waiting.{IsLeastIf, IsOpenIf, IsResent, IsUpdateOf, update as update_of}
 use Rattle.step_reads.proofs.TargetLemmas.{same_some}
@@ -28,38 +28,36 @@ module _ (s : StateData) (name : List ℕ) (number : ℕ) where
     gone : {P : Type 0} (st : Stack) → stack_at s.stacks name ≡ Some st → P
     gone st there = cc
 
-  pub update_resent : (st : Stack) (g : Graph) (i : ℕ) → stack_at s.stacks name ≡ Some st → graph_at s.graphs name ≡ Some g
+  pub update_resent : (st : Stack) (g : Graph) (i : ℕ) → stack_at s.stacks name ≡ Some st
+      → graph_at s.graphs name ≡ Some g
       → IsLeast (AwaitsUpdate s st g number) i → IsResent s name number (Some i)
-  update_resent st g i at_st at_g least = (st, at_st, update st g i (record { in_table = at_st; its_graph = at_g }) least)
+  update_resent st g i at_st at_g least =
+      (st, at_st, update st g i (record { in_table = at_st; its_graph = at_g }) least)
 
-  pub cleanup_resent : (st : Stack) (g : Graph) (o : Option ℕ) → stack_at s.stacks name ≡ Some st → graph_at s.graphs name ≡ Some g
+  pub cleanup_resent : (st : Stack) (g : Graph) (o : Option ℕ) → stack_at s.stacks name ≡ Some st
+      → graph_at s.graphs name ≡ Some g
       → ((k : ℕ) → ¬ AwaitsUpdate s st g number k) → IsLeastIf (AwaitsCleanup g number) o → IsResent s name number o
-  cleanup_resent st g (Some i) at_st at_g none least = (st, at_st, cleanup st g i (record { in_table = at_st; its_graph = at_g }) none least)
+  cleanup_resent st g (Some i) at_st at_g none least =
+      (st, at_st, cleanup st g i (record { in_table = at_st; its_graph = at_g }) none least)
   cleanup_resent st g None at_st at_g none neither = nobody no_update no_cleanup where
     no_update : (st' : Stack) (g' : Graph) (k : ℕ) → HasGraph s name st' g' → ¬ AwaitsUpdate s st' g' number k
-    no_update st' g' k has awaits = none k (subst (λ (x : Stack). AwaitsUpdate s x g number k) (same_some st' st has.in_table at_st)
+    no_update st' g' k has awaits =
+        none k (subst (λ (x : Stack). AwaitsUpdate s x g number k) (same_some st' st has.in_table at_st)
         (subst (λ (x : Graph). AwaitsUpdate s st' x number k) (same_some g' g has.its_graph at_g) awaits))
 
     no_cleanup : (st' : Stack) (g' : Graph) (k : ℕ) → HasGraph s name st' g' → ¬ AwaitsCleanup g' number k
-    no_cleanup st' g' k has awaits = neither k (subst (λ (x : Graph). AwaitsCleanup x number k) (same_some g' g has.its_graph at_g) awaits)
+    no_cleanup st' g' k has awaits =
+        neither k (subst (λ (x : Graph). AwaitsCleanup x number k) (same_some g' g has.its_graph at_g) awaits)
 
 -- the update nodes of a row
 module _ (rows : List Row) (stack : List ℕ) (number : ℕ) (leading : List ℕ) (all : AreLeading rows number leading) where
-  pub leads_update : (node : Node) (name : List ℕ) (chosen : ℕ) → node ≡ U name chosen → Contains leading chosen → IsUpdateOf rows stack node number
+  pub leads_update : (node : Node) (name : List ℕ) (chosen : ℕ) → node ≡ U name chosen → Contains leading chosen
+      → IsUpdateOf rows stack node number
   leads_update node name chosen is c = update_of name chosen is (rw is (of_u name chosen number ((all chosen).0 c)))
 
-  -- where the chosen row doesn't lead there, the row is its name's current one
-  pub renewed_held : (node : Node) (name : List ℕ) (chosen : ℕ) → node ≡ U name chosen → ¬ Contains leading chosen → IsUpdateOf rows stack node number
-      → (r : Row) × (row_at rows number ≡ Some r) × (r.name ≡ name)
-  renewed_held node name chosen is not (update_of name' chosen' is' to) =
-      by (U name chosen) refl (subst (λ (x : Node). IsTarget rows stack x number) is to) where
-        by : (x : Node) → x ≡ U name chosen → IsTarget rows stack x number → (r : Row) × (row_at rows number ≡ Some r) × (r.name ≡ name)
-        by _ e (of_c n) = cc
-        by _ e (of_u m n t on) = let same : n ≡ chosen = cc in absurd (not (subst (Contains leading) same ((all n).1 on)))
-        by _ e (renewed m n r none current) = let same : m ≡ name = cc in (r, current.found, current.name_is ∙ same)
-
 -- an update node of the row, ready and not done, waits for it; and what waits is such a node
-module _ (s : StateData) (st : Stack) (g : Graph) (number i : ℕ) (node : Node) (lt : i < length g.graph.nodes) (is : node ≡ get_or g.graph.nodes i node) where
+module _ (s : StateData) (st : Stack) (g : Graph) (number i : ℕ) (node : Node) (lt : i < length g.graph.nodes)
+    (is : node ≡ get_or g.graph.nodes i node) where
   found : slice_get g.graph.nodes i ≡ Some node
   found = slice_get_read g.graph.nodes (length g.graph.nodes) i node refl lt is
 
@@ -78,7 +76,8 @@ module _ (s : StateData) (st : Stack) (g : Graph) (number i : ℕ) (node : Node)
       let e : node ≡ U h.name h.chosen = cc in
       update_of h.name h.chosen e (subst (λ (x : Node). IsTarget s.rows st.name x number) (sym e) h.to)
 
-  pub least_update : (n : ℕ) → IsUpdateOf s.rows st.name node number → IsOpenIf g i (Some n) → ((k : ℕ) → k < i → ¬ AwaitsUpdate s st g number k)
+  pub least_update : (n : ℕ) → IsUpdateOf s.rows st.name node number → IsOpenIf g i (Some n)
+      → ((k : ℕ) → k < i → ¬ AwaitsUpdate s st g number k)
       → IsLeast (AwaitsUpdate s st g number) n
   least_update n its opens before = record {
     is = subst (AwaitsUpdate s st g number) (sym opens.0) (awaits_from its opens.1);
@@ -88,7 +87,8 @@ module _ (s : StateData) (st : Stack) (g : Graph) (number i : ℕ) (node : Node)
     ];
   }
 
-  pub no_update_here : ¬ IsUpdateOf s.rows st.name node number ⊎ ¬ IsOpen g i → ((k : ℕ) → k < i → ¬ AwaitsUpdate s st g number k)
+  pub no_update_here : ¬ IsUpdateOf s.rows st.name node number ⊎ ¬ IsOpen g i
+      → ((k : ℕ) → k < i → ¬ AwaitsUpdate s st g number k)
       → (k : ℕ) → k < i + 1 → ¬ AwaitsUpdate s st g number k
   no_update_here not before k less awaits = elim (cases_lt k i) [
     | inl low ↦ before k low awaits
@@ -102,7 +102,9 @@ module _ (s : StateData) (st : Stack) (g : Graph) (number i : ℕ) (node : Node)
 pub no_update_at_all : (s : StateData) (st : Stack) (g : Graph) (number i : ℕ) → length g.graph.nodes ≤ i
     → ((k : ℕ) → k < i → ¬ AwaitsUpdate s st g number k) → (k : ℕ) → ¬ AwaitsUpdate s st g number k
 no_update_at_all s st g number i le before k h =
-    let lt : k < length g.graph.nodes = slice_get_within g.graph.nodes k (U h.name h.chosen) h.node in before k (omega (arith, lt, le)) h
+    let lt : k < length g.graph.nodes = slice_get_within g.graph.nodes k (U h.name h.chosen) h.node in
+    before k (omega (arith, lt, le)) h
 
-pub target_in : (rows : List Row) (stack : List ℕ) (node : Node) (number : ℕ) → IsUpdateOf rows stack node number → IsTarget rows stack node number
+pub target_in : (rows : List Row) (stack : List ℕ) (node : Node) (number : ℕ) → IsUpdateOf rows stack node number
+    → IsTarget rows stack node number
 target_in rows stack node number (update_of name chosen e to) = to

@@ -43,4 +43,5 @@ IsOpenIf g i None = ¬ IsOpen g i
 
 -- an update node whose target is the row of this number
 pub data IsUpdateOf (rows : List Row) (stack : List ℕ) (node : Node) (number : ℕ) : Type 0 where
-  update : (name : List ℕ) (chosen : ℕ) → node ≡ U name chosen → IsTarget rows stack node number → IsUpdateOf rows stack node number
+  update : (name : List ℕ) (chosen : ℕ) → node ≡ U name chosen → IsTarget rows stack node number
+      → IsUpdateOf rows stack node number

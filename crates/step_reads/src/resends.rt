@@ -60,8 +60,8 @@ fn waiting_update(
     Ok(None)
 }
 
-// Whether a node is an update node whose target is this row: its chosen row leads there, or stands no
-// more and this row is its name's current one.
+// Whether a node is an update node whose target is this row: its chosen row leads there, or stands
+// no more and this row is its name's current one.
 fn is_update_of(
     s: &State,
     stack: &StackName,
