@@ -30,7 +30,8 @@ use Rattle.heat_plan.specs.declared.calls.Request.TheVariants as request
 abbrev pub changing_row : (s : StateData) (e : ℕ) → Begins s e → Members → Row
 changing_row s e k props = record k.row {
   act = Update;
-  status = InProgress; target = Some props;
+  status = InProgress;
+  target = Some props;
   trav = k.stack.trav;
   requires_ = k.required;
   policy = k.item.policy;
