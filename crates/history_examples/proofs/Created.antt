@@ -1,0 +1,321 @@
+-- The create, step by step: `is_created`.
+use Rattle.std.proofs.Common.{Bool, List, None, Some, [], arith, false, refl, true, zero, suc, ℕ, ◌<◌, ◌∷◌, ◌≡◌, ◌≢◌}
+use Rattle.std.proofs.lemmas.List.Sorted.{IsPermutation-refl}
+use Rattle.std.specs.Prelude.{codes, if◌then◌else◌, length, slice_get, ◌++◌}
+use Rattle.heat_plan.specs.Plans.{IsPlan}
+use Rattle.heat_plan.specs.Tables.{at, cut, put}
+use Rattle.heat_plan.specs.declared.phase.Act.TheVariants.{Create, Delete}
+use Rattle.heat_plan.specs.declared.phase.Status.TheVariants.{Complete, Failed, InProgress}
+use Rattle.heat_plan.specs.declared.token.Token.{Token}
+use Rattle.traversal_graph.specs.Builds.{begins}
+use Rattle.traversal_graph.specs.declared.shape.Node.{Node}
+use Rattle.traversal_graph.specs.declared.shape.Node.TheVariants.{U}
+use Rattle.provider.specs.Same.{same_token}
+use Rattle.provider.specs.Table.{TokenState, after_each}
+use Rattle.row_table.specs.Chains.{ends}
+use Rattle.row_table.specs.declared.row.Row.{Row}
+use Rattle.mail_table.specs.declared.mail.Job.{Job}
+use Rattle.mail_table.specs.declared.mail.Letter.{Letter}
+use Rattle.mail_table.specs.declared.mail.Stage.{Stage}
+use Rattle.mail_table.specs.declared.mail.Stage.TheVariants.{Asking, Ending, Polling, Taken}
+use Rattle.core_state.specs.Changes.{put_point}
+use Rattle.core_state.specs.Reads.{IsDone}
+use Rattle.core_state.specs.State.{StateData}
+use Rattle.core_state.specs.declared.change.Change.{Change}
+use Rattle.core_state.specs.declared.change.Change.TheVariants.{Drop, EndJob, PutGraph, PutJob, PutPast, PutPoint, PutRow, PutStack, Send}
+use Rattle.hot_resolve.specs.Resolve.{resolve}
+use Rattle.type_catalog.specs.Changes.{replace}
+use Rattle.type_catalog.specs.declared.effect.Effect.TheVariants.{Replace}
+use Rattle.step_relation.specs.Asks.{Calls, by_failure, creates, marks, polls}
+use Rattle.step_relation.specs.Begins.{Begins}
+use Rattle.step_relation.specs.Commands.{Lays, fresh}
+use Rattle.step_relation.specs.Finishes.{Finishes, graph_then}
+use Rattle.step_relation.specs.Freshness.{IsFresh, IsMeant, updates}
+use Rattle.step_relation.specs.Given.{Answer, Nothing, Prepared}
+use Rattle.step_relation.specs.Inputs.{AllDone}
+use Rattle.step_relation.specs.Moves.{ask_begun, ask_failed, begin_init, finish_last, poll_failed, poll_ready, take_free}
+use Rattle.step_relation.specs.Nexts.{TakesNext, Works}
+use Rattle.step_relation.specs.Orders.{Command, create}
+use Rattle.step_relation.specs.Rows.{failed_row}
+use Rattle.step_relation.specs.Runs.{IsTied, Run, begins as starts, nothing, props}
+use Rattle.step_relation.specs.Steps.{}
+use Rattle.step_relation.specs.Takes.{Takes}
+use Rattle.step_relation.specs.Targets.{IsTarget, of_u}
+use Rattle.step_relation.specs.Turns.{Turn, plain, stays, unfailed}
+use Rattle.history.specs.Could.{IsPossible, could_of}
+use Rattle.soundness.specs.Headline.{Headline}
+use Rattle.table_laws.proofs.Puts.{contains_head, contains_none}
+use Rattle.table_laws.proofs.Rows.{letter-key}
+use Rattle.headline_laws.proofs.Empty.{empty_is_sound}
+use Rattle.whole_laws.proofs.Whole.{runs_headline}
+use Rattle.history_examples.specs.Created.{IsCreated, ask_tells, asked, begin_tells, begun, command_tells, commanded, created, finish_tells, graph, history, one_node, past, point, poll_tells, ready, stack, take_tells, taken, until_asked, until_begun, until_taken}
+use Rattle.history_examples.specs.FirstRow.{row_begun, row_done, row_made, row_ready, row_taken}
+use Rattle.history_examples.specs.Scene.{facts, item, item_name, job, letter, opening, plan, registries, sized, stack_name, token, unjudged}
+use Rattle.history_examples.proofs.Finds.{each_job, each_letter, each_row}
+use Rattle.history_examples.proofs.Lists.{lists_none, lists_one, not_done, requires_none}
+use Rattle.history_examples.proofs.Plans.{one_is_plan}
+use Rattle.history_examples.proofs.Steps.{by_call, by_command, by_turn}
+use Rattle.core_state.specs.declared.change.Change.TheVariants as change_to
+use Rattle.core_state.specs.declared.entry.Why.TheVariants as why
+use Rattle.heat_plan.specs.declared.calls.Answered.TheVariants as reply
+use Rattle.heat_plan.specs.declared.calls.Request.TheVariants as request
+
+-- the command
+pub lays : Lays opening.state stack_name (plan 1).items
+unfolding at
+lays = record {
+  chosen = 1 ∷ [];
+  rows = row_made ∷ [];
+  chooses = fresh 1 (item 1) [] [] [] (λ m q found stack_is name_is current. cc) (Rattle.step_relation.specs.Commands.none 2);
+  standing = [];
+  standing_are = record {
+    rising = λ i j d lt within. absurd (omega (arith, within));
+    each = λ n r found its. cc;
+    only = λ r c. absurd (contains_none r c);
+  };
+  graph = one_node;
+  built = record {
+    sorted = [];
+    rows_are = record {
+      same = IsPermutation-refl [];
+      ordered = λ i j d le within. absurd (omega (arith, within));
+      rising = λ distinct k within. absurd (omega (arith, within));
+    };
+    nodes = refl;
+    edges = begins _ _ refl refl;
+  };
+  leaves = 0 ∷ [];
+  leaves_are = lists_one _ 0 (omega arith, λ b edge. contains_none (b, 0) edge) (λ n (lt, none). omega (arith, lt));
+}
+
+abbrev pub command_changes : Bool → List Change
+command_changes rollback =
+    change_to.Numbers (record { stack = 2; trav = 2; row = 2; engine = 3; letter = 2 })
+    ∷ PutStack (stack InProgress) ∷ PutPast (past rollback) ∷ PutRow row_made ∷ PutGraph stack_name one_node ∷ Send (letter 1 1 0) ∷ []
+
+commands : (rollback : Bool) → Command opening.state (command_changes rollback) (command_tells rollback)
+unfolding at lays
+commands rollback = create stack_name (plan 1) rollback lays (one_is_plan (item 1) refl) refl (omega arith) (omega arith) refl refl
+
+pub run_commanded : (rollback : Bool) → Run registries opening.state (commanded rollback) (command_tells rollback)
+unfolding at put
+run_commanded rollback = by_command opening.state (commanded rollback) (command_changes rollback) [] (command_tells rollback)
+    (starts opening.state [] refl refl) refl (commands rollback) refl
+
+-- the take
+first_fresh : (rollback : Bool) → IsFresh (commanded rollback) (letter 1 1 0) 1
+unfolding at
+first_fresh rollback = record {
+  stack = stack InProgress;
+  graph = graph false;
+  node = U item_name 1;
+  row = Some row_made;
+  names = record { in_table = refl; newest = refl; its_graph = refl; its_node = refl };
+  found = refl;
+  serves = updates item_name 1 (item 1) row_made refl (λ is. cc);
+}
+
+takes : (rollback : Bool) → Takes (commanded rollback) 1
+unfolding at first_fresh
+takes rollback = record {
+  letter = letter 1 1 0;
+  next = record {
+    live = contains_head 1 (2 ∷ []);
+    jobless = refl;
+    first = record {
+      waits = refl;
+      lowest = λ n other at_n.
+          let key = letter-key (letter 1 1 0 ∷ []) n other at_n in
+          let is = each_letter (λ l. l.no ≡ 1) (letter 1 1 0 ∷ []) (refl, tt) n other at_n in
+          omega (arith, key, is);
+    };
+  };
+  meant = record {
+    target = 1;
+    fresh = first_fresh rollback;
+    to = of_u item_name 1 1 (ends 1 row_made refl (λ m q is lt found. cc));
+  };
+  open_ = λ d. not_done (point false) d.point refl d.there d.done;
+}
+
+abbrev pub take_changes : List Change
+take_changes = PutRow row_taken ∷ Drop 1 ∷ PutJob (job 1 (letter 1 1 0) 1 Taken) ∷ []
+
+pub run_taken : (rollback : Bool) → Run registries opening.state (taken rollback) (until_taken rollback)
+unfolding at put cut takes first_fresh
+run_taken rollback = by_turn (commanded rollback) (taken rollback) take_changes (command_tells rollback) take_tells (run_commanded rollback) refl
+    1 Nothing (λ a is. cc)
+    (plain None (take_free (takes rollback) _ _ (λ f j at_f. each_job (λ j. j.row ≢ 1) [] tt f j at_f) refl refl) unfailed) refl nothing
+
+-- the begin
+begins_ : (rollback : Bool) → Begins (taken rollback) 1
+unfolding at
+begins_ rollback = record {
+  job = job 1 (letter 1 1 0) 1 Taken;
+  stack = stack InProgress;
+  graph = graph false;
+  name = item_name;
+  chosen = 1;
+  item = item 1;
+  row = row_taken;
+  point = point false;
+  required = [];
+  works = record { live = contains_head 1 (2 ∷ []); its = refl; stage_is = refl };
+  names = record { in_table = refl; newest = refl; its_graph = refl; its_node = refl };
+  asked = refl;
+  found = refl;
+  kept = λ is. cc;
+  its_point = refl;
+  requires_are = requires_none;
+}
+
+begin_tied : (rollback : Bool) → IsTied unjudged (taken rollback) 1 (Prepared (sized 1) Replace)
+unfolding begins_ resolve
+begin_tied rollback = props (begins_ rollback) (sized 1) Replace
+    (record { known = []; known_are = Rattle.step_relation.specs.Inputs.none; result_is = refl })
+    (replace (codes "size") (λ is. cc) (contains_none (codes "size")))
+
+abbrev pub begin_changes : List Change
+begin_changes = PutRow row_begun ∷ PutJob (job 1 (letter 1 1 0) 1 Asking) ∷ []
+
+pub run_begun : (rollback : Bool) → Run registries opening.state (begun rollback) (until_begun rollback)
+unfolding at put cut begins_
+run_begun rollback = by_turn (taken rollback) (begun rollback) begin_changes (until_taken rollback) begin_tells (run_taken rollback) refl
+    1 (Prepared (sized 1) Replace) (λ a is. cc)
+    (plain None (begin_init (begins_ rollback) (sized 1) Replace _ _ refl refl refl) unfailed) refl (begin_tied rollback)
+
+-- the ask, and what its failure would do
+asks_ : Calls (begun false) 1 Asking
+unfolding at
+asks_ = record {
+  job = job 1 (letter 1 1 0) 1 Asking;
+  row = row_begun;
+  works = record { live = contains_head 1 (2 ∷ []); its = refl; stage_is = refl };
+  found = refl;
+}
+
+fresh_asking : IsFresh (begun false) (letter 1 1 0) 1
+unfolding at
+fresh_asking = record {
+  stack = stack InProgress;
+  graph = graph false;
+  node = U item_name 1;
+  row = Some row_begun;
+  names = record { in_table = refl; newest = refl; its_graph = refl; its_node = refl };
+  found = refl;
+  serves = updates item_name 1 (item 1) row_begun refl (λ is. cc);
+}
+
+abbrev pub ask_changes : List Change
+ask_changes = PutJob (job 1 (letter 1 1 0) 1 Polling) ∷ []
+
+abbrev pub fail_changes : List Change
+fail_changes = PutRow (failed_row row_begun) ∷ EndJob 1 ∷ PutStack (stack Failed) ∷ []
+
+pub run_asked : Run registries opening.state (asked false) (until_asked false)
+unfolding at put cut asks_ fresh_asking
+run_asked = by_call (begun false) (asked false) ask_changes (until_begun false) ask_tells (run_begun false) refl
+    1 reply.Begun fail_changes _
+    (plain None (ask_begun asks_ (request.Create (codes "Box") (sized 1)) _ _ (creates refl) refl refl) unfailed)
+    (plain (Some (stack InProgress)) (ask_failed asks_ (request.Create (codes "Box") (sized 1)) reply.Failed (why.Failed Create) []
+    (Some (stack InProgress)) _ _ (creates refl) (by_failure _) (marks fresh_asking refl) refl refl)
+    (stays (stack InProgress) (λ due. let no_ = due.asked in cc))) refl
+
+-- the poll, and what its failure would do
+polls_ : Calls (asked false) 1 Polling
+unfolding at
+polls_ = record {
+  job = job 1 (letter 1 1 0) 1 Polling;
+  row = row_begun;
+  works = record { live = contains_head 1 (2 ∷ []); its = refl; stage_is = refl };
+  found = refl;
+}
+
+fresh_polling : IsFresh (asked false) (letter 1 1 0) 1
+unfolding at
+fresh_polling = record {
+  stack = stack InProgress;
+  graph = graph false;
+  node = U item_name 1;
+  row = Some row_begun;
+  names = record { in_table = refl; newest = refl; its_graph = refl; its_node = refl };
+  found = refl;
+  serves = updates item_name 1 (item 1) row_begun refl (λ is. cc);
+}
+
+abbrev pub poll_changes : List Change
+poll_changes = PutRow row_ready ∷ PutJob (job 1 (letter 1 1 0) 1 Ending) ∷ []
+
+pub run_ready : Run registries opening.state (ready false) (until_asked false ++ poll_tells)
+unfolding at put cut polls_ fresh_polling
+run_ready = by_call (asked false) (ready false) poll_changes (until_asked false) poll_tells run_asked refl
+    1 (reply.Ready facts) fail_changes _
+    (plain None (poll_ready polls_ facts _ _ (λ is. cc) refl refl) unfailed)
+    (plain (Some (stack InProgress)) (poll_failed polls_ request.Poll reply.Failed (why.Failed Create) []
+    (Some (stack InProgress)) _ _ (polls (λ is. cc)) (by_failure _) (marks fresh_polling refl) refl refl)
+    (stays (stack InProgress) (λ due. let no_ = due.asked in cc))) refl
+
+-- the finish
+finishes : Finishes (ready false) 1
+unfolding at
+finishes = record {
+  job = job 1 (letter 1 1 0) 1 Ending;
+  works = record { live = contains_head 1 (2 ∷ []); its = refl; stage_is = refl };
+  fresh = record {
+    stack = stack InProgress;
+    graph = graph false;
+    node = U item_name 1;
+    row = Some row_ready;
+    names = record { in_table = refl; newest = refl; its_graph = refl; its_node = refl };
+    found = refl;
+    serves = updates item_name 1 (item 1) row_ready refl (λ is. cc);
+  };
+  succs = [];
+  behind = lists_none _ (λ k edge. contains_none (0, k) edge);
+  ready = [];
+  ready_are = lists_none _ (λ k it. contains_none k it.0);
+}
+
+all_done : AllDone (graph true)
+all_done zero node is = record { point = point true; there = refl; done = refl }
+all_done (suc i) node is = cc
+
+abbrev pub finish_changes : List Change
+finish_changes = PutRow row_done ∷ EndJob 1 ∷ PutPoint (point true) ∷ PutStack (stack Complete) ∷ []
+
+pub run_created : Run registries opening.state (created false) history
+unfolding at put cut put_point finishes
+run_created = by_turn (ready false) (created false) finish_changes (until_asked false ++ poll_tells) finish_tells run_ready refl
+    1 Nothing (λ a is. cc)
+    (plain None (finish_last finishes _ _ (record { all = all_done; unmarked = refl }) refl refl) unfailed) refl nothing
+
+-- the answers are ones that a provider gives
+states : Bool → List TokenState
+states called =
+    if called then after_each request.Poll (reply.Ready facts)
+    (if called then after_each (request.Create (codes "Box") (sized 1)) reply.Begun (None ∷ []) else None ∷ [])
+    else (if called then after_each (request.Create (codes "Box") (sized 1)) reply.Begun (None ∷ []) else None ∷ [])
+
+some_state : (called : Bool) → states called ≢ []
+unfolding states
+some_state true is = cc
+some_state false is = cc
+
+pub possible : IsPossible opening history
+unfolding states
+possible t = some_state (same_token (token 1) t)
+
+pub main_theorem : Headline registries opening history (created false)
+main_theorem = runs_headline registries opening (created false) history (empty_is_sound 2 (λ t. false)) run_created possible
+
+pub is_created : IsCreated
+unfolding at put cut
+is_created = record {
+  run = run_created;
+  headline = main_theorem;
+  mark = refl;
+  fits = (main_theorem.prefixes (length history) (omega arith)).complete stack_name
+      (record { trav = 1; act = Create; plan = Some (plan 1) }) refl refl;
+  alive = refl;
+  rows = refl;
+}
