@@ -1,26 +1,16 @@
 -- The create, step by step: `is_created`.
-use Rattle.std.proofs.Common.{Bool, List, None, Some, [], arith, false, refl, true, zero, suc, ℕ, ◌<◌, ◌∷◌, ◌≡◌, ◌≢◌}
+use Rattle.std.proofs.Common.{Bool, List, None, Some, [], arith, false, refl, true, zero, suc, ◌∷◌, ◌≡◌, ◌≢◌}
 use Rattle.std.proofs.lemmas.List.Sorted.{IsPermutation-refl}
-use Rattle.std.specs.Prelude.{codes, if◌then◌else◌, length, slice_get, ◌++◌}
-use Rattle.heat_plan.specs.Plans.{IsPlan}
+use Rattle.std.specs.Prelude.{codes, length, ◌++◌}
 use Rattle.heat_plan.specs.Tables.{at, cut, put}
-use Rattle.heat_plan.specs.declared.phase.Act.TheVariants.{Create, Delete}
+use Rattle.heat_plan.specs.declared.phase.Act.TheVariants.{Create}
 use Rattle.heat_plan.specs.declared.phase.Status.TheVariants.{Complete, Failed, InProgress}
-use Rattle.heat_plan.specs.declared.token.Token.{Token}
 use Rattle.traversal_graph.specs.Builds.{begins}
-use Rattle.traversal_graph.specs.declared.shape.Node.{Node}
 use Rattle.traversal_graph.specs.declared.shape.Node.TheVariants.{U}
 use Rattle.provider.specs.Same.{same_token}
-use Rattle.provider.specs.Table.{TokenState, after_each}
 use Rattle.row_table.specs.Chains.{ends}
-use Rattle.row_table.specs.declared.row.Row.{Row}
-use Rattle.mail_table.specs.declared.mail.Job.{Job}
-use Rattle.mail_table.specs.declared.mail.Letter.{Letter}
-use Rattle.mail_table.specs.declared.mail.Stage.{Stage}
 use Rattle.mail_table.specs.declared.mail.Stage.TheVariants.{Asking, Ending, Polling, Taken}
 use Rattle.core_state.specs.Changes.{put_point}
-use Rattle.core_state.specs.Reads.{IsDone}
-use Rattle.core_state.specs.State.{StateData}
 use Rattle.core_state.specs.declared.change.Change.{Change}
 use Rattle.core_state.specs.declared.change.Change.TheVariants.{Drop, EndJob, PutGraph, PutJob, PutPast, PutPoint, PutRow, PutStack, Send}
 use Rattle.hot_resolve.specs.Resolve.{resolve}
@@ -29,31 +19,32 @@ use Rattle.type_catalog.specs.declared.effect.Effect.TheVariants.{Replace}
 use Rattle.step_relation.specs.Asks.{Calls, by_failure, creates, marks, polls}
 use Rattle.step_relation.specs.Begins.{Begins}
 use Rattle.step_relation.specs.Commands.{Lays, fresh}
-use Rattle.step_relation.specs.Finishes.{Finishes, graph_then}
-use Rattle.step_relation.specs.Freshness.{IsFresh, IsMeant, updates}
+use Rattle.step_relation.specs.Finishes.{Finishes}
+use Rattle.step_relation.specs.Freshness.{IsFresh, updates}
 use Rattle.step_relation.specs.Given.{Answer, Nothing, Prepared}
 use Rattle.step_relation.specs.Inputs.{AllDone}
-use Rattle.step_relation.specs.Moves.{ask_begun, ask_failed, begin_init, finish_last, poll_failed, poll_ready, take_free}
-use Rattle.step_relation.specs.Nexts.{TakesNext, Works}
+use Rattle.step_relation.specs.Moves.{Move, ask_begun, ask_failed, begin_init, finish_last, poll_failed, poll_ready, take_free}
 use Rattle.step_relation.specs.Orders.{Command, create}
 use Rattle.step_relation.specs.Rows.{failed_row}
 use Rattle.step_relation.specs.Runs.{IsTied, Run, begins as starts, nothing, props}
 use Rattle.step_relation.specs.Steps.{}
 use Rattle.step_relation.specs.Takes.{Takes}
-use Rattle.step_relation.specs.Targets.{IsTarget, of_u}
+use Rattle.step_relation.specs.Targets.{of_u}
 use Rattle.step_relation.specs.Turns.{Turn, plain, stays, unfailed}
-use Rattle.history.specs.Could.{IsPossible, could_of}
+use Rattle.history.specs.Could.{IsPossible}
 use Rattle.soundness.specs.Headline.{Headline}
 use Rattle.table_laws.proofs.Puts.{contains_head, contains_none}
 use Rattle.table_laws.proofs.Rows.{letter-key}
 use Rattle.headline_laws.proofs.Empty.{empty_is_sound}
 use Rattle.whole_laws.proofs.Whole.{runs_headline}
 use Rattle.history_examples.specs.Created.{IsCreated, ask_tells, asked, begin_tells, begun, command_tells, commanded, created, finish_tells, graph, history, one_node, past, point, poll_tells, ready, stack, take_tells, taken, until_asked, until_begun, until_taken}
+use Rattle.history_examples.specs.FailedFirst.{fail_tells}
 use Rattle.history_examples.specs.FirstRow.{row_begun, row_done, row_made, row_ready, row_taken}
 use Rattle.history_examples.specs.Scene.{facts, item, item_name, job, letter, opening, plan, registries, sized, stack_name, token, unjudged}
-use Rattle.history_examples.proofs.Finds.{each_job, each_letter, each_row}
+use Rattle.history_examples.proofs.Finds.{each_job, each_letter}
 use Rattle.history_examples.proofs.Lists.{lists_none, lists_one, not_done, requires_none}
 use Rattle.history_examples.proofs.Plans.{one_is_plan}
+use Rattle.history_examples.proofs.Possible.{begun_states, ready_states, some_ready}
 use Rattle.history_examples.proofs.Steps.{by_call, by_command, by_turn}
 use Rattle.core_state.specs.declared.change.Change.TheVariants as change_to
 use Rattle.core_state.specs.declared.entry.Why.TheVariants as why
@@ -185,18 +176,18 @@ run_begun rollback = by_turn (taken rollback) (begun rollback) begin_changes (un
     (plain None (begin_init (begins_ rollback) (sized 1) Replace _ _ refl refl refl) unfailed) refl (begin_tied rollback)
 
 -- the ask, and what its failure would do
-asks_ : Calls (begun false) 1 Asking
+asks : (rollback : Bool) → Calls (begun rollback) 1 Asking
 unfolding at
-asks_ = record {
+asks rollback = record {
   job = job 1 (letter 1 1 0) 1 Asking;
   row = row_begun;
   works = record { live = contains_head 1 (2 ∷ []); its = refl; stage_is = refl };
   found = refl;
 }
 
-fresh_asking : IsFresh (begun false) (letter 1 1 0) 1
+fresh_asking : (rollback : Bool) → IsFresh (begun rollback) (letter 1 1 0) 1
 unfolding at
-fresh_asking = record {
+fresh_asking rollback = record {
   stack = stack InProgress;
   graph = graph false;
   node = U item_name 1;
@@ -212,14 +203,20 @@ ask_changes = PutJob (job 1 (letter 1 1 0) 1 Polling) ∷ []
 abbrev pub fail_changes : List Change
 fail_changes = PutRow (failed_row row_begun) ∷ EndJob 1 ∷ PutStack (stack Failed) ∷ []
 
+pub failing : (rollback : Bool) → Move (begun rollback) 1 (Answer reply.Failed) (Some (stack InProgress)) fail_changes fail_tells
+unfolding at asks fresh_asking
+failing rollback = ask_failed (asks rollback) (request.Create (codes "Box") (sized 1)) reply.Failed (why.Failed Create) []
+    (Some (stack InProgress)) _ _ (creates refl) (by_failure _) (marks (fresh_asking rollback) refl) refl refl
+
+pub fails : Turn (begun false) 1 (Answer reply.Failed) fail_changes fail_tells
+unfolding at put cut
+fails = plain (Some (stack InProgress)) (failing false) (stays (stack InProgress) (λ due. let no_ = due.asked in cc))
+
 pub run_asked : Run registries opening.state (asked false) (until_asked false)
-unfolding at put cut asks_ fresh_asking
+unfolding at put cut asks
 run_asked = by_call (begun false) (asked false) ask_changes (until_begun false) ask_tells (run_begun false) refl
-    1 reply.Begun fail_changes _
-    (plain None (ask_begun asks_ (request.Create (codes "Box") (sized 1)) _ _ (creates refl) refl refl) unfailed)
-    (plain (Some (stack InProgress)) (ask_failed asks_ (request.Create (codes "Box") (sized 1)) reply.Failed (why.Failed Create) []
-    (Some (stack InProgress)) _ _ (creates refl) (by_failure _) (marks fresh_asking refl) refl refl)
-    (stays (stack InProgress) (λ due. let no_ = due.asked in cc))) refl
+    1 reply.Begun fail_changes fail_tells
+    (plain None (ask_begun (asks false) (request.Create (codes "Box") (sized 1)) _ _ (creates refl) refl refl) unfailed) fails refl
 
 -- the poll, and what its failure would do
 polls_ : Calls (asked false) 1 Polling
@@ -290,20 +287,9 @@ run_created = by_turn (ready false) (created false) finish_changes (until_asked 
     (plain None (finish_last finishes _ _ (record { all = all_done; unmarked = refl }) refl refl) unfailed) refl nothing
 
 -- the answers are ones that a provider gives
-states : Bool → List TokenState
-states called =
-    if called then after_each request.Poll (reply.Ready facts)
-    (if called then after_each (request.Create (codes "Box") (sized 1)) reply.Begun (None ∷ []) else None ∷ [])
-    else (if called then after_each (request.Create (codes "Box") (sized 1)) reply.Begun (None ∷ []) else None ∷ [])
-
-some_state : (called : Bool) → states called ≢ []
-unfolding states
-some_state true is = cc
-some_state false is = cc
-
 pub possible : IsPossible opening history
-unfolding states
-possible t = some_state (same_token (token 1) t)
+unfolding ready_states begun_states
+possible t = some_ready (same_token (token 1) t)
 
 pub main_theorem : Headline registries opening history (created false)
 main_theorem = runs_headline registries opening (created false) history (empty_is_sound 2 (λ t. false)) run_created possible

@@ -1,5 +1,5 @@
 -- What holds of each record of a written-out table holds of whatever is found there.
-use Rattle.std.proofs.Common.{Bool, List, None, Some, [], false, subst, true, ℕ, ◌∷◌, ◌≡◌}
+use Rattle.std.proofs.Common.{Bool, List, Some, [], false, subst, true, ℕ, ◌∷◌, ◌≡◌}
 use Rattle.std.specs.Prelude.{cond, nat_eq}
 use Rattle.std.specs.List.{AllByRecursion}
 use Rattle.std.specs.Str.{bytes_eq}

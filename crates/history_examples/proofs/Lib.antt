@@ -3,5 +3,12 @@ pub mod Finds
 pub mod Steps
 pub mod Lists
 pub mod Plans
+pub mod Possible
 pub mod Created
 pub mod Spoiled
+pub mod Updates
+pub mod Overtaken
+pub mod TakenOver
+pub mod FailedFirst
+pub mod DeletedHalfway
+pub mod RolledBack

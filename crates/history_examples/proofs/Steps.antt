@@ -1,5 +1,5 @@
 -- How a written-out run goes on, by a turn or a command.
-use Rattle.std.proofs.Common.{List, Some, [], refl, true, ℕ, ◌++◌, ◌≡◌, ◌≢◌}
+use Rattle.std.proofs.Common.{List, [], refl, true, ℕ, ◌++◌, ◌≡◌, ◌≢◌}
 use Rattle.heat_plan.specs.declared.calls.Answered.{Answered}
 use Rattle.core_state.specs.Changes.{applied}
 use Rattle.core_state.specs.State.{StateData}

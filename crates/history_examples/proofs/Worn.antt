@@ -1,6 +1,6 @@
 -- Changes with small numbers are not worn: `unworn`.
 use Rattle.std.proofs.Common.{Bool, List, [], arith, inl, inr, refl, subst, sym, true, ℕ, ◌+◌, ◌<◌, ◌∷◌, ◌≡◌}
-use Rattle.std.specs.Prelude.{false, ltb, ◌&&◌, ◌^◌, ◌≤◌}
+use Rattle.std.specs.Prelude.{false, ltb, ◌&&◌, ◌^◌}
 use Rattle.std.proofs.lemmas.Bool.Decides.{Decides-ltb}
 use Rattle.core_state.specs.declared.change.Change.{Change}
 use Rattle.core_state.specs.declared.change.Change.TheVariants.{PutRow}

@@ -1,5 +1,5 @@
 -- A stack is deleted over a half-made replacement: the new row goes before the one that it replaces.
-use Rattle.std.specs.Prelude.{List, None, Some, [], false, ℕ, ◌++◌, ◌∷◌, ◌≡◌}
+use Rattle.std.specs.Prelude.{List, None, Some, [], false, ◌++◌, ◌∷◌, ◌≡◌}
 use Rattle.heat_plan.specs.declared.phase.Act.TheVariants.{Delete}
 use Rattle.heat_plan.specs.declared.phase.Status.TheVariants.{InProgress}
 use Rattle.traversal_graph.specs.declared.shape.Node.TheVariants.{C}

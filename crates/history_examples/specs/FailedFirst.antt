@@ -1,5 +1,5 @@
 -- The create fails, and the stack is updated: another row takes the failed one's place.
-use Rattle.std.specs.Prelude.{List, None, Some, [], codes, false, ℕ, ◌++◌, ◌∷◌, ◌≡◌}
+use Rattle.std.specs.Prelude.{List, None, Some, [], codes, false, ◌++◌, ◌∷◌, ◌≡◌}
 use Rattle.heat_plan.specs.declared.phase.Act.TheVariants.{Create}
 use Rattle.heat_plan.specs.declared.phase.Status.TheVariants.{Failed}
 use Rattle.row_table.specs.declared.row.Row.{Row}

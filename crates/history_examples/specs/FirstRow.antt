@@ -1,5 +1,5 @@
 -- The first row of the stack, moment by moment.
-use Rattle.std.specs.Prelude.{None, Some, [], ℕ}
+use Rattle.std.specs.Prelude.{None, Some, []}
 use Rattle.heat_value.specs.Data.{no_members}
 use Rattle.heat_plan.specs.declared.item.Policy.TheVariants.{Delete}
 use Rattle.heat_plan.specs.declared.phase.Act.TheVariants.{Create, Init}

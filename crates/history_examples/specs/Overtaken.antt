@@ -1,5 +1,5 @@
 -- An update overtakes the create between ask and poll: the old job goes on to its end, and is released.
-use Rattle.std.specs.Prelude.{List, None, Some, [], false, ℕ, ◌++◌, ◌∷◌, ◌≡◌}
+use Rattle.std.specs.Prelude.{List, None, Some, [], false, ◌++◌, ◌∷◌, ◌≡◌}
 use Rattle.heat_plan.specs.declared.phase.Act.TheVariants.{Create, Update}
 use Rattle.mail_table.specs.declared.mail.Stage.TheVariants.{Ending, Polling}
 use Rattle.core_state.specs.State.{StateData}

@@ -1,5 +1,5 @@
 -- The create fails and is rolled back: the stack's plan is then to have nothing.
-use Rattle.std.specs.Prelude.{List, None, Some, [], false, true, ℕ, ◌++◌, ◌∷◌, ◌≡◌}
+use Rattle.std.specs.Prelude.{List, None, Some, [], false, true, ◌++◌, ◌∷◌, ◌≡◌}
 use Rattle.heat_plan.specs.declared.phase.Act.TheVariants.{Rollback, Update}
 use Rattle.heat_plan.specs.declared.phase.Status.TheVariants.{InProgress}
 use Rattle.traversal_graph.specs.declared.shape.Node.TheVariants.{C}
@@ -17,7 +17,7 @@ use Rattle.history.specs.Marked.{Unmarked, mark_of}
 use Rattle.history.specs.Newest.{newest}
 use Rattle.history.specs.Stored.{stored}
 use Rattle.soundness.specs.Headline.{Headline}
-use Rattle.history_examples.specs.Created.{begun, past, until_begun}
+use Rattle.history_examples.specs.Created.{begun, until_begun}
 use Rattle.history_examples.specs.FailedFirst.{fail_tells, row_failed}
 use Rattle.history_examples.specs.Scene.{letter, living, mail_writes, opening, plan, registries, says, stack_name, token}
 use Rattle.history_examples.specs.Updates.{open_point}

@@ -1,5 +1,5 @@
 -- What every example speaks of: one stack with one resource, and two engines over an empty cloud.
-use Rattle.std.specs.Prelude.{Bool, List, None, Option, Some, [], codes, false, pos, ℕ, ◌∷◌}
+use Rattle.std.specs.Prelude.{List, None, Option, [], codes, false, pos, ℕ, ◌∷◌}
 use Rattle.heat_value.specs.Data.{Members, member, no_members, whole}
 use Rattle.heat_plan.specs.Plans.{PlanData}
 use Rattle.heat_plan.specs.declared.facts.Facts.{Facts}

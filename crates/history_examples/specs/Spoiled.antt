@@ -1,5 +1,5 @@
 -- Histories that no run has, each with the sentence of the main theorem that it breaks.
-use Rattle.std.specs.Prelude.{List, None, [], false, ℕ, ◌++◌, ◌∷◌}
+use Rattle.std.specs.Prelude.{List, None, [], false, ◌++◌, ◌∷◌}
 use Rattle.heat_plan.specs.declared.phase.Act.TheVariants.{Create}
 use Rattle.core_state.specs.State.{StateData}
 use Rattle.core_state.specs.declared.entry.Actor.TheVariants.{Engine}

@@ -1,5 +1,5 @@
 -- An engine stops while it polls: another one takes its job over, and goes on with the row.
-use Rattle.std.specs.Prelude.{List, None, Some, [], false, ℕ, ◌++◌, ◌∷◌, ◌≡◌}
+use Rattle.std.specs.Prelude.{List, None, Some, [], false, ◌++◌, ◌∷◌, ◌≡◌}
 use Rattle.row_table.specs.declared.row.Row.{Row}
 use Rattle.mail_table.specs.declared.mail.Stage.TheVariants.{Asking, Taken}
 use Rattle.core_state.specs.State.{StateData}

@@ -1,5 +1,5 @@
 -- An update of the stack over its one row, and the row's replacement: what follows the create in several examples.
-use Rattle.std.specs.Prelude.{List, None, Option, Some, [], codes, false, ℕ, ◌+◌, ◌∷◌}
+use Rattle.std.specs.Prelude.{List, None, Option, Some, [], false, ℕ, ◌+◌, ◌∷◌}
 use Rattle.heat_plan.specs.Plans.{PlanData}
 use Rattle.heat_plan.specs.declared.phase.Act.TheVariants.{Create, Update}
 use Rattle.heat_plan.specs.declared.phase.Status.{Status}

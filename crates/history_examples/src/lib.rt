@@ -3,7 +3,12 @@
 #![tactic(auto)]
 
 ghost use Rattle.history_examples.specs.Created.{IsCreated};
+ghost use Rattle.history_examples.specs.DeletedHalfway.{IsDeletedHalfway, marked_while_alive};
+ghost use Rattle.history_examples.specs.FailedFirst.{IsUpdatedAfterFailure, asked_of_what_may_be_absent};
+ghost use Rattle.history_examples.specs.Overtaken.{IsOvertaken, marked_though_overtaken};
+ghost use Rattle.history_examples.specs.RolledBack.{IsRolledBack, updated_by_an_engine};
 ghost use Rattle.history_examples.specs.Spoiled.{IsNoRun, RunsHaveHeadline, marked_before_ready};
+ghost use Rattle.history_examples.specs.TakenOver.{IsTakenOver, purged_at_the_take_over};
 
 /// A run from the opening of the examples has the main theorem, where its answers are a provider's.
 pub fn runs_have_headline()
@@ -18,4 +23,54 @@ pub fn a_stack_is_created()
 /// No run marks it complete before the cloud says that the resource is ready.
 pub fn none_is_marked_before_ready()
     ensures { IsNoRun marked_before_ready }
+{}
+
+/// An update overtakes the create between ask and poll: the old job ends, and the new traversal is told.
+pub fn an_update_overtakes()
+    ensures { IsOvertaken }
+{}
+
+/// No run marks the overtaken traversal.
+pub fn no_overtaken_traversal_is_marked()
+    ensures { IsNoRun marked_though_overtaken }
+{}
+
+/// Another engine takes a stopped one's job over, and goes on with its row.
+pub fn a_job_is_taken_over()
+    ensures { IsTakenOver }
+{}
+
+/// No run purges the row there, whose resource is alive.
+pub fn no_row_is_purged_at_a_take_over()
+    ensures { IsNoRun purged_at_the_take_over }
+{}
+
+/// A create fails and the stack is updated: another row takes the failed one's place.
+pub fn a_failed_stack_is_updated()
+    ensures { IsUpdatedAfterFailure }
+{}
+
+/// No run asks for an update of what the failed row asked for, which may be absent.
+pub fn no_failed_row_is_updated()
+    ensures { IsNoRun asked_of_what_may_be_absent }
+{}
+
+/// A stack is deleted over a half-made replacement: the new row is to go before the one that it replaces.
+pub fn a_stack_is_deleted_halfway()
+    ensures { IsDeletedHalfway }
+{}
+
+/// No run marks the delete complete while a resource is alive.
+pub fn no_delete_is_marked_at_once()
+    ensures { IsNoRun marked_while_alive }
+{}
+
+/// A create fails and is rolled back to nothing, in one step.
+pub fn a_failure_is_rolled_back()
+    ensures { IsRolledBack }
+{}
+
+/// No run has another command there than the rollback.
+pub fn no_engine_commands_an_update()
+    ensures { IsNoRun updated_by_an_engine }
 {}

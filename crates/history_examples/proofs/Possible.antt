@@ -1,0 +1,45 @@
+-- What a token may be behind the calls of the examples, by whether it is the first row's: never nothing.
+use Rattle.std.proofs.Common.{Bool, List, None, [], false, true, ◌∷◌, ◌≢◌}
+use Rattle.std.specs.Prelude.{codes, if◌then◌else◌}
+use Rattle.provider.specs.Table.{TokenState, after_each}
+use Rattle.history_examples.specs.Scene.{facts, sized}
+use Rattle.heat_plan.specs.declared.calls.Answered.TheVariants as reply
+use Rattle.heat_plan.specs.declared.calls.Request.TheVariants as request
+
+-- its create began
+unfoldable pub begun_states : Bool → List TokenState
+begun_states called = if called then after_each (request.Create (codes "Box") (sized 1)) reply.Begun (None ∷ []) else None ∷ []
+
+pub some_begun : (called : Bool) → begun_states called ≢ []
+unfolding begun_states
+some_begun true is = cc
+some_begun false is = cc
+
+-- and it became ready
+unfoldable pub ready_states : Bool → List TokenState
+unfolding begun_states
+ready_states called = if called then after_each request.Poll (reply.Ready facts) (begun_states called) else begun_states called
+
+pub some_ready : (called : Bool) → ready_states called ≢ []
+unfolding ready_states begun_states
+some_ready true is = cc
+some_ready false is = cc
+
+-- its create failed
+unfoldable pub failed_states : Bool → List TokenState
+failed_states called = if called then after_each (request.Create (codes "Box") (sized 1)) reply.Failed (None ∷ []) else None ∷ []
+
+pub some_failed : (called : Bool) → failed_states called ≢ []
+unfolding failed_states
+some_failed true is = cc
+some_failed false is = cc
+
+-- and an update began
+unfoldable pub updated_states : Bool → List TokenState
+updated_states called =
+    if called then after_each (request.Update (sized 1)) reply.Begun (failed_states called) else failed_states called
+
+pub some_updated : (called : Bool) → updated_states called ≢ []
+unfolding updated_states failed_states
+some_updated true is = cc
+some_updated false is = cc
