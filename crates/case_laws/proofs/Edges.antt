@@ -29,7 +29,8 @@ considered kept new x y (inl (path, is)) = inr (subst (λ (l : List (ℕ × ℕ)
 considered kept new x y (inr (open_, is)) = inl (subst (λ (l : List (ℕ × ℕ)). Joins l x y) (sym is)
     (Contains-append_right kept ((x, y) ∷ []) (x, y) (contains_head (x, y) [])))
 
-each_counts : (candidates kept : List (ℕ × ℕ)) → Keeps [] candidates kept → (b a : ℕ) → Joins candidates b a → Counts kept b a
+each_counts : (candidates kept : List (ℕ × ℕ)) → Keeps [] candidates kept → (b a : ℕ) → Joins candidates b a
+    → Counts kept b a
 each_counts candidates kept (begins _ _ none is) b a c =
     absurd (nothing (b, a) (subst (λ (l : List (ℕ × ℕ)). Contains l (b, a)) none c))
 each_counts candidates kept (goes_on earlier mid _ _ x y more one is) b a c =
@@ -38,7 +39,9 @@ each_counts candidates kept (goes_on earlier mid _ _ x y more one is) b a c =
       | inr last ↦ by (last_is (x, y) (b, a) last)
     ] where
       by : (x ≡ b) × (y ≡ a) → Counts kept b a
-      by (same, also) = subst (λ (n : ℕ). Counts kept n a) same (subst (λ (n : ℕ). Counts kept x n) also (considered mid kept x y one))
+      by (same, also) =
+          subst (λ (n : ℕ). Counts kept n a) same
+          (subst (λ (n : ℕ). Counts kept x n) also (considered mid kept x y one))
 
 pub only_cycles_are_left_out : OnlyCyclesAreLeftOut
 only_cycles_are_left_out items rows edges before after keeps among = each_counts _ edges keeps before after among

@@ -23,5 +23,11 @@ given_up_fits s e k r h at loose act unstuck policy =
 
 pub overrun_fits : OverrunFits
 overrun_fits s e j r letters h works overrun at resends = graphs_moved unjudged s e Nothing None _ _ h
-    (begin_overrun j _ _ works (record { row = Some r; found = at; overrun = overrun; letters = letters; resends = resends }) refl refl)
+    (begin_overrun j _ _ works (record {
+      row = Some r;
+      found = at;
+      overrun = overrun;
+      letters = letters;
+      resends = resends;
+    }) refl refl)
     nothing

@@ -2,11 +2,13 @@
 use Rattle.std.proofs.Common.{None, refl}
 use Rattle.step_relation.specs.Given.{Nothing, Prepared}
 use Rattle.step_relation.specs.Moves.{begin_overrun, begin_replaced, clean_deleted, finish_last, take_free, take_stolen}
-use Rattle.case_laws.specs.Links.{DeleteIsLinked, LeavingIsLinked, ReleaseIsLinked, ReplacementIsLinked, StealIsLinked, TakenIsLinked}
+use Rattle.case_laws.specs.Links.{DeleteIsLinked, LeavingIsLinked, ReleaseIsLinked, ReplacementIsLinked, StealIsLinked}
+use Rattle.case_laws.specs.Links.{TakenIsLinked}
 use Rattle.link_laws.proofs.Kept.{links_after}
 
 pub steal_is_linked : StealIsLinked
-steal_is_linked s e f k j h holder stopped = links_after s e Nothing None _ _ h (take_stolen k f j _ _ holder stopped refl refl)
+steal_is_linked s e f k j h holder stopped =
+    links_after s e Nothing None _ _ h (take_stolen k f j _ _ holder stopped refl refl)
 
 pub replacement_is_linked : ReplacementIsLinked
 replacement_is_linked s e k props effect h act go =

@@ -18,7 +18,8 @@ unjudged name = None
 
 pub cleaned_is_marked : CleanedIsMarked
 cleaned_is_marked s e k h updates cleanups unmarked =
-    marks_by_moves unjudged s e Nothing None _ _ h (finish_last k _ _ (record { all = all; unmarked = unmarked }) refl refl) nothing where
+    marks_by_moves unjudged s e Nothing None _ _ h
+    (finish_last k _ _ (record { all = all; unmarked = unmarked }) refl refl) nothing where
       all : (i : ℕ) (node : Node) → IsNode (graph_then s e k) i node → IsDone (graph_then s e k) i
       all i (U name n) at = updates i n name at
       all i (C n) at = cleanups i n at

@@ -16,12 +16,14 @@ unjudged : Judges
 unjudged name = None
 
 pub in_place_agrees : InPlaceAgrees
-in_place_agrees judges o h s e k props effect x tied act status soft possible = moves_agree judges o h s e (Prepared props effect)
+in_place_agrees judges o h s e k props effect x tied act status soft possible =
+    moves_agree judges o h s e (Prepared props effect)
     None _ _ x (begin_in_place k props effect _ _ act status soft refl refl) tied possible
 
 pub purge_agrees : PurgeAgrees
 purge_agrees o h s e k x act possible =
-    moves_agree unjudged o h s e (Answer reply.Gone) None _ _ x (poll_gone k _ _ act refl refl) (answer reply.Gone) possible
+    moves_agree unjudged o h s e (Answer reply.Gone) None _ _ x (poll_gone k _ _ act refl refl) (answer reply.Gone)
+    possible
 
 pub given_up_is_retained : GivenUpIsRetained
 given_up_is_retained o h s e k r x possible at loose act unstuck policy = record {

@@ -19,7 +19,8 @@ use Rattle.soundness.specs.Stir.{Covered}
 
 -- a stopped engine's job that is overrun ends: the update node that waits for its row is told
 abbrev pub StaleTakeOverTells : Type 0
-StaleTakeOverTells = (s : StateData) (e f : ℕ) (j : Job) (row : Option Row) (st : Stack) (g : Graph) (i : ℕ) → Standing s
+StaleTakeOverTells = (s : StateData) (e f : ℕ) (j : Job) (row : Option Row) (st : Stack) (g : Graph) (i : ℕ)
+    → Standing s
     → TakesOver s e f j → row_at s.rows j.row ≡ row → IsOverrun s j → HasGraph s j.letter.stack st g
     → IsLeast (AwaitsUpdate s st g j.row) i
     → Covered (applied (draw_letters s.next (letter_to st s.next.letter i ∷ [])

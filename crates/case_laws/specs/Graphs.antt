@@ -30,7 +30,8 @@ use Rattle.core_state.specs.declared.change.Change.TheVariants as change_to
 
 -- a row that can't be gone on with is replaced, for the stack's traversal
 abbrev pub ReplacementFits : Type 0
-ReplacementFits = (judges : Judges) (s : StateData) (e : ℕ) (k : Begins s e) (props : Members) (effect : Effect) → Standing s
+ReplacementFits = (judges : Judges) (s : StateData) (e : ℕ) (k : Begins s e) (props : Members) (effect : Effect)
+    → Standing s
     → k.row.act ≢ Init → MustGo k.row k.item k.stack.trav props effect
     → IsTied judges s e (Prepared props effect)
     → GraphsFit (applied (change_to.Numbers (past_row s.next)

@@ -39,8 +39,10 @@ changing_row s e k props = record k.row {
 
 -- a change in place is begun: the cloud is still to be asked
 abbrev pub InPlaceAgrees : Type 0
-InPlaceAgrees = (judges : Judges) (o : Opening) (h : List Entry) (s : StateData) (e : ℕ) (k : Begins s e) (props : Members)
-    (effect : Effect) → Sound o h s → IsTied judges s e (Prepared props effect) → k.row.act ≢ Init → k.row.status ≡ Complete
+InPlaceAgrees =
+    (judges : Judges) (o : Opening) (h : List Entry) (s : StateData) (e : ℕ) (k : Begins s e) (props : Members)
+    (effect : Effect) → Sound o h s → IsTied judges s e (Prepared props effect) → k.row.act ≢ Init
+    → k.row.status ≡ Complete
     → IsSoft k.row k.item props effect → IsPossible o (h ++ begun_entries e k.job Asking (changing_row s e k props))
     → Agrees o (h ++ begun_entries e k.job Asking (changing_row s e k props))
     (applied (begun_changes k.job Asking (changing_row s e k props)) s)

@@ -1,179 +1,43 @@
--- The create, step by step: `is_created`.
-use Rattle.std.proofs.Common.{Bool, List, None, Some, [], arith, false, refl, true, zero, suc, ◌∷◌, ◌≡◌, ◌≢◌}
-use Rattle.std.proofs.lemmas.List.Sorted.{IsPermutation-refl}
+-- The create, from the ask on, and what a failed ask would do: `is_created`, `failing`.
+use Rattle.std.proofs.Common.{Bool, List, None, Some, [], arith, false, refl, true, zero, suc, ◌∷◌}
 use Rattle.std.specs.Prelude.{codes, length, ◌++◌}
 use Rattle.heat_plan.specs.Tables.{at, cut, put}
 use Rattle.heat_plan.specs.declared.phase.Act.TheVariants.{Create}
 use Rattle.heat_plan.specs.declared.phase.Status.TheVariants.{Complete, Failed, InProgress}
-use Rattle.traversal_graph.specs.Builds.{begins}
 use Rattle.traversal_graph.specs.declared.shape.Node.TheVariants.{U}
 use Rattle.provider.specs.Same.{same_token}
-use Rattle.row_table.specs.Chains.{ends}
-use Rattle.mail_table.specs.declared.mail.Stage.TheVariants.{Asking, Ending, Polling, Taken}
+use Rattle.mail_table.specs.declared.mail.Stage.TheVariants.{Asking, Ending, Polling}
 use Rattle.core_state.specs.Changes.{put_point}
 use Rattle.core_state.specs.declared.change.Change.{Change}
-use Rattle.core_state.specs.declared.change.Change.TheVariants.{Drop, EndJob, PutGraph, PutJob, PutPast, PutPoint, PutRow, PutStack, Send}
-use Rattle.hot_resolve.specs.Resolve.{resolve}
-use Rattle.type_catalog.specs.Changes.{replace}
-use Rattle.type_catalog.specs.declared.effect.Effect.TheVariants.{Replace}
+use Rattle.core_state.specs.declared.change.Change.TheVariants.{EndJob, PutJob, PutPoint, PutRow, PutStack}
 use Rattle.step_relation.specs.Asks.{Calls, by_failure, creates, marks, polls}
-use Rattle.step_relation.specs.Begins.{Begins}
-use Rattle.step_relation.specs.Commands.{Lays, fresh}
 use Rattle.step_relation.specs.Finishes.{Finishes}
 use Rattle.step_relation.specs.Freshness.{IsFresh, updates}
-use Rattle.step_relation.specs.Given.{Answer, Nothing, Prepared}
+use Rattle.step_relation.specs.Given.{Answer, Nothing}
 use Rattle.step_relation.specs.Inputs.{AllDone}
-use Rattle.step_relation.specs.Moves.{Move, ask_begun, ask_failed, begin_init, finish_last, poll_failed, poll_ready, take_free}
-use Rattle.step_relation.specs.Orders.{Command, create}
+use Rattle.step_relation.specs.Moves.{Move, ask_begun, ask_failed, finish_last, poll_failed, poll_ready}
 use Rattle.step_relation.specs.Rows.{failed_row}
-use Rattle.step_relation.specs.Runs.{IsTied, Run, begins as starts, nothing, props}
+use Rattle.step_relation.specs.Runs.{Run, nothing}
 use Rattle.step_relation.specs.Steps.{}
-use Rattle.step_relation.specs.Takes.{Takes}
-use Rattle.step_relation.specs.Targets.{of_u}
 use Rattle.step_relation.specs.Turns.{Turn, plain, stays, unfailed}
 use Rattle.history.specs.Could.{IsPossible}
 use Rattle.soundness.specs.Headline.{Headline}
 use Rattle.table_laws.proofs.Puts.{contains_head, contains_none}
-use Rattle.table_laws.proofs.Rows.{letter-key}
 use Rattle.headline_laws.proofs.Empty.{empty_is_sound}
 use Rattle.whole_laws.proofs.Whole.{runs_headline}
-use Rattle.history_examples.specs.Created.{IsCreated, ask_tells, asked, begin_tells, begun, command_tells, commanded, created, finish_tells, graph, history, one_node, past, point, poll_tells, ready, stack, take_tells, taken, until_asked, until_begun, until_taken}
+use Rattle.history_examples.specs.Created.{IsCreated, ask_tells, asked, begun, created, finish_tells, graph, history}
+use Rattle.history_examples.specs.Created.{point, poll_tells, ready, stack, until_asked, until_begun}
 use Rattle.history_examples.specs.FailedFirst.{fail_tells}
-use Rattle.history_examples.specs.FirstRow.{row_begun, row_done, row_made, row_ready, row_taken}
-use Rattle.history_examples.specs.Scene.{facts, item, item_name, job, letter, opening, plan, registries, sized, stack_name, token, unjudged}
-use Rattle.history_examples.proofs.Finds.{each_job, each_letter}
-use Rattle.history_examples.proofs.Lists.{lists_none, lists_one, not_done, requires_none}
-use Rattle.history_examples.proofs.Plans.{one_is_plan}
+use Rattle.history_examples.specs.FirstRow.{row_begun, row_done, row_ready}
+use Rattle.history_examples.specs.Scene.{facts, item, item_name, job, letter, opening, plan, registries, sized}
+use Rattle.history_examples.specs.Scene.{stack_name, token}
+use Rattle.history_examples.proofs.Begun.{run_begun}
+use Rattle.history_examples.proofs.Lists.{lists_none}
 use Rattle.history_examples.proofs.Possible.{begun_states, ready_states, some_ready}
-use Rattle.history_examples.proofs.Steps.{by_call, by_command, by_turn}
-use Rattle.core_state.specs.declared.change.Change.TheVariants as change_to
+use Rattle.history_examples.proofs.Steps.{by_call, by_turn}
 use Rattle.core_state.specs.declared.entry.Why.TheVariants as why
 use Rattle.heat_plan.specs.declared.calls.Answered.TheVariants as reply
 use Rattle.heat_plan.specs.declared.calls.Request.TheVariants as request
-
--- the command
-pub lays : Lays opening.state stack_name (plan 1).items
-unfolding at
-lays = record {
-  chosen = 1 ∷ [];
-  rows = row_made ∷ [];
-  chooses = fresh 1 (item 1) [] [] [] (λ m q found stack_is name_is current. cc) (Rattle.step_relation.specs.Commands.none 2);
-  standing = [];
-  standing_are = record {
-    rising = λ i j d lt within. absurd (omega (arith, within));
-    each = λ n r found its. cc;
-    only = λ r c. absurd (contains_none r c);
-  };
-  graph = one_node;
-  built = record {
-    sorted = [];
-    rows_are = record {
-      same = IsPermutation-refl [];
-      ordered = λ i j d le within. absurd (omega (arith, within));
-      rising = λ distinct k within. absurd (omega (arith, within));
-    };
-    nodes = refl;
-    edges = begins _ _ refl refl;
-  };
-  leaves = 0 ∷ [];
-  leaves_are = lists_one _ 0 (omega arith, λ b edge. contains_none (b, 0) edge) (λ n (lt, none). omega (arith, lt));
-}
-
-abbrev pub command_changes : Bool → List Change
-command_changes rollback =
-    change_to.Numbers (record { stack = 2; trav = 2; row = 2; engine = 3; letter = 2 })
-    ∷ PutStack (stack InProgress) ∷ PutPast (past rollback) ∷ PutRow row_made ∷ PutGraph stack_name one_node ∷ Send (letter 1 1 0) ∷ []
-
-commands : (rollback : Bool) → Command opening.state (command_changes rollback) (command_tells rollback)
-unfolding at lays
-commands rollback = create stack_name (plan 1) rollback lays (one_is_plan (item 1) refl) refl (omega arith) (omega arith) refl refl
-
-pub run_commanded : (rollback : Bool) → Run registries opening.state (commanded rollback) (command_tells rollback)
-unfolding at put
-run_commanded rollback = by_command opening.state (commanded rollback) (command_changes rollback) [] (command_tells rollback)
-    (starts opening.state [] refl refl) refl (commands rollback) refl
-
--- the take
-first_fresh : (rollback : Bool) → IsFresh (commanded rollback) (letter 1 1 0) 1
-unfolding at
-first_fresh rollback = record {
-  stack = stack InProgress;
-  graph = graph false;
-  node = U item_name 1;
-  row = Some row_made;
-  names = record { in_table = refl; newest = refl; its_graph = refl; its_node = refl };
-  found = refl;
-  serves = updates item_name 1 (item 1) row_made refl (λ is. cc);
-}
-
-takes : (rollback : Bool) → Takes (commanded rollback) 1
-unfolding at first_fresh
-takes rollback = record {
-  letter = letter 1 1 0;
-  next = record {
-    live = contains_head 1 (2 ∷ []);
-    jobless = refl;
-    first = record {
-      waits = refl;
-      lowest = λ n other at_n.
-          let key = letter-key (letter 1 1 0 ∷ []) n other at_n in
-          let is = each_letter (λ l. l.no ≡ 1) (letter 1 1 0 ∷ []) (refl, tt) n other at_n in
-          omega (arith, key, is);
-    };
-  };
-  meant = record {
-    target = 1;
-    fresh = first_fresh rollback;
-    to = of_u item_name 1 1 (ends 1 row_made refl (λ m q is lt found. cc));
-  };
-  open_ = λ d. not_done (point false) d.point refl d.there d.done;
-}
-
-abbrev pub take_changes : List Change
-take_changes = PutRow row_taken ∷ Drop 1 ∷ PutJob (job 1 (letter 1 1 0) 1 Taken) ∷ []
-
-pub run_taken : (rollback : Bool) → Run registries opening.state (taken rollback) (until_taken rollback)
-unfolding at put cut takes first_fresh
-run_taken rollback = by_turn (commanded rollback) (taken rollback) take_changes (command_tells rollback) take_tells (run_commanded rollback) refl
-    1 Nothing (λ a is. cc)
-    (plain None (take_free (takes rollback) _ _ (λ f j at_f. each_job (λ j. j.row ≢ 1) [] tt f j at_f) refl refl) unfailed) refl nothing
-
--- the begin
-begins_ : (rollback : Bool) → Begins (taken rollback) 1
-unfolding at
-begins_ rollback = record {
-  job = job 1 (letter 1 1 0) 1 Taken;
-  stack = stack InProgress;
-  graph = graph false;
-  name = item_name;
-  chosen = 1;
-  item = item 1;
-  row = row_taken;
-  point = point false;
-  required = [];
-  works = record { live = contains_head 1 (2 ∷ []); its = refl; stage_is = refl };
-  names = record { in_table = refl; newest = refl; its_graph = refl; its_node = refl };
-  asked = refl;
-  found = refl;
-  kept = λ is. cc;
-  its_point = refl;
-  requires_are = requires_none;
-}
-
-begin_tied : (rollback : Bool) → IsTied unjudged (taken rollback) 1 (Prepared (sized 1) Replace)
-unfolding begins_ resolve
-begin_tied rollback = props (begins_ rollback) (sized 1) Replace
-    (record { known = []; known_are = Rattle.step_relation.specs.Inputs.none; result_is = refl })
-    (replace (codes "size") (λ is. cc) (contains_none (codes "size")))
-
-abbrev pub begin_changes : List Change
-begin_changes = PutRow row_begun ∷ PutJob (job 1 (letter 1 1 0) 1 Asking) ∷ []
-
-pub run_begun : (rollback : Bool) → Run registries opening.state (begun rollback) (until_begun rollback)
-unfolding at put cut begins_
-run_begun rollback = by_turn (taken rollback) (begun rollback) begin_changes (until_taken rollback) begin_tells (run_taken rollback) refl
-    1 (Prepared (sized 1) Replace) (λ a is. cc)
-    (plain None (begin_init (begins_ rollback) (sized 1) Replace _ _ refl refl refl) unfailed) refl (begin_tied rollback)
 
 -- the ask, and what its failure would do
 asks : (rollback : Bool) → Calls (begun rollback) 1 Asking
@@ -203,9 +67,11 @@ ask_changes = PutJob (job 1 (letter 1 1 0) 1 Polling) ∷ []
 abbrev pub fail_changes : List Change
 fail_changes = PutRow (failed_row row_begun) ∷ EndJob 1 ∷ PutStack (stack Failed) ∷ []
 
-pub failing : (rollback : Bool) → Move (begun rollback) 1 (Answer reply.Failed) (Some (stack InProgress)) fail_changes fail_tells
+pub failing : (rollback : Bool) → Move (begun rollback) 1 (Answer reply.Failed) (Some (stack InProgress)) fail_changes
+    fail_tells
 unfolding at asks fresh_asking
-failing rollback = ask_failed (asks rollback) (request.Create (codes "Box") (sized 1)) reply.Failed (why.Failed Create) []
+failing rollback = ask_failed (asks rollback) (request.Create (codes "Box") (sized 1)) reply.Failed (why.Failed Create)
+    []
     (Some (stack InProgress)) _ _ (creates refl) (by_failure _) (marks (fresh_asking rollback) refl) refl refl
 
 pub fails : Turn (begun false) 1 (Answer reply.Failed) fail_changes fail_tells
@@ -216,7 +82,8 @@ pub run_asked : Run registries opening.state (asked false) (until_asked false)
 unfolding at put cut asks
 run_asked = by_call (begun false) (asked false) ask_changes (until_begun false) ask_tells (run_begun false) refl
     1 reply.Begun fail_changes fail_tells
-    (plain None (ask_begun (asks false) (request.Create (codes "Box") (sized 1)) _ _ (creates refl) refl refl) unfailed) fails refl
+    (plain None (ask_begun (asks false) (request.Create (codes "Box") (sized 1)) _ _ (creates refl) refl refl) unfailed)
+    fails refl
 
 -- the poll, and what its failure would do
 polls_ : Calls (asked false) 1 Polling
@@ -282,7 +149,8 @@ finish_changes = PutRow row_done ∷ EndJob 1 ∷ PutPoint (point true) ∷ PutS
 
 pub run_created : Run registries opening.state (created false) history
 unfolding at put cut put_point finishes
-run_created = by_turn (ready false) (created false) finish_changes (until_asked false ++ poll_tells) finish_tells run_ready refl
+run_created =
+    by_turn (ready false) (created false) finish_changes (until_asked false ++ poll_tells) finish_tells run_ready refl
     1 Nothing (λ a is. cc)
     (plain None (finish_last finishes _ _ (record { all = all_done; unmarked = refl }) refl refl) unfailed) refl nothing
 
@@ -292,7 +160,8 @@ unfolding ready_states begun_states
 possible t = some_ready (same_token (token 1) t)
 
 pub main_theorem : Headline registries opening history (created false)
-main_theorem = runs_headline registries opening (created false) history (empty_is_sound 2 (λ t. false)) run_created possible
+main_theorem = runs_headline registries opening (created false) history (empty_is_sound 2 (λ t. false)) run_created
+    possible
 
 pub is_created : IsCreated
 unfolding at put cut

@@ -22,7 +22,9 @@ use Rattle.step_relation.specs.Runs.{Judges, Run}
 use Rattle.soundness.specs.Headline.{Headline}
 use Rattle.edge_laws.proofs.Keeping.{last_is}
 use Rattle.table_laws.proofs.Puts.{all_contains, contains_head, contains_none, contains_there}
-use Rattle.history_examples.specs.DeletedHalfway.{IsDeletedHalfway, delete_tells, deleting, halfway, history, marked_while_alive, stack_three, two_rows, until_halfway, until_retaken, until_updated}
+use Rattle.history_examples.specs.DeletedHalfway.{IsDeletedHalfway, delete_tells, deleting, halfway, history}
+use Rattle.history_examples.specs.DeletedHalfway.{marked_while_alive, stack_three, two_rows, until_halfway}
+use Rattle.history_examples.specs.DeletedHalfway.{until_retaken, until_updated}
 use Rattle.history_examples.specs.FirstRow.{row_done}
 use Rattle.history_examples.specs.Scene.{facts, letter, living, opening, plan, registries, sized, stack_name, token}
 use Rattle.history_examples.specs.Spoiled.{IsNoRun}
@@ -39,13 +41,16 @@ use Rattle.history_examples.specs.Created as create
 use Rattle.step_relation.specs.Commands as lay
 
 run_again : Run registries opening.state (updated 2 (Some (plan 1)) row_done []) until_updated
-run_again = run_updated Create (λ is. cc) Complete (sized 1) (Some facts) None 2 Complete true [] 2 create.history run_created
+run_again = run_updated Create (λ is. cc) Complete (sized 1) (Some facts) None 2 Complete true [] 2 create.history
+    run_created
 
 run_taken : Run registries opening.state (retaken 2 (Some (plan 1)) row_done) until_retaken
-run_taken = run_retaken Create (λ is. cc) Complete (sized 1) (Some facts) None 2 2 (Some (plan 1)) until_updated refl run_again
+run_taken = run_retaken Create (λ is. cc) Complete (sized 1) (Some facts) None 2 2 (Some (plan 1)) until_updated refl
+    run_again
 
 run_halfway : Run registries opening.state halfway until_halfway
-run_halfway = run_replaced Create (λ is. cc) Complete (sized 1) (Some facts) None 2 2 (Some (plan 1)) until_retaken Replace (λ is. cc)
+run_halfway = run_replaced Create (λ is. cc) Complete (sized 1) (Some facts) None 2 2 (Some (plan 1)) until_retaken
+    Replace (λ is. cc)
     (changed refl (λ is. let same = is.props_are in cc) (λ is. let place = is.in_place in cc))
     (replace (codes "size") (λ is. cc) (contains_none (codes "size"))) refl run_taken
 
@@ -88,7 +93,8 @@ lays = record {
       (contains_there (left row_done) (row_two 2) (row_two 2 ∷ []) (contains_head (row_two 2) []), tt),
     )
         n q found;
-    only = λ q c. all_contains (λ (x : Row). (row_at both x.no ≡ Some x) × (x.stack ≡ stack_name)) both q ((refl, refl), ((refl, refl), tt)) c;
+    only = λ q c. all_contains (λ (x : Row). (row_at both x.no ≡ Some x) × (x.stack ≡ stack_name)) both q
+        ((refl, refl), ((refl, refl), tt)) c;
   };
   graph = two_rows;
   built = record {
@@ -138,7 +144,8 @@ is_deleted_halfway = record {
 still_alive : (judges : List Judges) (s : StateData) → ¬ Headline judges opening marked_while_alive s
 unfolding at
 still_alive judges s h =
-    let fitted = (h.entries 23 _ refl).completes stack_name 3 Delete (record { trav = 3; act = Delete; plan = None }) refl refl in
+    let fitted = (h.entries 23 _ refl).completes stack_name 3 Delete (record { trav = 3; act = Delete; plan = None })
+    refl refl in
     contains_none _ (fitted.no_other (token 1) (
       refl,
       record {

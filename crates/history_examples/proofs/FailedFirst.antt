@@ -13,11 +13,13 @@ use Rattle.step_relation.specs.Begins.{given_up}
 use Rattle.step_relation.specs.Runs.{Judges, Run}
 use Rattle.soundness.specs.Headline.{Headline, MayBeAsked, update}
 use Rattle.history_examples.specs.Created.{begun, until_begun}
-use Rattle.history_examples.specs.FailedFirst.{IsUpdatedAfterFailure, asked_of_what_may_be_absent, fail_tells, failed, history, row_failed, until_failed, until_retaken, until_updated}
+use Rattle.history_examples.specs.FailedFirst.{IsUpdatedAfterFailure, asked_of_what_may_be_absent, fail_tells, failed}
+use Rattle.history_examples.specs.FailedFirst.{history, row_failed, until_failed, until_retaken, until_updated}
 use Rattle.history_examples.specs.Scene.{living, opening, registries, sized, token}
 use Rattle.history_examples.specs.Spoiled.{IsNoRun}
 use Rattle.history_examples.specs.Updates.{replaced, retaken, updated}
-use Rattle.history_examples.proofs.Created.{fail_changes, fails, run_begun}
+use Rattle.history_examples.proofs.Begun.{run_begun}
+use Rattle.history_examples.proofs.Created.{fail_changes, fails}
 use Rattle.history_examples.proofs.Possible.{failed_states, some_failed, some_updated, updated_states}
 use Rattle.history_examples.proofs.Spoiled.{no_run, runs_have_headline}
 use Rattle.history_examples.proofs.Steps.{by_call}
@@ -27,7 +29,8 @@ use Rattle.heat_plan.specs.declared.calls.Request.TheVariants as request
 
 run_failed : Run registries opening.state failed until_failed
 unfolding at put cut
-run_failed = by_call (begun false) failed fail_changes (until_begun false) fail_tells (run_begun false) refl 1 reply.Failed fail_changes fail_tells
+run_failed = by_call (begun false) failed fail_changes (until_begun false) fail_tells (run_begun false) refl 1
+    reply.Failed fail_changes fail_tells
     fails fails refl
 
 run_again : Run registries opening.state (updated 1 None row_failed []) until_updated
@@ -42,7 +45,9 @@ run_moved = run_replaced Create (λ is. cc) Failed (sized 1) None None 2 1 None 
 
 main_theorem : Headline registries opening history (replaced 1 None row_failed)
 unfolding failed_states
-main_theorem = runs_have_headline registries (replaced 1 None row_failed) history run_moved (λ t. some_failed (same_token (token 1) t))
+main_theorem =
+    runs_have_headline registries (replaced 1 None row_failed) history run_moved
+    (λ t. some_failed (same_token (token 1) t))
 
 pub is_updated_after_failure : IsUpdatedAfterFailure
 unfolding at put cut

@@ -21,10 +21,12 @@ module _ {K A : Type 0} (same : K → K → Bool) (key : A → K) (P : A → Typ
     by true rest one = let it : y ≡ x = cc in subst P it all.0
     by false rest more = rest more
 
-pub each_row : (P : Row → Type 0) (rows : List Row) → AllByRecursion P rows → (n : ℕ) (r : Row) → row_at rows n ≡ Some r → P r
+pub each_row : (P : Row → Type 0) (rows : List Row) → AllByRecursion P rows → (n : ℕ) (r : Row) → row_at rows n ≡ Some r
+    → P r
 each_row P rows all n r is = found nat_eq row_key P rows all n r is
 
-pub each_job : (P : Job → Type 0) (jobs : List Job) → AllByRecursion P jobs → (e : ℕ) (j : Job) → job_at jobs e ≡ Some j → P j
+pub each_job : (P : Job → Type 0) (jobs : List Job) → AllByRecursion P jobs → (e : ℕ) (j : Job) → job_at jobs e ≡ Some j
+    → P j
 each_job P jobs all e j is = found nat_eq job_key P jobs all e j is
 
 pub each_letter : (P : Letter → Type 0) (letters : List Letter) → AllByRecursion P letters → (n : ℕ) (l : Letter)

@@ -4,6 +4,7 @@ pub mod Steps
 pub mod Lists
 pub mod Plans
 pub mod Possible
+pub mod Begun
 pub mod Created
 pub mod Spoiled
 pub mod Updates

@@ -31,7 +31,8 @@ lists_one Is k its only = record {
 
 -- a point that isn't done
 pub not_done : (p q : Point) → p.done ≡ false → Some p ≡ Some q → ¬ (q.done ≡ true)
-not_done p q no_ is yes_ = let same : p ≡ q = cc in let f : q.done ≡ false = subst (λ (x : Point). x.done ≡ false) same no_ in cc
+not_done p q no_ is yes_ = let same : p ≡ q = cc in
+    let f : q.done ≡ false = subst (λ (x : Point). x.done ≡ false) same no_ in cc
 
 -- no input was given
 pub requires_none : ListsAll (IsRequired []) []

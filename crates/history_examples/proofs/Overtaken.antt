@@ -22,7 +22,8 @@ use Rattle.table_laws.proofs.Puts.{contains_head}
 use Rattle.table_laws.proofs.Rows.{same_some}
 use Rattle.history_examples.specs.Created.{poll_tells, until_asked}
 use Rattle.history_examples.specs.FirstRow.{row_begun, row_done, row_ready}
-use Rattle.history_examples.specs.Overtaken.{IsOvertaken, freed, history, late, marked_though_overtaken, overtaken, release_tells, until_late}
+use Rattle.history_examples.specs.Overtaken.{IsOvertaken, freed, history, late, marked_though_overtaken, overtaken}
+use Rattle.history_examples.specs.Overtaken.{release_tells, until_late}
 use Rattle.history_examples.specs.Scene.{facts, job, letter, opening, plan, registries, sized, stack_name, token}
 use Rattle.history_examples.specs.Spoiled.{IsNoRun}
 use Rattle.history_examples.specs.Updates.{update_tells}
@@ -38,7 +39,9 @@ use Rattle.heat_plan.specs.declared.calls.Request.TheVariants as request
 use Rattle.step_relation.specs.Asks as ask
 
 run_overtaken : Run registries opening.state overtaken (until_asked false ++ update_tells 2)
-run_overtaken = run_updated Create (λ is. cc) InProgress (sized 1) None (Some 1) 1 InProgress false (job 1 (letter 1 1 0) 1 Polling ∷ []) 2
+run_overtaken =
+    run_updated Create (λ is. cc) InProgress (sized 1) None (Some 1) 1 InProgress false
+    (job 1 (letter 1 1 0) 1 Polling ∷ []) 2
     (until_asked false) run_asked
 
 -- the late answer, and what a failure would do
@@ -58,29 +61,36 @@ fail_changes =
 
 run_late : Run registries opening.state late until_late
 unfolding at put cut polls_
-run_late = by_call overtaken late (PutRow row_ready ∷ PutJob (job 1 (letter 1 1 0) 1 Ending) ∷ []) (until_asked false ++ update_tells 2)
+run_late = by_call overtaken late (PutRow row_ready ∷ PutJob (job 1 (letter 1 1 0) 1 Ending) ∷ [])
+    (until_asked false ++ update_tells 2)
     poll_tells run_overtaken refl 1 (reply.Ready facts) fail_changes _
     (plain None (poll_ready polls_ facts _ _ (λ is. cc) refl refl) unfailed)
-    (plain None (poll_failed polls_ request.Poll reply.Failed (why.Failed Create) (letter 3 2 0 ∷ []) None _ _ (polls (λ is. cc)) (by_failure _)
+    (plain None (poll_failed polls_ request.Poll reply.Failed (why.Failed Create) (letter 3 2 0 ∷ []) None _ _
+    (polls (λ is. cc)) (by_failure _)
     (ask.overrun (letter 3 2 0 ∷ [])
-    (overrun Create (λ is. cc) InProgress (sized 1) None (Some 1) 1 2 None (job 1 (letter 1 1 0) 1 Polling ∷ []) Polling)
-    (told_again Create (λ is. cc) InProgress (sized 1) None (Some 1) 1 2 None (job 1 (letter 1 1 0) 1 Polling ∷ []))) refl refl) unfailed) refl
+    (overrun Create (λ is. cc) InProgress (sized 1) None (Some 1) 1 2 None (job 1 (letter 1 1 0) 1 Polling ∷ [])
+    Polling)
+    (told_again Create (λ is. cc) InProgress (sized 1) None (Some 1) 1 2 None (job 1 (letter 1 1 0) 1 Polling ∷ [])))
+    refl refl) unfailed) refl
 
 releases : Releases late 1 (job 1 (letter 1 1 0) 1 Ending)
 unfolding at
 releases = record {
   row = Some row_ready;
   found = refl;
-  overrun = overrun Create (λ is. cc) Complete (sized 1) (Some facts) (Some 1) 1 2 None (job 1 (letter 1 1 0) 1 Ending ∷ []) Ending;
+  overrun = overrun Create (λ is. cc) Complete (sized 1) (Some facts) (Some 1) 1 2 None
+      (job 1 (letter 1 1 0) 1 Ending ∷ []) Ending;
   letters = letter 3 2 0 ∷ [];
-  resends = told_again Create (λ is. cc) Complete (sized 1) (Some facts) (Some 1) 1 2 None (job 1 (letter 1 1 0) 1 Ending ∷ []);
+  resends = told_again Create (λ is. cc) Complete (sized 1) (Some facts) (Some 1) 1 2 None
+      (job 1 (letter 1 1 0) 1 Ending ∷ []);
 }
 
 run_freed : Run registries opening.state freed history
 unfolding at put cut releases
 run_freed = by_turn late freed
     (change_to.Numbers (record { stack = 2; trav = 3; row = 2; engine = 3; letter = 4 })
-    ∷ PutRow row_done ∷ EndJob 1 ∷ Send (letter 3 2 0) ∷ []) until_late release_tells run_late refl 1 Nothing (λ a is. cc)
+    ∷ PutRow row_done ∷ EndJob 1 ∷ Send (letter 3 2 0) ∷ []) until_late release_tells run_late refl 1 Nothing
+    (λ a is. cc)
     (plain None (finish_overrun (job 1 (letter 1 1 0) 1 Ending) _ _
     (record { live = contains_head 1 (2 ∷ []); its = refl; stage_is = refl }) releases refl refl) unfailed) refl nothing
 

@@ -8,7 +8,8 @@ use Rattle.heat_plan.specs.declared.calls.Request.TheVariants as request
 
 -- its create began
 unfoldable pub begun_states : Bool → List TokenState
-begun_states called = if called then after_each (request.Create (codes "Box") (sized 1)) reply.Begun (None ∷ []) else None ∷ []
+begun_states called =
+    if called then after_each (request.Create (codes "Box") (sized 1)) reply.Begun (None ∷ []) else None ∷ []
 
 pub some_begun : (called : Bool) → begun_states called ≢ []
 unfolding begun_states
@@ -18,16 +19,28 @@ some_begun false is = cc
 -- and it became ready
 unfoldable pub ready_states : Bool → List TokenState
 unfolding begun_states
-ready_states called = if called then after_each request.Poll (reply.Ready facts) (begun_states called) else begun_states called
+ready_states called =
+    if called then after_each request.Poll (reply.Ready facts) (begun_states called) else begun_states called
 
 pub some_ready : (called : Bool) → ready_states called ≢ []
 unfolding ready_states begun_states
 some_ready true is = cc
 some_ready false is = cc
 
+-- and its facts were told again
+unfoldable pub told_states : Bool → List TokenState
+told_states called =
+    if called then after_each request.Poll (reply.Ready facts) (ready_states called) else ready_states called
+
+pub some_told : (called : Bool) → told_states called ≢ []
+unfolding told_states ready_states begun_states
+some_told true is = cc
+some_told false is = cc
+
 -- its create failed
 unfoldable pub failed_states : Bool → List TokenState
-failed_states called = if called then after_each (request.Create (codes "Box") (sized 1)) reply.Failed (None ∷ []) else None ∷ []
+failed_states called =
+    if called then after_each (request.Create (codes "Box") (sized 1)) reply.Failed (None ∷ []) else None ∷ []
 
 pub some_failed : (called : Bool) → failed_states called ≢ []
 unfolding failed_states

@@ -21,10 +21,12 @@ use Rattle.edge_laws.proofs.Keeping.{only_one}
 use Rattle.table_laws.proofs.Puts.{contains_head, contains_none}
 use Rattle.history_examples.specs.Created.{begun, stack, until_begun}
 use Rattle.history_examples.specs.FailedFirst.{fail_tells, row_failed}
-use Rattle.history_examples.specs.RolledBack.{IsRolledBack, going_back, history, one_row, rollback_tells, stack_back, updated_by_an_engine}
+use Rattle.history_examples.specs.RolledBack.{IsRolledBack, going_back, history, one_row, rollback_tells, stack_back}
+use Rattle.history_examples.specs.RolledBack.{updated_by_an_engine}
 use Rattle.history_examples.specs.Scene.{letter, opening, plan, registries, stack_name, token}
 use Rattle.history_examples.specs.Spoiled.{IsNoRun}
-use Rattle.history_examples.proofs.Created.{fail_changes, failing, run_begun}
+use Rattle.history_examples.proofs.Begun.{run_begun}
+use Rattle.history_examples.proofs.Created.{fail_changes, failing}
 use Rattle.history_examples.proofs.Finds.{each_row}
 use Rattle.history_examples.proofs.Lists.{lists_one, one_sorted}
 use Rattle.history_examples.proofs.Possible.{failed_states, some_failed}
@@ -52,8 +54,10 @@ lays = record {
   standing = row_failed ∷ [];
   standing_are = record {
     rising = λ i j d lt within. absurd (omega (arith, lt, within));
-    each = λ n q found its. each_row (Contains (row_failed ∷ [])) (row_failed ∷ []) (contains_head row_failed [], tt) n q found;
-    only = λ q c. subst (λ (x : Row). (row_at (row_failed ∷ []) x.no ≡ Some x) × (x.stack ≡ stack_name)) (only_one row_failed q c) (refl, refl);
+    each = λ n q found its. each_row (Contains (row_failed ∷ [])) (row_failed ∷ []) (contains_head row_failed [], tt) n
+        q found;
+    only = λ q c. subst (λ (x : Row). (row_at (row_failed ∷ []) x.no ≡ Some x) × (x.stack ≡ stack_name))
+        (only_one row_failed q c) (refl, refl);
   };
   graph = one_row;
   built = record {
@@ -87,7 +91,8 @@ rolls_back = rolls (stack InProgress) fail_changes back_changes fail_tells rollb
 
 run_back : Run registries opening.state going_back history
 unfolding at put cut
-run_back = by_call (begun true) going_back (fail_changes ++ back_changes) (until_begun true) (fail_tells ++ rollback_tells) (run_begun true) refl
+run_back = by_call (begun true) going_back (fail_changes ++ back_changes) (until_begun true)
+    (fail_tells ++ rollback_tells) (run_begun true) refl
     1 reply.Failed (fail_changes ++ back_changes) (fail_tells ++ rollback_tells) rolls_back rolls_back refl
 
 main_theorem : Headline registries opening history going_back

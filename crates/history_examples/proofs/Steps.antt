@@ -16,20 +16,26 @@ use Rattle.history_examples.specs.Scene.{opening, registries, unjudged}
 use Rattle.history_examples.proofs.Worn.{all_small, unworn}
 use Rattle.heat_plan.specs.declared.calls.Answered.TheVariants as reply
 
-module _ (mid last : StateData) (cs : List Change) (before after : List Entry) (run : Run registries opening.state mid before)
+module _ (mid last : StateData) (cs : List Change) (before after : List Entry)
+    (run : Run registries opening.state mid before)
     (is : last ≡ applied cs mid) where
   pub by_command : Command mid cs after → all_small cs ≡ true → Run registries opening.state last (before ++ after)
   by_command it fits =
-      goes_on unjudged mid last cs before after _ run (command it (unworn cs fits)) (contains_head unjudged []) tt is refl
+      goes_on unjudged mid last cs before after _ run (command it (unworn cs fits)) (contains_head unjudged []) tt is
+      refl
 
   -- a turn that is given no answer
-  pub by_turn : (e : ℕ) (given : Given) → ((a : Answered) → given ≢ Answer a) → Turn mid e given cs after → all_small cs ≡ true
+  pub by_turn : (e : ℕ) (given : Given) → ((a : Answered) → given ≢ Answer a) → Turn mid e given cs after
+      → all_small cs ≡ true
       → IsTied unjudged mid e given → Run registries opening.state last (before ++ after)
   by_turn e given silent it fits tied = goes_on unjudged mid last cs before after _ run
-      (turn e given it (quiet_not_worn mid e given cs after silent it (unworn cs fits))) (contains_head unjudged []) tied is refl
+      (turn e given it (quiet_not_worn mid e given cs after silent it (unworn cs fits))) (contains_head unjudged [])
+      tied is refl
 
   -- a turn that is given one, and what it would do if the call failed
   pub by_call : (e : ℕ) (a : Answered) (ds : List Change) (failed : List Entry) → Turn mid e (Answer a) cs after
-      → Turn mid e (Answer reply.Failed) ds failed → all_small ds ≡ true → Run registries opening.state last (before ++ after)
+      → Turn mid e (Answer reply.Failed) ds failed → all_small ds ≡ true → Run registries opening.state last
+      (before ++ after)
   by_call e a ds failed it other fits = goes_on unjudged mid last cs before after _ run
-      (turn e (Answer a) it (call_not_worn mid e ds failed other (unworn ds fits) a)) (contains_head unjudged []) (answer a) is refl
+      (turn e (Answer a) it (call_not_worn mid e ds failed other (unworn ds fits) a)) (contains_head unjudged [])
+      (answer a) is refl

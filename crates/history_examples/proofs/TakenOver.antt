@@ -27,9 +27,12 @@ use Rattle.table_laws.proofs.Puts.{contains_head, contains_none}
 use Rattle.table_laws.proofs.Rows.{job-key, letter-key}
 use Rattle.history_examples.specs.Created.{asked, graph, point, stack, until_asked}
 use Rattle.history_examples.specs.FirstRow.{row_begun}
-use Rattle.history_examples.specs.Scene.{item, item_name, job, letter, living, opening, registries, sized, token, unjudged}
+use Rattle.history_examples.specs.Scene.{item, item_name, job, letter, living, opening, registries, sized, token}
+use Rattle.history_examples.specs.Scene.{unjudged}
 use Rattle.history_examples.specs.Spoiled.{IsNoRun}
-use Rattle.history_examples.specs.TakenOver.{IsTakenOver, history, keep_tells, kept, purged_at_the_take_over, relay_tells, relayed, resume_tells, resumed, row_free, row_kept, stop_tells, stopped, until_kept, until_relayed, until_stopped}
+use Rattle.history_examples.specs.TakenOver.{IsTakenOver, history, keep_tells, kept, purged_at_the_take_over}
+use Rattle.history_examples.specs.TakenOver.{relay_tells, relayed, resume_tells, resumed, row_free, row_kept}
+use Rattle.history_examples.specs.TakenOver.{stop_tells, stopped, until_kept, until_relayed, until_stopped}
 use Rattle.history_examples.proofs.Created.{run_asked}
 use Rattle.history_examples.proofs.Finds.{each_job, each_letter}
 use Rattle.history_examples.proofs.Lists.{not_done, requires_none}
@@ -74,7 +77,8 @@ run_relayed : Run registries opening.state relayed until_relayed
 unfolding at put cut relays
 run_relayed = by_turn stopped relayed
     (change_to.Numbers (record { stack = 2; trav = 2; row = 2; engine = 3; letter = 3 })
-    ∷ PutRow row_free ∷ EndJob 1 ∷ Send (letter 2 1 0) ∷ []) until_stopped relay_tells run_stopped refl 2 Nothing (λ a is. cc)
+    ∷ PutRow row_free ∷ EndJob 1 ∷ Send (letter 2 1 0) ∷ []) until_stopped relay_tells run_stopped refl 2 Nothing
+    (λ a is. cc)
     (plain None (takeover_fresh 1 relays _ _ refl refl) unfailed) refl nothing
 
 -- it takes the letter
@@ -111,9 +115,11 @@ takes = record {
 
 run_kept : Run registries opening.state kept until_kept
 unfolding at put cut takes fresh
-run_kept = by_turn relayed kept (PutRow row_kept ∷ Drop 2 ∷ PutJob (job 2 (letter 2 1 0) 1 Taken) ∷ []) until_relayed keep_tells
+run_kept = by_turn relayed kept (PutRow row_kept ∷ Drop 2 ∷ PutJob (job 2 (letter 2 1 0) 1 Taken) ∷ []) until_relayed
+    keep_tells
     run_relayed refl 2 Nothing (λ a is. cc)
-    (plain None (take_free takes _ _ (λ g j at_g. each_job (λ j. j.row ≢ 1) [] tt g j at_g) refl refl) unfailed) refl nothing
+    (plain None (take_free takes _ _ (λ g j at_g. each_job (λ j. j.row ≢ 1) [] tt g j at_g) refl refl) unfailed) refl
+    nothing
 
 -- and goes on with the row
 begins_ : Begins kept 2

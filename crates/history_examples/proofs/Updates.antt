@@ -1,5 +1,7 @@
--- An update over one row, its take and the row's replacement, whatever the row: `run_updated`, `run_retaken`, `run_replaced`.
-use Rattle.std.proofs.Common.{Bool, List, None, Option, Some, [], arith, false, inr, refl, subst, sym, true, zero, suc, ℕ, ◌+◌, ◌∷◌, ◌≡◌, ◌≢◌}
+-- An update over one row, its take and the row's replacement, whatever the row: `run_updated`, `run_retaken`,
+-- `run_replaced`.
+use Rattle.std.proofs.Common.{Bool, List, None, Option, Some, [], arith, false, inr, refl, subst, sym, true, zero, suc}
+use Rattle.std.proofs.Common.{ℕ, ◌+◌, ◌∷◌, ◌≡◌, ◌≢◌}
 use Rattle.std.specs.Prelude.{Contains, ltb, ◌++◌, ◌^◌}
 use Rattle.heat_value.specs.Data.{Members}
 use Rattle.heat_plan.specs.Plans.{PlanData}
@@ -42,7 +44,8 @@ use Rattle.table_laws.proofs.Rows.{letter-key, row-key, same_some}
 use Rattle.history_examples.specs.Created.{commanded, graph, past, stack}
 use Rattle.history_examples.specs.FirstRow.{row_made}
 use Rattle.history_examples.specs.Scene.{item, item_name, job, letter, opening, plan, registries, sized, stack_name}
-use Rattle.history_examples.specs.Updates.{again, graph_two, left, open_point, replace_tells, replaced, retake_tells, retaken, row_two, stack_two, two_nodes, update_tells, updated}
+use Rattle.history_examples.specs.Updates.{again, graph_two, left, open_point, replace_tells, replaced, retake_tells}
+use Rattle.history_examples.specs.Updates.{retaken, row_two, stack_two, two_nodes, update_tells, updated}
 use Rattle.history_examples.proofs.Finds.{each_job, each_letter, each_row}
 use Rattle.history_examples.proofs.Lists.{lists_one, no_path, not_done, one_sorted, requires_none}
 use Rattle.history_examples.proofs.Plans.{one_is_plan}
@@ -81,7 +84,13 @@ module _ (a : Act) (kept : a ≢ Delete) (status : Status) (p : Members) (f : Op
   -- before the command
   module _ (mark : Status) (done : Bool) (jobs : List Job) (size : ℕ) where
     abbrev before : StateData
-    before = record (commanded false) { stacks = stack mark ∷ []; graphs = graph done ∷ []; rows = r ∷ []; letters = []; jobs = jobs }
+    before = record (commanded false) {
+      stacks = stack mark ∷ [];
+      graphs = graph done ∷ [];
+      rows = r ∷ [];
+      letters = [];
+      jobs = jobs;
+    }
 
     lays : Lays before stack_name (plan size).items
     unfolding at
@@ -93,7 +102,8 @@ module _ (a : Act) (kept : a ≢ Delete) (status : Status) (p : Members) (f : Op
       standing_are = record {
         rising = λ i j d lt within. absurd (omega (arith, lt, within));
         each = λ n q found its. each_row (Contains (r ∷ [])) (r ∷ []) (contains_head r [], tt) n q found;
-        only = λ q c. subst (λ (x : Row). (row_at (r ∷ []) x.no ≡ Some x) × (x.stack ≡ stack_name)) (only_one r q c) (refl, refl);
+        only = λ q c. subst (λ (x : Row). (row_at (r ∷ []) x.no ≡ Some x) × (x.stack ≡ stack_name)) (only_one r q c)
+            (refl, refl);
       };
       graph = two_nodes;
       built = record {
@@ -115,12 +125,15 @@ module _ (a : Act) (kept : a ≢ Delete) (status : Status) (p : Members) (f : Op
 
     updating : Command before update_changes (update_tells size)
     unfolding at lays
-    updating = update (stack mark) (plan size) false lays (one_is_plan (item size) refl) refl (λ is. cc) (omega arith) refl refl
+    updating = update (stack mark) (plan size) false lays (one_is_plan (item size) refl) refl (λ is. cc)
+        (omega arith) refl refl
 
     pub run_updated : (h : List Entry) → Run registries opening.state before h
-        → Run registries opening.state (updated size (back_after (stack mark) (past false)) r jobs) (h ++ update_tells size)
+        → Run registries opening.state (updated size (back_after (stack mark) (past false)) r jobs)
+        (h ++ update_tells size)
     unfolding at put
-    run_updated h run = by_command before (updated size (back_after (stack mark) (past false)) r jobs) update_changes h (update_tells size)
+    run_updated h run = by_command before (updated size (back_after (stack mark) (past false)) r jobs) update_changes h
+        (update_tells size)
         run refl updating refl
 
   -- behind it
@@ -138,29 +151,32 @@ module _ (a : Act) (kept : a ≢ Delete) (status : Status) (p : Members) (f : Op
     }
 
     -- a job of the first traversal is overrun
-    pub overrun : (jobs : List Job) (stage : Stage) → IsOverrun (updated size back r jobs) (job 1 (letter 1 1 0) 1 stage)
+    pub overrun : (jobs : List Job) (stage : Stage) → IsOverrun (updated size back r jobs)
+        (job 1 (letter 1 1 0) 1 stage)
     unfolding at
     overrun jobs stage x =
-        let is : stack_two size InProgress ≡ x.stack = same_some (stack_two size InProgress) x.stack refl x.names.in_table in
+        let is : stack_two size InProgress ≡ x.stack =
+        same_some (stack_two size InProgress) x.stack refl x.names.in_table in
         let trav : 2 ≡ 1 = subst (λ (y : Stack). y.trav ≡ 1) (sym is) x.names.newest in
         omega (arith, trav)
 
     -- and whoever waits for the row is told again
     pub told_again : (jobs : List Job) → Resends (updated size back r jobs) stack_name 1 (letter 3 2 0 ∷ [])
     unfolding at
-    told_again jobs = tell.update (stack_two size InProgress) graph_two 0 (record { in_table = refl; its_graph = refl }) (record {
-      is = record {
-        name = item_name;
-        chosen = 1;
-        node = refl;
-        to = of_u item_name 1 1 (ends 1 r refl (λ m q is lt found. cc));
-        open_ = record {
-          ready = λ b edge. let is = (last_is (0, 1) (b, 0) edge).1 in absurd (omega (arith, is));
-          undone = λ d. not_done (open_point 0) d.point refl d.there d.done;
-        };
-      };
-      least = λ other it. omega arith;
-    })
+    told_again jobs = tell.update (stack_two size InProgress) graph_two 0 (record { in_table = refl; its_graph = refl })
+        (record {
+          is = record {
+            name = item_name;
+            chosen = 1;
+            node = refl;
+            to = of_u item_name 1 1 (ends 1 r refl (λ m q is lt found. cc));
+            open_ = record {
+              ready = λ b edge. let is = (last_is (0, 1) (b, 0) edge).1 in absurd (omega (arith, is));
+              undone = λ d. not_done (open_point 0) d.point refl d.there d.done;
+            };
+          };
+          least = λ other it. omega arith;
+        })
 
     takes : Takes (updated size back r []) 1
     unfolding at fresh
@@ -181,12 +197,15 @@ module _ (a : Act) (kept : a ≢ Delete) (status : Status) (p : Members) (f : Op
       open_ = λ d. not_done (open_point 0) d.point refl d.there d.done;
     }
 
-    pub run_retaken : (h : List Entry) → ltb (k + 1) (2 ^ 62) ≡ true → Run registries opening.state (updated size back r []) h
+    pub run_retaken : (h : List Entry) → ltb (k + 1) (2 ^ 62) ≡ true
+        → Run registries opening.state (updated size back r []) h
         → Run registries opening.state (retaken size back r) (h ++ retake_tells r)
     unfolding at put cut takes fresh
     run_retaken h small run = by_turn (updated size back r []) (retaken size back r)
-        (PutRow (again r) ∷ Drop 2 ∷ PutJob (job 1 (letter 2 2 0) 1 Taken) ∷ []) h (retake_tells r) run refl 1 Nothing (λ x is. cc)
-        (plain None (take_free takes _ _ (λ g j at_g. each_job (λ j. j.row ≢ 1) [] tt g j at_g) refl refl) unfailed) (rw small refl)
+        (PutRow (again r) ∷ Drop 2 ∷ PutJob (job 1 (letter 2 2 0) 1 Taken) ∷ []) h (retake_tells r) run refl 1 Nothing
+        (λ x is. cc)
+        (plain None (take_free takes _ _ (λ g j at_g. each_job (λ j. j.row ≢ 1) [] tt g j at_g) refl refl) unfailed)
+        (rw small refl)
         nothing
 
     begins_ : Begins (retaken size back r) 1
@@ -210,12 +229,17 @@ module _ (a : Act) (kept : a ≢ Delete) (status : Status) (p : Members) (f : Op
       requires_are = requires_none;
     }
 
-    pub run_replaced : (h : List Entry) (effect : Effect) → a ≢ Init → MustGo (again r) (item size) 2 (sized size) effect
-        → ChangeOf [] p (sized size) effect → ltb (k + 1 + 1) (2 ^ 62) ≡ true → Run registries opening.state (retaken size back r) h
+    pub run_replaced : (h : List Entry) (effect : Effect) → a ≢ Init → MustGo (again r) (item size) 2
+        (sized size) effect
+        → ChangeOf [] p (sized size) effect → ltb (k + 1 + 1) (2 ^ 62) ≡ true
+        → Run registries opening.state (retaken size back r) h
         → Run registries opening.state (replaced size back r) (h ++ replace_tells size r)
     unfolding at put cut begins_ resolve
     run_replaced h effect begun go change small run = by_turn (retaken size back r) (replaced size back r)
         (change_to.Numbers (record { stack = 2; trav = 3; row = 3; engine = 3; letter = 3 })
-        ∷ PutRow (row_two size) ∷ PutRow (left r) ∷ PutJob (job 1 (letter 2 2 0) 2 Asking) ∷ []) h (replace_tells size r) run refl
-        1 (Prepared (sized size) effect) (λ x is. cc) (plain None (begin_replaced begins_ (sized size) effect _ _ begun go refl refl) unfailed)
-        (rw small refl) (props begins_ (sized size) effect (record { known = []; known_are = input.none; result_is = refl }) change)
+        ∷ PutRow (row_two size) ∷ PutRow (left r) ∷ PutJob (job 1 (letter 2 2 0) 2 Asking) ∷ []) h
+        (replace_tells size r) run refl
+        1 (Prepared (sized size) effect) (λ x is. cc)
+        (plain None (begin_replaced begins_ (sized size) effect _ _ begun go refl refl) unfailed)
+        (rw small refl)
+        (props begins_ (sized size) effect (record { known = []; known_are = input.none; result_is = refl }) change)

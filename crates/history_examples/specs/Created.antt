@@ -22,7 +22,8 @@ use Rattle.history.specs.Marked.{Completed, mark_of}
 use Rattle.history.specs.Stored.{stored}
 use Rattle.soundness.specs.Headline.{Headline}
 use Rattle.history_examples.specs.FirstRow.{row_begun, row_done, row_made, row_ready, row_taken}
-use Rattle.history_examples.specs.Scene.{facts, item_name, job, letter, living, mail_writes, opening, plan, registries, row_writes, says, sized, stack_name, token}
+use Rattle.history_examples.specs.Scene.{facts, item_name, job, letter, living, mail_writes, opening, plan, registries}
+use Rattle.history_examples.specs.Scene.{row_writes, says, sized, stack_name, token}
 use Rattle.heat_plan.specs.declared.calls.Answered.TheVariants as answer
 use Rattle.heat_plan.specs.declared.calls.Request.TheVariants as request
 use Rattle.core_state.specs.declared.entry.What.TheVariants as what
@@ -58,7 +59,8 @@ commanded rollback = record {
 }
 
 abbrev pub taken : Bool → StateData
-taken rollback = record (commanded rollback) { rows = row_taken ∷ []; letters = []; jobs = job 1 (letter 1 1 0) 1 Taken ∷ [] }
+taken rollback =
+    record (commanded rollback) { rows = row_taken ∷ []; letters = []; jobs = job 1 (letter 1 1 0) 1 Taken ∷ [] }
 
 abbrev pub begun : Bool → StateData
 begun rollback = record (taken rollback) { rows = row_begun ∷ []; jobs = job 1 (letter 1 1 0) 1 Asking ∷ [] }
@@ -70,7 +72,8 @@ abbrev pub ready : Bool → StateData
 ready rollback = record (asked rollback) { rows = row_ready ∷ []; jobs = job 1 (letter 1 1 0) 1 Ending ∷ [] }
 
 abbrev pub created : Bool → StateData
-created rollback = record (ready rollback) { stacks = stack Complete ∷ []; graphs = graph true ∷ []; rows = row_done ∷ []; jobs = [] }
+created rollback =
+    record (ready rollback) { stacks = stack Complete ∷ []; graphs = graph true ∷ []; rows = row_done ∷ []; jobs = [] }
 
 -- what each step tells
 abbrev pub command_tells : Bool → List Entry
@@ -81,7 +84,8 @@ command_tells rollback =
     ∷ []
 
 abbrev pub take_tells : List Entry
-take_tells = row_writes 1 (Set row_taken ∷ []) ∷ mail_writes 1 (Dropped 1 ∷ Held (job 1 (letter 1 1 0) 1 Taken) ∷ []) ∷ []
+take_tells = row_writes 1 (Set row_taken ∷ []) ∷ mail_writes 1 (Dropped 1 ∷ Held (job 1 (letter 1 1 0) 1 Taken) ∷ [])
+    ∷ []
 
 abbrev pub begin_tells : List Entry
 begin_tells = row_writes 1 (Set row_begun ∷ []) ∷ mail_writes 1 (Held (job 1 (letter 1 1 0) 1 Asking) ∷ []) ∷ []

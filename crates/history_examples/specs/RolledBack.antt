@@ -19,13 +19,21 @@ use Rattle.history.specs.Stored.{stored}
 use Rattle.soundness.specs.Headline.{Headline}
 use Rattle.history_examples.specs.Created.{begun, until_begun}
 use Rattle.history_examples.specs.FailedFirst.{fail_tells, row_failed}
-use Rattle.history_examples.specs.Scene.{letter, living, mail_writes, opening, plan, registries, says, stack_name, token}
+use Rattle.history_examples.specs.Scene.{letter, living, mail_writes, opening, plan, registries, says, stack_name}
+use Rattle.history_examples.specs.Scene.{token}
 use Rattle.history_examples.specs.Updates.{open_point}
 use Rattle.core_state.specs.declared.entry.What.TheVariants as what
 
 -- the second traversal: the failed row is to be cleaned up
 abbrev pub stack_back : Stack
-stack_back = record { name = stack_name; no = 1; trav = 2; act = Rollback; status = InProgress; plan = Some (plan_of None) }
+stack_back = record {
+  name = stack_name;
+  no = 1;
+  trav = 2;
+  act = Rollback;
+  status = InProgress;
+  plan = Some (plan_of None);
+}
 
 abbrev pub one_row : TravGraph
 one_row = record { nodes = C 1 ∷ []; edges = [] }
@@ -57,7 +65,8 @@ history = until_begun true ++ (fail_tells ++ rollback_tells)
 pub record IsRolledBack : Type 0 where
   pub run : Run registries opening.state going_back history
   pub headline : Headline registries opening history going_back
-  pub traversal : newest opening history stack_name ≡ Some (record { trav = 2; act = Rollback; plan = Some (plan_of None) })
+  pub traversal : newest opening history stack_name ≡ Some
+      (record { trav = 2; act = Rollback; plan = Some (plan_of None) })
   pub mark : mark_of opening history stack_name ≡ Some Unmarked
   pub alive : could_of opening history (token 1) ≡ None ∷ Some (living 1 None) ∷ []
   pub rows : stored opening history ≡ row_failed ∷ []

@@ -4,12 +4,15 @@ use Rattle.heat_plan.specs.declared.phase.Act.TheVariants.{Create}
 use Rattle.core_state.specs.State.{StateData}
 use Rattle.core_state.specs.declared.entry.Actor.TheVariants.{Engine}
 use Rattle.core_state.specs.declared.entry.Entry.{Entry}
+use Rattle.core_state.specs.declared.entry.RowWrite.TheVariants.{Purge}
 use Rattle.step_relation.specs.Runs.{Judges, Run}
 use Rattle.history.specs.Could.{IsPossible}
 use Rattle.soundness.specs.Headline.{Headline}
-use Rattle.history_examples.specs.Created.{until_asked}
-use Rattle.history_examples.specs.Scene.{opening, says, stack_name}
+use Rattle.history_examples.specs.Created.{history, until_asked}
+use Rattle.history_examples.specs.Scene.{facts, opening, row_writes, says, stack_name, token}
 use Rattle.core_state.specs.declared.entry.What.TheVariants as what
+use Rattle.heat_plan.specs.declared.calls.Answered.TheVariants as answer
+use Rattle.heat_plan.specs.declared.calls.Request.TheVariants as request
 
 -- a run from the opening has the main theorem, where the answers are ones that a provider gives
 abbrev pub RunsHaveHeadline : Type 0
@@ -26,3 +29,19 @@ pub record IsNoRun (h : List Entry) : Type 0 where
 -- the create is marked complete while the cloud was only asked: what is alive has no facts yet
 abbrev pub marked_before_ready : List Entry
 marked_before_ready = until_asked false ++ says (Engine 1) (what.Mark stack_name 1 Create None) ∷ []
+
+-- it is marked a second time
+abbrev pub marked_twice : List Entry
+marked_twice = history ++ says (Engine 1) (what.Mark stack_name 1 Create None) ∷ []
+
+-- the cloud is asked again, though the stack is complete
+abbrev pub called_when_complete : List Entry
+called_when_complete = history ++ says (Engine 1) (what.Call (token 1) request.Poll (answer.Ready facts)) ∷ []
+
+-- the row goes, though its resource is alive
+abbrev pub purged_while_alive : List Entry
+purged_while_alive = history ++ row_writes 1 (Purge 1 ∷ []) ∷ []
+
+-- the resource is given up, though its policy isn't Retain
+abbrev pub released_without_retain : List Entry
+released_without_retain = history ++ says (Engine 1) (what.Release (token 1)) ∷ []

@@ -23,7 +23,8 @@ use Rattle.core_state.specs.declared.entry.What.TheVariants as what
 
 -- the second traversal: its update node, and behind it the clean-up node of the row that stood
 abbrev pub stack_two : ℕ → Status → Stack
-stack_two size status = record { name = stack_name; no = 1; trav = 2; act = Update; status = status; plan = Some (plan size) }
+stack_two size status =
+    record { name = stack_name; no = 1; trav = 2; act = Update; status = status; plan = Some (plan size) }
 
 abbrev pub two_nodes : TravGraph
 two_nodes = record { nodes = U item_name 1 ∷ C 1 ∷ []; edges = (0, 1) ∷ [] }

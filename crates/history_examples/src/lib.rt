@@ -7,7 +7,7 @@ ghost use Rattle.history_examples.specs.DeletedHalfway.{IsDeletedHalfway, marked
 ghost use Rattle.history_examples.specs.FailedFirst.{IsUpdatedAfterFailure, asked_of_what_may_be_absent};
 ghost use Rattle.history_examples.specs.Overtaken.{IsOvertaken, marked_though_overtaken};
 ghost use Rattle.history_examples.specs.RolledBack.{IsRolledBack, updated_by_an_engine};
-ghost use Rattle.history_examples.specs.Spoiled.{IsNoRun, RunsHaveHeadline, marked_before_ready};
+ghost use Rattle.history_examples.specs.Spoiled.{IsNoRun, RunsHaveHeadline, called_when_complete, marked_before_ready, marked_twice, purged_while_alive, released_without_retain};
 ghost use Rattle.history_examples.specs.TakenOver.{IsTakenOver, purged_at_the_take_over};
 
 /// A run from the opening of the examples has the main theorem, where its answers are a provider's.
@@ -23,6 +23,26 @@ pub fn a_stack_is_created()
 /// No run marks it complete before the cloud says that the resource is ready.
 pub fn none_is_marked_before_ready()
     ensures { IsNoRun marked_before_ready }
+{}
+
+/// No run marks it a second time.
+pub fn none_is_marked_twice()
+    ensures { IsNoRun marked_twice }
+{}
+
+/// No run asks the cloud anything for a stack that is complete.
+pub fn none_is_called_when_complete()
+    ensures { IsNoRun called_when_complete }
+{}
+
+/// No run purges the row whose resource is alive.
+pub fn none_is_purged_while_alive()
+    ensures { IsNoRun purged_while_alive }
+{}
+
+/// No run gives a resource up whose policy isn't Retain.
+pub fn none_is_released_without_retain()
+    ensures { IsNoRun released_without_retain }
 {}
 
 /// An update overtakes the create between ask and poll: the old job ends, and the new traversal is told.
