@@ -13,3 +13,5 @@ pub mod TakenOver
 pub mod FailedFirst
 pub mod DeletedHalfway
 pub mod RolledBack
+pub mod Replaced
+pub mod Completed

@@ -85,7 +85,7 @@ releases = record {
       (job 1 (letter 1 1 0) 1 Ending ∷ []);
 }
 
-run_freed : Run registries opening.state freed history
+pub run_freed : Run registries opening.state freed history
 unfolding at put cut releases
 run_freed = by_turn late freed
     (change_to.Numbers (record { stack = 2; trav = 3; row = 2; engine = 3; letter = 4 })

@@ -2,6 +2,7 @@
 use Rattle.std.proofs.Common.{Bool, List, None, [], false, true, ◌∷◌, ◌≢◌}
 use Rattle.std.specs.Prelude.{codes, if◌then◌else◌}
 use Rattle.provider.specs.Table.{TokenState, after_each}
+use Rattle.history_examples.specs.Completed.{facts_two}
 use Rattle.history_examples.specs.Scene.{facts, sized}
 use Rattle.heat_plan.specs.declared.calls.Answered.TheVariants as reply
 use Rattle.heat_plan.specs.declared.calls.Request.TheVariants as request
@@ -56,3 +57,33 @@ pub some_updated : (called : Bool) → updated_states called ≢ []
 unfolding updated_states failed_states
 some_updated true is = cc
 some_updated false is = cc
+
+-- the second row's create began, and it became ready
+unfoldable pub made_states : Bool → Bool → List TokenState
+made_states first second =
+    if second then after_each request.Poll (reply.Ready facts_two)
+    (if second then after_each (request.Create (codes "Box") (sized 2)) reply.Begun (ready_states first) else
+    ready_states first)
+    else (if second then after_each (request.Create (codes "Box") (sized 2)) reply.Begun (ready_states first) else
+    ready_states first)
+
+pub some_made : (first second : Bool) → made_states first second ≢ []
+unfolding made_states ready_states begun_states
+some_made true true is = cc
+some_made true false is = cc
+some_made false true is = cc
+some_made false false is = cc
+
+-- and the first one's delete began, and it is gone
+unfoldable pub gone_states : Bool → Bool → List TokenState
+gone_states first second =
+    if first then after_each request.Gone reply.Gone
+    (if first then after_each request.Delete reply.Begun (made_states first second) else made_states first second)
+    else (if first then after_each request.Delete reply.Begun (made_states first second) else made_states first second)
+
+pub some_gone : (first second : Bool) → gone_states first second ≢ []
+unfolding gone_states made_states ready_states begun_states
+some_gone true true is = cc
+some_gone true false is = cc
+some_gone false true is = cc
+some_gone false false is = cc

@@ -8,3 +8,4 @@ pub mod TakenOver
 pub mod FailedFirst
 pub mod DeletedHalfway
 pub mod RolledBack
+pub mod Completed

@@ -2,6 +2,7 @@
 //! here is run: each function has an empty body and stands for its clause.
 #![tactic(auto)]
 
+ghost use Rattle.history_examples.specs.Completed.{IsCompleted, complete_before_clean_up};
 ghost use Rattle.history_examples.specs.Created.{IsCreated};
 ghost use Rattle.history_examples.specs.DeletedHalfway.{IsDeletedHalfway, marked_while_alive};
 ghost use Rattle.history_examples.specs.FailedFirst.{IsUpdatedAfterFailure, asked_of_what_may_be_absent};
@@ -53,6 +54,16 @@ pub fn an_update_overtakes()
 /// No run marks the overtaken traversal.
 pub fn no_overtaken_traversal_is_marked()
     ensures { IsNoRun marked_though_overtaken }
+{}
+
+/// The update that overtook goes on: the row is replaced, the old one cleaned up, and then the mark comes.
+pub fn an_overtaking_update_is_completed()
+    ensures { IsCompleted }
+{}
+
+/// No run marks it before the clean-up, while two resources are alive under one name.
+pub fn none_is_complete_before_clean_up()
+    ensures { IsNoRun complete_before_clean_up }
 {}
 
 /// Another engine takes a stopped one's job over, and goes on with its row.
