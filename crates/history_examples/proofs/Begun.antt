@@ -31,8 +31,8 @@ use Rattle.table_laws.proofs.Rows.{letter-key}
 use Rattle.history_examples.specs.Created.{begin_tells, begun, command_tells, commanded, graph, one_node, past, point}
 use Rattle.history_examples.specs.Created.{stack, take_tells, taken, until_begun, until_taken}
 use Rattle.history_examples.specs.FirstRow.{row_begun, row_made, row_taken}
-use Rattle.history_examples.specs.Scene.{item, item_name, job, letter, opening, plan, registries, sized, stack_name}
-use Rattle.history_examples.specs.Scene.{unjudged}
+use Rattle.history_examples.specs.Setting.{item, item_name, job, letter, opening, plan, registries, sized, stack_name}
+use Rattle.history_examples.specs.Setting.{unjudged}
 use Rattle.history_examples.proofs.Finds.{each_job, each_letter}
 use Rattle.history_examples.proofs.Lists.{lists_one, not_done, requires_none}
 use Rattle.history_examples.proofs.Plans.{one_is_plan}

@@ -42,8 +42,9 @@ use Rattle.history_examples.specs.Completed.{going, going_tells, gone, gone_tell
 use Rattle.history_examples.specs.Completed.{made, row_held, row_leaving, row_made, row_old, second_done, second_ready}
 use Rattle.history_examples.specs.Completed.{until_cleaning, until_dropped, until_going, until_gone, until_leaving}
 use Rattle.history_examples.specs.Completed.{until_made}
-use Rattle.history_examples.specs.Scene.{facts, item, item_name, letter, living, opening, plan, registries, stack_name}
-use Rattle.history_examples.specs.Scene.{token}
+use Rattle.history_examples.specs.Setting.{facts, item, item_name, letter, living, opening, plan, registries}
+use Rattle.history_examples.specs.Setting.{stack_name}
+use Rattle.history_examples.specs.Setting.{token}
 use Rattle.history_examples.specs.Spoiled.{IsNoRun}
 use Rattle.history_examples.specs.Updates.{stack_two}
 use Rattle.history_examples.proofs.Finds.{each_job, each_letter}

@@ -29,8 +29,8 @@ use Rattle.history_examples.specs.Created.{IsCreated, ask_tells, asked, begun, c
 use Rattle.history_examples.specs.Created.{point, poll_tells, ready, stack, until_asked, until_begun}
 use Rattle.history_examples.specs.FailedFirst.{fail_tells}
 use Rattle.history_examples.specs.FirstRow.{row_begun, row_done, row_ready}
-use Rattle.history_examples.specs.Scene.{facts, item, item_name, job, letter, opening, plan, registries, sized}
-use Rattle.history_examples.specs.Scene.{stack_name, token}
+use Rattle.history_examples.specs.Setting.{facts, item, item_name, job, letter, opening, plan, registries, sized}
+use Rattle.history_examples.specs.Setting.{stack_name, token}
 use Rattle.history_examples.proofs.Begun.{run_begun}
 use Rattle.history_examples.proofs.Lists.{lists_none}
 use Rattle.history_examples.proofs.Possible.{begun_states, ready_states, some_ready}

@@ -26,7 +26,7 @@ use Rattle.history_examples.specs.DeletedHalfway.{IsDeletedHalfway, delete_tells
 use Rattle.history_examples.specs.DeletedHalfway.{marked_while_alive, stack_three, two_rows, until_halfway}
 use Rattle.history_examples.specs.DeletedHalfway.{until_retaken, until_updated}
 use Rattle.history_examples.specs.FirstRow.{row_done}
-use Rattle.history_examples.specs.Scene.{facts, letter, living, opening, plan, registries, sized, stack_name, token}
+use Rattle.history_examples.specs.Setting.{facts, letter, living, opening, plan, registries, sized, stack_name, token}
 use Rattle.history_examples.specs.Spoiled.{IsNoRun}
 use Rattle.history_examples.specs.Updates.{left, retaken, row_two, stack_two, updated}
 use Rattle.history_examples.proofs.Created.{run_created}

@@ -15,7 +15,7 @@ use Rattle.soundness.specs.Headline.{Headline, MayBeAsked, update}
 use Rattle.history_examples.specs.Created.{begun, until_begun}
 use Rattle.history_examples.specs.FailedFirst.{IsUpdatedAfterFailure, asked_of_what_may_be_absent, fail_tells, failed}
 use Rattle.history_examples.specs.FailedFirst.{history, row_failed, until_failed, until_retaken, until_updated}
-use Rattle.history_examples.specs.Scene.{living, opening, registries, sized, token}
+use Rattle.history_examples.specs.Setting.{living, opening, registries, sized, token}
 use Rattle.history_examples.specs.Spoiled.{IsNoRun}
 use Rattle.history_examples.specs.Updates.{replaced, retaken, updated}
 use Rattle.history_examples.proofs.Begun.{run_begun}

@@ -15,3 +15,4 @@ pub mod DeletedHalfway
 pub mod RolledBack
 pub mod Replaced
 pub mod Completed
+pub mod Undone

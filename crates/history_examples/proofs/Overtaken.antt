@@ -24,7 +24,7 @@ use Rattle.history_examples.specs.Created.{poll_tells, until_asked}
 use Rattle.history_examples.specs.FirstRow.{row_begun, row_done, row_ready}
 use Rattle.history_examples.specs.Overtaken.{IsOvertaken, freed, history, late, marked_though_overtaken, overtaken}
 use Rattle.history_examples.specs.Overtaken.{release_tells, until_late}
-use Rattle.history_examples.specs.Scene.{facts, job, letter, opening, plan, registries, sized, stack_name, token}
+use Rattle.history_examples.specs.Setting.{facts, job, letter, opening, plan, registries, sized, stack_name, token}
 use Rattle.history_examples.specs.Spoiled.{IsNoRun}
 use Rattle.history_examples.specs.Updates.{update_tells}
 use Rattle.history_examples.proofs.Created.{run_asked}

@@ -3,7 +3,7 @@ use Rattle.std.proofs.Common.{Bool, List, None, [], false, true, ◌∷◌, ◌�
 use Rattle.std.specs.Prelude.{codes, if◌then◌else◌}
 use Rattle.provider.specs.Table.{TokenState, after_each}
 use Rattle.history_examples.specs.Completed.{facts_two}
-use Rattle.history_examples.specs.Scene.{facts, sized}
+use Rattle.history_examples.specs.Setting.{facts, sized}
 use Rattle.heat_plan.specs.declared.calls.Answered.TheVariants as reply
 use Rattle.heat_plan.specs.declared.calls.Request.TheVariants as request
 
@@ -87,3 +87,15 @@ some_gone true true is = cc
 some_gone true false is = cc
 some_gone false true is = cc
 some_gone false false is = cc
+
+-- the failed create's row was deleted, and it is gone
+unfoldable pub undone_states : Bool → List TokenState
+undone_states called =
+    if called then after_each request.Gone reply.Gone
+    (if called then after_each request.Delete reply.Begun (failed_states called) else failed_states called)
+    else (if called then after_each request.Delete reply.Begun (failed_states called) else failed_states called)
+
+pub some_undone : (called : Bool) → undone_states called ≢ []
+unfolding undone_states failed_states
+some_undone true is = cc
+some_undone false is = cc

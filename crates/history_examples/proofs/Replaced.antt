@@ -35,7 +35,7 @@ use Rattle.history_examples.specs.Completed.{second_ready, until_asked, until_he
 use Rattle.history_examples.specs.Completed.{until_ready, updates}
 use Rattle.history_examples.specs.FirstRow.{row_done}
 use Rattle.history_examples.specs.Overtaken.{freed, history}
-use Rattle.history_examples.specs.Scene.{item, item_name, letter, opening, registries, sized}
+use Rattle.history_examples.specs.Setting.{item, item_name, letter, opening, registries, sized}
 use Rattle.history_examples.specs.Updates.{again, graph_two, open_point, replace_tells, retake_tells, row_two}
 use Rattle.history_examples.specs.Updates.{stack_two}
 use Rattle.history_examples.proofs.Finds.{each_job, each_letter}

@@ -23,7 +23,7 @@ use Rattle.history_examples.specs.Created.{begun, stack, until_begun}
 use Rattle.history_examples.specs.FailedFirst.{fail_tells, row_failed}
 use Rattle.history_examples.specs.RolledBack.{IsRolledBack, going_back, history, one_row, rollback_tells, stack_back}
 use Rattle.history_examples.specs.RolledBack.{updated_by_an_engine}
-use Rattle.history_examples.specs.Scene.{letter, opening, plan, registries, stack_name, token}
+use Rattle.history_examples.specs.Setting.{letter, opening, plan, registries, stack_name, token}
 use Rattle.history_examples.specs.Spoiled.{IsNoRun}
 use Rattle.history_examples.proofs.Begun.{run_begun}
 use Rattle.history_examples.proofs.Created.{fail_changes, failing}
@@ -89,7 +89,7 @@ unfolding at put cut
 rolls_back = rolls (stack InProgress) fail_changes back_changes fail_tells rollback_tells
     (failing true) due follows refl refl
 
-run_back : Run registries opening.state going_back history
+pub run_back : Run registries opening.state going_back history
 unfolding at put cut
 run_back = by_call (begun true) going_back (fail_changes ++ back_changes) (until_begun true)
     (fail_tells ++ rollback_tells) (run_begun true) refl

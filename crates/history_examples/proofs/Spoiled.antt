@@ -21,7 +21,7 @@ use Rattle.table_laws.proofs.Puts.{contains_head, contains_none}
 use Rattle.table_laws.proofs.Rows.{same_some}
 use Rattle.history_examples.specs.Created.{history, until_asked}
 use Rattle.history_examples.specs.FirstRow.{row_done}
-use Rattle.history_examples.specs.Scene.{facts, item, item_name, living, opening, plan, stack_name, token}
+use Rattle.history_examples.specs.Setting.{facts, item, item_name, living, opening, plan, stack_name, token}
 use Rattle.history_examples.specs.Spoiled.{IsNoRun, RunsHaveHeadline, called_when_complete, marked_before_ready}
 use Rattle.history_examples.specs.Spoiled.{marked_twice, purged_while_alive, released_without_retain}
 use Rattle.history_examples.proofs.Possible.{begun_states, ready_states, some_begun, some_ready, some_told, told_states}

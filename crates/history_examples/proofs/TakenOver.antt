@@ -27,8 +27,8 @@ use Rattle.table_laws.proofs.Puts.{contains_head, contains_none}
 use Rattle.table_laws.proofs.Rows.{job-key, letter-key}
 use Rattle.history_examples.specs.Created.{asked, graph, point, stack, until_asked}
 use Rattle.history_examples.specs.FirstRow.{row_begun}
-use Rattle.history_examples.specs.Scene.{item, item_name, job, letter, living, opening, registries, sized, token}
-use Rattle.history_examples.specs.Scene.{unjudged}
+use Rattle.history_examples.specs.Setting.{item, item_name, job, letter, living, opening, registries, sized, token}
+use Rattle.history_examples.specs.Setting.{unjudged}
 use Rattle.history_examples.specs.Spoiled.{IsNoRun}
 use Rattle.history_examples.specs.TakenOver.{IsTakenOver, history, keep_tells, kept, purged_at_the_take_over}
 use Rattle.history_examples.specs.TakenOver.{relay_tells, relayed, resume_tells, resumed, row_free, row_kept}

@@ -43,7 +43,7 @@ use Rattle.table_laws.proofs.Puts.{contains_head}
 use Rattle.table_laws.proofs.Rows.{letter-key, row-key, same_some}
 use Rattle.history_examples.specs.Created.{commanded, graph, past, stack}
 use Rattle.history_examples.specs.FirstRow.{row_made}
-use Rattle.history_examples.specs.Scene.{item, item_name, job, letter, opening, plan, registries, sized, stack_name}
+use Rattle.history_examples.specs.Setting.{item, item_name, job, letter, opening, plan, registries, sized, stack_name}
 use Rattle.history_examples.specs.Updates.{again, graph_two, left, open_point, replace_tells, replaced, retake_tells}
 use Rattle.history_examples.specs.Updates.{retaken, row_two, stack_two, two_nodes, update_tells, updated}
 use Rattle.history_examples.proofs.Finds.{each_job, each_letter, each_row}

@@ -25,8 +25,8 @@ use Rattle.history.specs.Stored.{stored}
 use Rattle.soundness.specs.Headline.{Headline}
 use Rattle.history_examples.specs.FirstRow.{row_done}
 use Rattle.history_examples.specs.Overtaken.{freed}
-use Rattle.history_examples.specs.Scene.{item_name, job, letter, living, mail_writes, opening, plan, registries}
-use Rattle.history_examples.specs.Scene.{row_writes, says, sized, stack_name, token}
+use Rattle.history_examples.specs.Setting.{item_name, job, letter, living, mail_writes, opening, plan, registries}
+use Rattle.history_examples.specs.Setting.{row_writes, says, sized, stack_name, token}
 use Rattle.history_examples.specs.Updates.{again, left, open_point, replace_tells, retake_tells, row_two, stack_two}
 use Rattle.history_examples.specs.Updates.{two_nodes}
 use Rattle.heat_plan.specs.declared.calls.Answered.TheVariants as answer

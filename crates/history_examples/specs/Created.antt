@@ -22,8 +22,9 @@ use Rattle.history.specs.Marked.{Completed, mark_of}
 use Rattle.history.specs.Stored.{stored}
 use Rattle.soundness.specs.Headline.{Headline}
 use Rattle.history_examples.specs.FirstRow.{row_begun, row_done, row_made, row_ready, row_taken}
-use Rattle.history_examples.specs.Scene.{facts, item_name, job, letter, living, mail_writes, opening, plan, registries}
-use Rattle.history_examples.specs.Scene.{row_writes, says, sized, stack_name, token}
+use Rattle.history_examples.specs.Setting.{facts, item_name, job, letter, living, mail_writes, opening, plan}
+use Rattle.history_examples.specs.Setting.{registries}
+use Rattle.history_examples.specs.Setting.{row_writes, says, sized, stack_name, token}
 use Rattle.heat_plan.specs.declared.calls.Answered.TheVariants as answer
 use Rattle.heat_plan.specs.declared.calls.Request.TheVariants as request
 use Rattle.core_state.specs.declared.entry.What.TheVariants as what

@@ -17,7 +17,7 @@ use Rattle.history.specs.Newest.{newest}
 use Rattle.history.specs.Stored.{stored}
 use Rattle.soundness.specs.Headline.{Headline}
 use Rattle.history_examples.specs.FirstRow.{row_done}
-use Rattle.history_examples.specs.Scene.{facts, letter, living, opening, plan, registries, says, stack_name, token}
+use Rattle.history_examples.specs.Setting.{facts, letter, living, opening, plan, registries, says, stack_name, token}
 use Rattle.history_examples.specs.Updates.{left, open_point, replace_tells, replaced, retake_tells, row_two}
 use Rattle.history_examples.specs.Updates.{update_tells}
 use Rattle.core_state.specs.declared.entry.What.TheVariants as what

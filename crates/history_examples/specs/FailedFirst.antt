@@ -16,8 +16,8 @@ use Rattle.history.specs.Stored.{stored}
 use Rattle.soundness.specs.Headline.{Headline}
 use Rattle.history_examples.specs.Created.{begun, stack, until_begun}
 use Rattle.history_examples.specs.FirstRow.{row_begun}
-use Rattle.history_examples.specs.Scene.{item_name, living, mail_writes, opening, registries, row_writes, says, sized}
-use Rattle.history_examples.specs.Scene.{stack_name, token}
+use Rattle.history_examples.specs.Setting.{item_name, living, mail_writes, opening, registries, row_writes, says, sized}
+use Rattle.history_examples.specs.Setting.{stack_name, token}
 use Rattle.history_examples.specs.Updates.{left, replace_tells, replaced, retake_tells, row_two, update_tells}
 use Rattle.heat_plan.specs.declared.calls.Answered.TheVariants as answer
 use Rattle.heat_plan.specs.declared.calls.Request.TheVariants as request

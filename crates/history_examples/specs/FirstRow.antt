@@ -5,7 +5,7 @@ use Rattle.heat_plan.specs.declared.item.Policy.TheVariants.{Delete}
 use Rattle.heat_plan.specs.declared.phase.Act.TheVariants.{Create, Init}
 use Rattle.heat_plan.specs.declared.phase.Status.TheVariants.{Complete, InProgress}
 use Rattle.row_table.specs.declared.row.Row.{Row}
-use Rattle.history_examples.specs.Scene.{box, facts, item_name, sized, stack_name}
+use Rattle.history_examples.specs.Setting.{box, facts, item_name, sized, stack_name}
 
 -- made for the create, and nothing done
 abbrev pub row_made : Row

@@ -1,4 +1,4 @@
-pub mod Scene
+pub mod Setting
 pub mod FirstRow
 pub mod Created
 pub mod Spoiled
@@ -9,3 +9,4 @@ pub mod FailedFirst
 pub mod DeletedHalfway
 pub mod RolledBack
 pub mod Completed
+pub mod Undone

@@ -16,8 +16,9 @@ use Rattle.soundness.specs.Headline.{Headline}
 use Rattle.soundness.specs.Stir.{EachStirs}
 use Rattle.history_examples.specs.Created.{poll_tells, until_asked}
 use Rattle.history_examples.specs.FirstRow.{row_begun, row_done, row_ready}
-use Rattle.history_examples.specs.Scene.{facts, job, letter, living, mail_writes, opening, plan, registries, row_writes}
-use Rattle.history_examples.specs.Scene.{says, stack_name, token}
+use Rattle.history_examples.specs.Setting.{facts, job, letter, living, mail_writes, opening, plan, registries}
+use Rattle.history_examples.specs.Setting.{row_writes}
+use Rattle.history_examples.specs.Setting.{says, stack_name, token}
 use Rattle.history_examples.specs.Updates.{update_tells, updated}
 use Rattle.core_state.specs.declared.entry.What.TheVariants as what
 

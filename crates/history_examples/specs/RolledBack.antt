@@ -19,8 +19,8 @@ use Rattle.history.specs.Stored.{stored}
 use Rattle.soundness.specs.Headline.{Headline}
 use Rattle.history_examples.specs.Created.{begun, until_begun}
 use Rattle.history_examples.specs.FailedFirst.{fail_tells, row_failed}
-use Rattle.history_examples.specs.Scene.{letter, living, mail_writes, opening, plan, registries, says, stack_name}
-use Rattle.history_examples.specs.Scene.{token}
+use Rattle.history_examples.specs.Setting.{letter, living, mail_writes, opening, plan, registries, says, stack_name}
+use Rattle.history_examples.specs.Setting.{token}
 use Rattle.history_examples.specs.Updates.{open_point}
 use Rattle.core_state.specs.declared.entry.What.TheVariants as what
 

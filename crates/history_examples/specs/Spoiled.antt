@@ -9,7 +9,7 @@ use Rattle.step_relation.specs.Runs.{Judges, Run}
 use Rattle.history.specs.Could.{IsPossible}
 use Rattle.soundness.specs.Headline.{Headline}
 use Rattle.history_examples.specs.Created.{history, until_asked}
-use Rattle.history_examples.specs.Scene.{facts, opening, row_writes, says, stack_name, token}
+use Rattle.history_examples.specs.Setting.{facts, opening, row_writes, says, stack_name, token}
 use Rattle.core_state.specs.declared.entry.What.TheVariants as what
 use Rattle.heat_plan.specs.declared.calls.Answered.TheVariants as answer
 use Rattle.heat_plan.specs.declared.calls.Request.TheVariants as request

@@ -14,8 +14,8 @@ use Rattle.history.specs.Stored.{stored}
 use Rattle.soundness.specs.Headline.{Headline}
 use Rattle.history_examples.specs.Created.{asked, until_asked}
 use Rattle.history_examples.specs.FirstRow.{row_begun}
-use Rattle.history_examples.specs.Scene.{job, letter, living, mail_writes, opening, registries, row_writes, says}
-use Rattle.history_examples.specs.Scene.{stack_name, token}
+use Rattle.history_examples.specs.Setting.{job, letter, living, mail_writes, opening, registries, row_writes, says}
+use Rattle.history_examples.specs.Setting.{stack_name, token}
 use Rattle.core_state.specs.declared.entry.EngineChange.TheVariants as engine
 use Rattle.core_state.specs.declared.entry.What.TheVariants as what
 

@@ -18,7 +18,8 @@ use Rattle.core_state.specs.declared.entry.RowWrite.TheVariants.{Set}
 use Rattle.core_state.specs.declared.graph.Graph.{Graph}
 use Rattle.core_state.specs.declared.stack.Stack.{Stack}
 use Rattle.history_examples.specs.FirstRow.{row_made}
-use Rattle.history_examples.specs.Scene.{job, letter, mail_writes, item_name, plan, row_writes, says, sized, stack_name}
+use Rattle.history_examples.specs.Setting.{job, letter, mail_writes, item_name, plan, row_writes, says, sized}
+use Rattle.history_examples.specs.Setting.{stack_name}
 use Rattle.core_state.specs.declared.entry.What.TheVariants as what
 
 -- the second traversal: its update node, and behind it the clean-up node of the row that stood

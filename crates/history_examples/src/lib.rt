@@ -10,6 +10,7 @@ ghost use Rattle.history_examples.specs.Overtaken.{IsOvertaken, marked_though_ov
 ghost use Rattle.history_examples.specs.RolledBack.{IsRolledBack, updated_by_an_engine};
 ghost use Rattle.history_examples.specs.Spoiled.{IsNoRun, RunsHaveHeadline, called_when_complete, marked_before_ready, marked_twice, purged_while_alive, released_without_retain};
 ghost use Rattle.history_examples.specs.TakenOver.{IsTakenOver, purged_at_the_take_over};
+ghost use Rattle.history_examples.specs.Undone.{IsUndone, marked_in_doubt};
 
 /// A run from the opening of the examples has the main theorem, where its answers are a provider's.
 pub fn runs_have_headline()
@@ -21,12 +22,12 @@ pub fn a_stack_is_created()
     ensures { IsCreated }
 {}
 
-/// No run marks it complete before the cloud says that the resource is ready.
+/// No run marks the create complete before the cloud says that the resource is ready.
 pub fn none_is_marked_before_ready()
     ensures { IsNoRun marked_before_ready }
 {}
 
-/// No run marks it a second time.
+/// No run marks the create a second time.
 pub fn none_is_marked_twice()
     ensures { IsNoRun marked_twice }
 {}
@@ -61,7 +62,7 @@ pub fn an_overtaking_update_is_completed()
     ensures { IsCompleted }
 {}
 
-/// No run marks it before the clean-up, while two resources are alive under one name.
+/// No run marks that update before the clean-up, while two resources are alive under one name.
 pub fn none_is_complete_before_clean_up()
     ensures { IsNoRun complete_before_clean_up }
 {}
@@ -71,7 +72,7 @@ pub fn a_job_is_taken_over()
     ensures { IsTakenOver }
 {}
 
-/// No run purges the row there, whose resource is alive.
+/// No run purges the row at the take-over, whose resource is alive.
 pub fn no_row_is_purged_at_a_take_over()
     ensures { IsNoRun purged_at_the_take_over }
 {}
@@ -101,7 +102,17 @@ pub fn a_failure_is_rolled_back()
     ensures { IsRolledBack }
 {}
 
-/// No run has another command there than the rollback.
+/// No run has another command by the engine behind the failure than the rollback.
 pub fn no_engine_commands_an_update()
     ensures { IsNoRun updated_by_an_engine }
+{}
+
+/// The rollback goes on: the failed row is cleaned up, and nothing is alive or in doubt.
+pub fn a_rollback_is_completed()
+    ensures { IsUndone }
+{}
+
+/// No run marks the rollback while what failed may be alive.
+pub fn no_rollback_is_marked_in_doubt()
+    ensures { IsNoRun marked_in_doubt }
 {}
