@@ -1,9 +1,9 @@
 -- The cases of `specs/Graphs.antt`, each by the law of moves through its constructor.
-use Rattle.std.proofs.Common.{None, refl}
+use Rattle.std.proofs.Common.{None, Some, refl}
 use Rattle.step_relation.specs.Given.{Nothing, Prepared}
-use Rattle.step_relation.specs.Moves.{begin_replaced, clean_retained, finish}
+use Rattle.step_relation.specs.Moves.{begin_overrun, begin_replaced, clean_retained, finish}
 use Rattle.step_relation.specs.Runs.{Judges, nothing}
-use Rattle.case_laws.specs.Graphs.{FinishFits, GivenUpFits, ReplacementFits}
+use Rattle.case_laws.specs.Graphs.{FinishFits, GivenUpFits, OverrunFits, ReplacementFits}
 use Rattle.graph_laws.proofs.Moves.{graphs_moved}
 
 -- a registry without a judge
@@ -20,3 +20,14 @@ finish_fits s e k h open_ = graphs_moved unjudged s e Nothing None _ _ h (finish
 pub given_up_fits : GivenUpFits
 given_up_fits s e k r h at loose act unstuck policy =
     graphs_moved unjudged s e Nothing None _ _ h (clean_retained k r _ _ at loose act unstuck policy refl refl) nothing
+
+pub overrun_fits : OverrunFits
+overrun_fits s e j r letters h works overrun at resends = graphs_moved unjudged s e Nothing None _ _ h
+    (begin_overrun j _ _ works (record {
+      row = Some r;
+      found = at;
+      overrun = overrun;
+      letters = letters;
+      resends = resends;
+    }) refl refl)
+    nothing

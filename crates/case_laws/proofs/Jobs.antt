@@ -12,7 +12,8 @@ unjudged name = None
 
 pub resumed_fits : ResumedFits
 resumed_fits judges s e k props effect h tied act status newest =
-    jobs_moved judges s e (Prepared props effect) None _ _ h (begin_resumed k props effect _ _ act status newest refl refl) tied
+    jobs_moved judges s e (Prepared props effect) None _ _ h
+    (begin_resumed k props effect _ _ act status newest refl refl) tied
 
 pub deleted_fits : DeletedFits
 deleted_fits s e k r h at loose act unstuck policy =

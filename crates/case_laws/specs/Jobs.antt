@@ -22,7 +22,8 @@ use Rattle.soundness.specs.Sound.{Standing}
 
 -- a row that is under way for the stack's traversal is gone on with
 abbrev pub ResumedFits : Type 0
-ResumedFits = (judges : Judges) (s : StateData) (e : ℕ) (k : Begins s e) (props : Members) (effect : Effect) → Standing s
+ResumedFits = (judges : Judges) (s : StateData) (e : ℕ) (k : Begins s e) (props : Members) (effect : Effect)
+    → Standing s
     → IsTied judges s e (Prepared props effect)
     → k.row.act ≢ Init → k.row.status ≡ InProgress → k.row.trav ≡ k.stack.trav
     → JobsFit (applied (PutJob (with_stage Asking k.job) ∷ []) s)

@@ -1,0 +1,126 @@
+-- The update that overtakes, step by step: `is_overtaken`; and what the spoiled history breaks.
+use Rattle.std.proofs.Common.{List, None, Some, [], ap, arith, false, refl, ◌∷◌, ◌≡◌}
+use Rattle.std.specs.Prelude.{◌++◌}
+use Rattle.heat_plan.specs.Tables.{at, cut, put}
+use Rattle.heat_plan.specs.declared.phase.Act.TheVariants.{Create, Update}
+use Rattle.heat_plan.specs.declared.phase.Status.TheVariants.{Complete, InProgress}
+use Rattle.provider.specs.Same.{same_token}
+use Rattle.mail_table.specs.declared.mail.Stage.TheVariants.{Ending, Polling}
+use Rattle.core_state.specs.State.{StateData}
+use Rattle.core_state.specs.declared.change.Change.{Change}
+use Rattle.core_state.specs.declared.change.Change.TheVariants.{EndJob, PutJob, PutRow, Send}
+use Rattle.step_relation.specs.Asks.{Calls, by_failure, polls}
+use Rattle.step_relation.specs.Given.{Nothing}
+use Rattle.step_relation.specs.Moves.{finish_overrun, poll_failed, poll_ready}
+use Rattle.step_relation.specs.Rows.{failed_row}
+use Rattle.step_relation.specs.Runs.{Judges, Run, nothing}
+use Rattle.step_relation.specs.Takes.{Releases}
+use Rattle.step_relation.specs.Turns.{plain, unfailed}
+use Rattle.history.specs.Newest.{Latest}
+use Rattle.soundness.specs.Headline.{Headline}
+use Rattle.table_laws.proofs.Puts.{contains_head}
+use Rattle.table_laws.proofs.Rows.{same_some}
+use Rattle.history_examples.specs.Created.{poll_tells, until_asked}
+use Rattle.history_examples.specs.FirstRow.{row_begun, row_done, row_ready}
+use Rattle.history_examples.specs.Overtaken.{IsOvertaken, freed, history, late, marked_though_overtaken, overtaken}
+use Rattle.history_examples.specs.Overtaken.{release_tells, until_late}
+use Rattle.history_examples.specs.Setting.{facts, job, letter, opening, plan, registries, sized, stack_name, token}
+use Rattle.history_examples.specs.Spoiled.{IsNoRun}
+use Rattle.history_examples.specs.Updates.{update_tells}
+use Rattle.history_examples.proofs.Created.{run_asked}
+use Rattle.history_examples.proofs.Possible.{begun_states, ready_states, some_ready}
+use Rattle.history_examples.proofs.Spoiled.{no_run, runs_have_headline}
+use Rattle.history_examples.proofs.Steps.{by_call, by_turn}
+use Rattle.history_examples.proofs.Updates.{overrun, run_updated, told_again}
+use Rattle.core_state.specs.declared.change.Change.TheVariants as change_to
+use Rattle.core_state.specs.declared.entry.Why.TheVariants as why
+use Rattle.heat_plan.specs.declared.calls.Answered.TheVariants as reply
+use Rattle.heat_plan.specs.declared.calls.Request.TheVariants as request
+use Rattle.step_relation.specs.Asks as ask
+
+run_overtaken : Run registries opening.state overtaken (until_asked false ++ update_tells 2)
+run_overtaken =
+    run_updated Create (λ is. cc) InProgress (sized 1) None (Some 1) 1 InProgress false
+    (job 1 (letter 1 1 0) 1 Polling ∷ []) 2
+    (until_asked false) run_asked
+
+-- the late answer, and what a failure would do
+polls_ : Calls overtaken 1 Polling
+unfolding at
+polls_ = record {
+  job = job 1 (letter 1 1 0) 1 Polling;
+  row = row_begun;
+  works = record { live = contains_head 1 (2 ∷ []); its = refl; stage_is = refl };
+  found = refl;
+}
+
+abbrev fail_changes : List Change
+fail_changes =
+    change_to.Numbers (record { stack = 2; trav = 3; row = 2; engine = 3; letter = 4 })
+    ∷ PutRow (failed_row row_begun) ∷ EndJob 1 ∷ Send (letter 3 2 0) ∷ []
+
+run_late : Run registries opening.state late until_late
+unfolding at put cut polls_
+run_late = by_call overtaken late (PutRow row_ready ∷ PutJob (job 1 (letter 1 1 0) 1 Ending) ∷ [])
+    (until_asked false ++ update_tells 2)
+    poll_tells run_overtaken refl 1 (reply.Ready facts) fail_changes _
+    (plain None (poll_ready polls_ facts _ _ (λ is. cc) refl refl) unfailed)
+    (plain None (poll_failed polls_ request.Poll reply.Failed (why.Failed Create) (letter 3 2 0 ∷ []) None _ _
+    (polls (λ is. cc)) (by_failure _)
+    (ask.overrun (letter 3 2 0 ∷ [])
+    (overrun Create (λ is. cc) InProgress (sized 1) None (Some 1) 1 2 None (job 1 (letter 1 1 0) 1 Polling ∷ [])
+    Polling)
+    (told_again Create (λ is. cc) InProgress (sized 1) None (Some 1) 1 2 None (job 1 (letter 1 1 0) 1 Polling ∷ [])))
+    refl refl) unfailed) refl
+
+releases : Releases late 1 (job 1 (letter 1 1 0) 1 Ending)
+unfolding at
+releases = record {
+  row = Some row_ready;
+  found = refl;
+  overrun = overrun Create (λ is. cc) Complete (sized 1) (Some facts) (Some 1) 1 2 None
+      (job 1 (letter 1 1 0) 1 Ending ∷ []) Ending;
+  letters = letter 3 2 0 ∷ [];
+  resends = told_again Create (λ is. cc) Complete (sized 1) (Some facts) (Some 1) 1 2 None
+      (job 1 (letter 1 1 0) 1 Ending ∷ []);
+}
+
+pub run_freed : Run registries opening.state freed history
+unfolding at put cut releases
+run_freed = by_turn late freed
+    (change_to.Numbers (record { stack = 2; trav = 3; row = 2; engine = 3; letter = 4 })
+    ∷ PutRow row_done ∷ EndJob 1 ∷ Send (letter 3 2 0) ∷ []) until_late release_tells run_late refl 1 Nothing
+    (λ a is. cc)
+    (plain None (finish_overrun (job 1 (letter 1 1 0) 1 Ending) _ _
+    (record { live = contains_head 1 (2 ∷ []); its = refl; stage_is = refl }) releases refl refl) unfailed) refl nothing
+
+main_theorem : Headline registries opening history freed
+unfolding ready_states begun_states
+main_theorem = runs_have_headline registries freed history run_freed (λ t. some_ready (same_token (token 1) t))
+
+pub is_overtaken : IsOvertaken
+unfolding at put cut
+is_overtaken = record {
+  run = run_freed;
+  headline = main_theorem;
+  traversal = refl;
+  mark = refl;
+  stirs = main_theorem.stirs;
+  alive = refl;
+  rows = refl;
+}
+
+abbrev newer : Latest
+newer = record { trav = 2; act = Update; plan = Some (plan 2) }
+
+old_mark : (judges : List Judges) (s : StateData) → ¬ Headline judges opening marked_though_overtaken s
+unfolding at
+old_mark judges s h =
+    let it = (h.entries 14 _ refl).marks stack_name 1 Create None refl in
+    let same : newer ≡ it.it = same_some newer it.it refl it.is_newest in
+    let trav : 2 ≡ it.it.trav = ap (λ (l : Latest). l.trav) same in
+    omega (arith, trav, it.same)
+
+pub though_overtaken : IsNoRun marked_though_overtaken
+unfolding ready_states begun_states
+though_overtaken = no_run marked_though_overtaken (λ t. some_ready (same_token (token 1) t)) old_mark

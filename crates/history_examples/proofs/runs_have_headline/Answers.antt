@@ -1,0 +1,5 @@
+use Rattle.history_examples.proofs.Spoiled.{runs_have_headline}
+use Rattle.history_examples.proofs.runs_have_headline.Goals as goal
+
+pub returns : goal.returns
+returns c = runs_have_headline

@@ -1,0 +1,134 @@
+-- A stack is created: command, take, begin, ask, poll, finish. The main theorem's first example.
+use Rattle.std.specs.Prelude.{Bool, List, None, Some, [], codes, false, true, ◌++◌, ◌∷◌, ◌≡◌}
+use Rattle.heat_plan.specs.declared.phase.Act.TheVariants.{Create}
+use Rattle.heat_plan.specs.declared.phase.Status.{Status}
+use Rattle.heat_plan.specs.declared.phase.Status.TheVariants.{Complete, InProgress}
+use Rattle.traversal_graph.specs.declared.shape.Node.TheVariants.{U}
+use Rattle.traversal_graph.specs.declared.shape.TravGraph.{TravGraph}
+use Rattle.sync_points.specs.declared.point.Point.{Point}
+use Rattle.mail_table.specs.declared.mail.Stage.TheVariants.{Asking, Ending, Polling, Taken}
+use Rattle.core_state.specs.State.{StateData}
+use Rattle.core_state.specs.declared.entry.Actor.TheVariants.{Engine, Main}
+use Rattle.core_state.specs.declared.entry.Entry.{Entry}
+use Rattle.core_state.specs.declared.entry.MailWrite.TheVariants.{Dropped, Ended, Held, Sent}
+use Rattle.core_state.specs.declared.entry.RowWrite.TheVariants.{Set}
+use Rattle.core_state.specs.declared.graph.Graph.{Graph}
+use Rattle.core_state.specs.declared.past.Past.{Past}
+use Rattle.core_state.specs.declared.stack.Stack.{Stack}
+use Rattle.step_relation.specs.Runs.{Run}
+use Rattle.history.specs.Could.{could_of}
+use Rattle.history.specs.Fits.{Fits}
+use Rattle.history.specs.Marked.{Completed, mark_of}
+use Rattle.history.specs.Stored.{stored}
+use Rattle.soundness.specs.Headline.{Headline}
+use Rattle.history_examples.specs.FirstRow.{row_begun, row_done, row_made, row_ready, row_taken}
+use Rattle.history_examples.specs.Setting.{facts, item_name, job, letter, living, mail_writes, opening, plan}
+use Rattle.history_examples.specs.Setting.{registries}
+use Rattle.history_examples.specs.Setting.{row_writes, says, sized, stack_name, token}
+use Rattle.heat_plan.specs.declared.calls.Answered.TheVariants as answer
+use Rattle.heat_plan.specs.declared.calls.Request.TheVariants as request
+use Rattle.core_state.specs.declared.entry.What.TheVariants as what
+
+-- the stack's first traversal, and its graph of one node
+abbrev pub stack : Status → Stack
+stack status = record { name = stack_name; no = 1; trav = 1; act = Create; status = status; plan = Some (plan 1) }
+
+abbrev pub one_node : TravGraph
+one_node = record { nodes = U item_name 1 ∷ []; edges = [] }
+
+abbrev pub point : Bool → Point
+point done = record { stack = stack_name; node = 0; inputs = []; done = done }
+
+abbrev pub graph : Bool → Graph
+graph done = record { stack = stack_name; graph = one_node; points = point done ∷ [] }
+
+abbrev pub past : Bool → Past
+past rollback = record { stack = stack_name; rollback = rollback; back = None }
+
+-- the states behind each step; a failure is rolled back, or isn't
+abbrev pub commanded : Bool → StateData
+commanded rollback = record {
+  stacks = stack InProgress ∷ [];
+  graphs = graph false ∷ [];
+  pasts = past rollback ∷ [];
+  rows = row_made ∷ [];
+  letters = letter 1 1 0 ∷ [];
+  jobs = [];
+  live = 1 ∷ 2 ∷ [];
+  released = [];
+  next = record { stack = 2; trav = 2; row = 2; engine = 3; letter = 2 };
+}
+
+abbrev pub taken : Bool → StateData
+taken rollback =
+    record (commanded rollback) { rows = row_taken ∷ []; letters = []; jobs = job 1 (letter 1 1 0) 1 Taken ∷ [] }
+
+abbrev pub begun : Bool → StateData
+begun rollback = record (taken rollback) { rows = row_begun ∷ []; jobs = job 1 (letter 1 1 0) 1 Asking ∷ [] }
+
+abbrev pub asked : Bool → StateData
+asked rollback = record (begun rollback) { jobs = job 1 (letter 1 1 0) 1 Polling ∷ [] }
+
+abbrev pub ready : Bool → StateData
+ready rollback = record (asked rollback) { rows = row_ready ∷ []; jobs = job 1 (letter 1 1 0) 1 Ending ∷ [] }
+
+abbrev pub created : Bool → StateData
+created rollback =
+    record (ready rollback) { stacks = stack Complete ∷ []; graphs = graph true ∷ []; rows = row_done ∷ []; jobs = [] }
+
+-- what each step tells
+abbrev pub command_tells : Bool → List Entry
+command_tells rollback =
+    says Main (what.Command stack_name 1 Create (Some (plan 1)) rollback)
+    ∷ says Main (what.Rows (Set row_made ∷ []))
+    ∷ says Main (what.Mail (Sent (letter 1 1 0) ∷ []))
+    ∷ []
+
+abbrev pub take_tells : List Entry
+take_tells = row_writes 1 (Set row_taken ∷ []) ∷ mail_writes 1 (Dropped 1 ∷ Held (job 1 (letter 1 1 0) 1 Taken) ∷ [])
+    ∷ []
+
+abbrev pub begin_tells : List Entry
+begin_tells = row_writes 1 (Set row_begun ∷ []) ∷ mail_writes 1 (Held (job 1 (letter 1 1 0) 1 Asking) ∷ []) ∷ []
+
+abbrev pub ask_tells : List Entry
+ask_tells =
+    says (Engine 1) (what.Call (token 1) (request.Create (codes "Box") (sized 1)) answer.Begun)
+    ∷ mail_writes 1 (Held (job 1 (letter 1 1 0) 1 Polling) ∷ [])
+    ∷ []
+
+abbrev pub poll_tells : List Entry
+poll_tells =
+    says (Engine 1) (what.Call (token 1) request.Poll (answer.Ready facts))
+    ∷ row_writes 1 (Set row_ready ∷ [])
+    ∷ mail_writes 1 (Held (job 1 (letter 1 1 0) 1 Ending) ∷ [])
+    ∷ []
+
+abbrev pub finish_tells : List Entry
+finish_tells =
+    row_writes 1 (Set row_done ∷ [])
+    ∷ mail_writes 1 (Ended 1 ∷ [])
+    ∷ says (Engine 1) (what.Mark stack_name 1 Create None)
+    ∷ []
+
+-- the histories so far
+abbrev pub until_taken : Bool → List Entry
+until_taken rollback = command_tells rollback ++ take_tells
+
+abbrev pub until_begun : Bool → List Entry
+until_begun rollback = until_taken rollback ++ begin_tells
+
+abbrev pub until_asked : Bool → List Entry
+until_asked rollback = until_begun rollback ++ ask_tells
+
+abbrev pub history : List Entry
+history = (until_asked false ++ poll_tells) ++ finish_tells
+
+-- the run, and what it reads as: the traversal is complete, and what is alive is the one resource of the plan
+pub record IsCreated : Type 0 where
+  pub run : Run registries opening.state (created false) history
+  pub headline : Headline registries opening history (created false)
+  pub mark : mark_of opening history stack_name ≡ Some Completed
+  pub fits : Fits opening history stack_name (plan 1)
+  pub alive : could_of opening history (token 1) ≡ Some (living 1 (Some facts)) ∷ []
+  pub rows : stored opening history ≡ row_done ∷ []

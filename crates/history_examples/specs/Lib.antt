@@ -1,0 +1,12 @@
+pub mod Setting
+pub mod FirstRow
+pub mod Created
+pub mod Spoiled
+pub mod Updates
+pub mod Overtaken
+pub mod TakenOver
+pub mod FailedFirst
+pub mod DeletedHalfway
+pub mod RolledBack
+pub mod Completed
+pub mod Undone

@@ -1,0 +1,118 @@
+-- The rollback goes on to its end: the failed row is cleaned up, and what it may have asked for is gone.
+use Rattle.std.specs.Prelude.{List, None, Some, [], true, ◌++◌, ◌∷◌, ◌≡◌}
+use Rattle.heat_plan.specs.declared.phase.Act.TheVariants.{Delete, Rollback}
+use Rattle.heat_plan.specs.declared.phase.Status.TheVariants.{Complete, InProgress}
+use Rattle.row_table.specs.declared.row.Row.{Row}
+use Rattle.sync_points.specs.declared.point.Point.{Point}
+use Rattle.mail_table.specs.declared.mail.Job.{Job}
+use Rattle.mail_table.specs.declared.mail.Stage.{Stage}
+use Rattle.mail_table.specs.declared.mail.Stage.TheVariants.{Asking, Ending, Polling, Taken}
+use Rattle.core_state.specs.State.{StateData}
+use Rattle.core_state.specs.declared.entry.Actor.TheVariants.{Engine}
+use Rattle.core_state.specs.declared.entry.Entry.{Entry}
+use Rattle.core_state.specs.declared.entry.MailWrite.TheVariants.{Dropped, Ended, Held}
+use Rattle.core_state.specs.declared.entry.RowWrite.TheVariants.{Purge, Set}
+use Rattle.core_state.specs.declared.graph.Graph.{Graph}
+use Rattle.core_state.specs.declared.stack.Stack.{Stack}
+use Rattle.step_relation.specs.Freshness.{plan_of}
+use Rattle.step_relation.specs.Runs.{Run}
+use Rattle.history.specs.Could.{could_of}
+use Rattle.history.specs.Fits.{Fits}
+use Rattle.history.specs.Marked.{Completed, mark_of}
+use Rattle.history.specs.Stored.{stored}
+use Rattle.soundness.specs.Headline.{Headline}
+use Rattle.history_examples.specs.FailedFirst.{row_failed}
+use Rattle.history_examples.specs.RolledBack.{going_back, one_row, stack_back}
+use Rattle.history_examples.specs.Setting.{job, letter, mail_writes, opening, registries, row_writes, says, stack_name}
+use Rattle.history_examples.specs.Setting.{token}
+use Rattle.history_examples.specs.Updates.{open_point}
+use Rattle.heat_plan.specs.declared.calls.Answered.TheVariants as answer
+use Rattle.heat_plan.specs.declared.calls.Request.TheVariants as request
+use Rattle.core_state.specs.declared.entry.What.TheVariants as what
+use Rattle.history_examples.specs.RolledBack as before
+
+-- the failed row, taken and leaving
+abbrev pub row_held : Row
+row_held = record row_failed { engine = Some 1; key = 3 }
+
+abbrev pub row_leaving : Row
+row_leaving = record row_held { act = Delete; status = InProgress; trav = 2 }
+
+-- the job at the clean-up node, and the graph once it is done
+abbrev pub cleans : Stage → Job
+cleans stage = job 1 (letter 2 2 0) 1 stage
+
+abbrev pub done : Point
+done = record (open_point 0) { done = true }
+
+abbrev pub graph_done : Graph
+graph_done = record { stack = stack_name; graph = one_row; points = done ∷ [] }
+
+abbrev pub stack_undone : Stack
+stack_undone = record stack_back { status = Complete }
+
+-- the states: the row is taken, is to go, is leaving, is gone, and the rollback is complete
+abbrev pub cleaning : StateData
+cleaning = record going_back { rows = row_held ∷ []; letters = []; jobs = cleans Taken ∷ [] }
+
+abbrev pub leaving : StateData
+leaving = record cleaning { rows = row_leaving ∷ []; jobs = cleans Asking ∷ [] }
+
+abbrev pub going : StateData
+going = record leaving { jobs = cleans Polling ∷ [] }
+
+abbrev pub gone : StateData
+gone = record going { rows = []; jobs = cleans Ending ∷ [] }
+
+abbrev pub undone : StateData
+undone = record gone { stacks = stack_undone ∷ []; graphs = graph_done ∷ []; jobs = [] }
+
+-- what each step tells
+abbrev pub clean_tells : List Entry
+clean_tells = row_writes 1 (Set row_held ∷ []) ∷ mail_writes 1 (Dropped 2 ∷ Held (cleans Taken) ∷ []) ∷ []
+
+abbrev pub leave_tells : List Entry
+leave_tells = row_writes 1 (Set row_leaving ∷ []) ∷ mail_writes 1 (Held (cleans Asking) ∷ []) ∷ []
+
+abbrev pub going_tells : List Entry
+going_tells =
+    says (Engine 1) (what.Call (token 1) request.Delete answer.Begun) ∷ mail_writes 1 (Held (cleans Polling) ∷ []) ∷ []
+
+abbrev pub gone_tells : List Entry
+gone_tells =
+    says (Engine 1) (what.Call (token 1) request.Gone answer.Gone)
+    ∷ row_writes 1 (Purge 1 ∷ [])
+    ∷ mail_writes 1 (Held (cleans Ending) ∷ [])
+    ∷ []
+
+abbrev pub complete_tells : List Entry
+complete_tells = mail_writes 1 (Ended 1 ∷ []) ∷ says (Engine 1) (what.Mark stack_name 2 Rollback None) ∷ []
+
+-- the histories so far
+abbrev pub until_cleaning : List Entry
+until_cleaning = before.history ++ clean_tells
+
+abbrev pub until_leaving : List Entry
+until_leaving = until_cleaning ++ leave_tells
+
+abbrev pub until_going : List Entry
+until_going = until_leaving ++ going_tells
+
+abbrev pub until_gone : List Entry
+until_gone = until_going ++ gone_tells
+
+abbrev pub history : List Entry
+history = until_gone ++ complete_tells
+
+-- nothing is alive, nothing is in doubt, and the stack stands with a plan of nothing
+pub record IsUndone : Type 0 where
+  pub run : Run registries opening.state undone history
+  pub headline : Headline registries opening history undone
+  pub mark : mark_of opening history stack_name ≡ Some Completed
+  pub fits : Fits opening history stack_name (plan_of None)
+  pub absent : could_of opening history (token 1) ≡ None ∷ []
+  pub rows : stored opening history ≡ []
+
+-- spoiled: it is marked complete at once, though what failed may be alive
+abbrev pub marked_in_doubt : List Entry
+marked_in_doubt = before.history ++ says (Engine 1) (what.Mark stack_name 2 Rollback None) ∷ []

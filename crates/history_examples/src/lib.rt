@@ -1,0 +1,118 @@
+//! Written-out histories of a stack with one resource: each is a run, and has the main theorem. Nothing
+//! here is run: each function has an empty body and stands for its clause.
+#![tactic(auto)]
+
+ghost use Rattle.history_examples.specs.Completed.{IsCompleted, complete_before_clean_up};
+ghost use Rattle.history_examples.specs.Created.{IsCreated};
+ghost use Rattle.history_examples.specs.DeletedHalfway.{IsDeletedHalfway, marked_while_alive};
+ghost use Rattle.history_examples.specs.FailedFirst.{IsUpdatedAfterFailure, asked_of_what_may_be_absent};
+ghost use Rattle.history_examples.specs.Overtaken.{IsOvertaken, marked_though_overtaken};
+ghost use Rattle.history_examples.specs.RolledBack.{IsRolledBack, updated_by_an_engine};
+ghost use Rattle.history_examples.specs.Spoiled.{IsNoRun, RunsHaveHeadline, called_when_complete, marked_before_ready, marked_twice, purged_while_alive, released_without_retain};
+ghost use Rattle.history_examples.specs.TakenOver.{IsTakenOver, purged_at_the_take_over};
+ghost use Rattle.history_examples.specs.Undone.{IsUndone, marked_in_doubt};
+
+/// A run from the opening of the examples has the main theorem, where its answers are a provider's.
+pub fn runs_have_headline()
+    ensures { RunsHaveHeadline }
+{}
+
+/// A stack is created: the traversal is complete, and its one resource is alive as the plan asks.
+pub fn a_stack_is_created()
+    ensures { IsCreated }
+{}
+
+/// No run marks the create complete before the cloud says that the resource is ready.
+pub fn none_is_marked_before_ready()
+    ensures { IsNoRun marked_before_ready }
+{}
+
+/// No run marks the create a second time.
+pub fn none_is_marked_twice()
+    ensures { IsNoRun marked_twice }
+{}
+
+/// No run asks the cloud anything for a stack that is complete.
+pub fn none_is_called_when_complete()
+    ensures { IsNoRun called_when_complete }
+{}
+
+/// No run purges the row whose resource is alive.
+pub fn none_is_purged_while_alive()
+    ensures { IsNoRun purged_while_alive }
+{}
+
+/// No run gives a resource up whose policy isn't Retain.
+pub fn none_is_released_without_retain()
+    ensures { IsNoRun released_without_retain }
+{}
+
+/// An update overtakes the create between ask and poll: the old job ends, and the new traversal is told.
+pub fn an_update_overtakes()
+    ensures { IsOvertaken }
+{}
+
+/// No run marks the overtaken traversal.
+pub fn no_overtaken_traversal_is_marked()
+    ensures { IsNoRun marked_though_overtaken }
+{}
+
+/// The update that overtook goes on: the row is replaced, the old one cleaned up, and then the mark comes.
+pub fn an_overtaking_update_is_completed()
+    ensures { IsCompleted }
+{}
+
+/// No run marks that update before the clean-up, while two resources are alive under one name.
+pub fn none_is_complete_before_clean_up()
+    ensures { IsNoRun complete_before_clean_up }
+{}
+
+/// Another engine takes a stopped one's job over, and goes on with its row.
+pub fn a_job_is_taken_over()
+    ensures { IsTakenOver }
+{}
+
+/// No run purges the row at the take-over, whose resource is alive.
+pub fn no_row_is_purged_at_a_take_over()
+    ensures { IsNoRun purged_at_the_take_over }
+{}
+
+/// A create fails and the stack is updated: another row takes the failed one's place.
+pub fn a_failed_stack_is_updated()
+    ensures { IsUpdatedAfterFailure }
+{}
+
+/// No run asks for an update of what the failed row asked for, which may be absent.
+pub fn no_failed_row_is_updated()
+    ensures { IsNoRun asked_of_what_may_be_absent }
+{}
+
+/// A stack is deleted over a half-made replacement: the new row is to go before the one that it replaces.
+pub fn a_stack_is_deleted_halfway()
+    ensures { IsDeletedHalfway }
+{}
+
+/// No run marks the delete complete while a resource is alive.
+pub fn no_delete_is_marked_at_once()
+    ensures { IsNoRun marked_while_alive }
+{}
+
+/// A create fails and is rolled back to nothing, in one step.
+pub fn a_failure_is_rolled_back()
+    ensures { IsRolledBack }
+{}
+
+/// No run has another command by the engine behind the failure than the rollback.
+pub fn no_engine_commands_an_update()
+    ensures { IsNoRun updated_by_an_engine }
+{}
+
+/// The rollback goes on: the failed row is cleaned up, and nothing is alive or in doubt.
+pub fn a_rollback_is_completed()
+    ensures { IsUndone }
+{}
+
+/// No run marks the rollback while what failed may be alive.
+pub fn no_rollback_is_marked_in_doubt()
+    ensures { IsNoRun marked_in_doubt }
+{}
