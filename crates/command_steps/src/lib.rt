@@ -1,15 +1,13 @@
-//! The steps of commands. Each function answers the changes and entries of one case of `CommandStep` in
-//! `core_state`. None of them changes the state, asks a provider or writes.
+//! The steps of commands: create, update, delete and cancel, and the rollback that follows a failure.
+//! Each function answers the changes and entries of one case of `Command` in `step_relation`, or why it
+//! is refused. None of them changes the state, asks a provider or writes.
 #![tactic(auto)]
 
-mod changes;
-mod creating;
-mod draft;
-mod entries;
-mod letters;
-mod rows;
+mod due;
+mod layout;
+mod numbers;
+mod order;
+mod rolling_back;
 
-pub use creating::create;
-
-#[cfg(test)]
-mod tests;
+pub use due::is_due;
+pub use rolling_back::roll_back;
