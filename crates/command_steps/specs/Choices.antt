@@ -1,9 +1,10 @@
 -- Which row each item of a command takes.
-use Rattle.std.specs.Prelude.{Bool, List, None, Option, Some, [], cond, false, map, true, ℕ, ◌+◌, ◌∷◌}
+use Rattle.std.specs.Prelude.{Bool, List, None, Option, Some, [], cond, false, map, slice_set, true, ℕ, ◌+◌, ◌∷◌}
 use Rattle.std.specs.Str.{bytes_eq}
 use Rattle.heat_plan.specs.declared.item.Item.{Item}
 use Rattle.heat_plan.specs.declared.phase.Act.{Act}
 use Rattle.heat_plan.specs.declared.phase.Act.TheVariants.{Create, Delete, Init, Rollback, Update}
+use Rattle.traversal_graph.specs.Candidates.{place_of}
 use Rattle.row_table.specs.declared.row.Row.{Row}
 use Rattle.step_relation.specs.Rows.{new_row}
 
@@ -25,17 +26,23 @@ is_current r = cond (is_kept r.act) (is_last r.replaced_by) false where
 abbrev pub stands_for : Row → List ℕ → Bool
 stands_for r name = cond (is_current r) (bytes_eq r.name name) false
 
+-- the first of two numbers, where there is one
+abbrev pub or_else : Option ℕ → Option ℕ → Option ℕ
+or_else (Some n) other = Some n
+or_else None other = other
+
 -- the last row that is current of this name
 abbrev pub last_for : List Row → List ℕ → Option ℕ
 last_for [] name = None
-last_for (r ∷ rows) name = behind (last_for rows name) where
-  behind : Option ℕ → Option ℕ
-  behind (Some n) = Some n
-  behind None = cond (stands_for r name) (Some r.no) None
+last_for (r ∷ rows) name = or_else (last_for rows name) (cond (stands_for r name) (Some r.no) None)
 
 -- of each item the current row, and none where one is to be made
 abbrev pub found_for : List Row → List Item → List (Option ℕ)
 found_for rows items = map (λ (i : Item). last_for rows i.name) items
+
+-- this row noted for the item of its name, if it is current
+abbrev pub noted : List Item → Row → List (Option ℕ) → List (Option ℕ)
+noted items r found = cond (is_current r) (slice_set found (place_of items r.name) (Some r.no)) found
 
 -- how many rows are to be made
 abbrev pub lacking : List (Option ℕ) → ℕ

@@ -3,11 +3,13 @@
 //! is refused. None of them changes the state, asks a provider or writes.
 #![tactic(auto)]
 
+mod choice;
 mod due;
 mod layout;
 mod numbers;
 mod order;
 mod rolling_back;
+mod standing;
 
 pub use due::is_due;
 pub use rolling_back::roll_back;
