@@ -23,6 +23,7 @@ last_for-more [] r name = refl
 last_for-more (q ∷ rows) r name = rw (last_for-more rows r name) (by (stands_for r name)) where
   other : Option ℕ
   other = cond (stands_for q name) (Some q.no) None
+
   by : (b : Bool) → or_else (cond b (Some r.no) (last_for rows name)) other ≡ cond b (Some r.no) (or_else (last_for rows name) other)
   by true = refl
   by false = refl
@@ -63,6 +64,7 @@ pub noted_found : (items : List Item) (rows : List Row) (r : Row) → Rising (na
 noted_found items rows r up = by (is_current r) refl where
   more : (i : Item) → cond (stands_for r i.name) (Some r.no) (last_for rows i.name) ≡ last_for (rows ++ r ∷ []) i.name
   more i = sym (last_for-more rows r i.name)
+
   by : (b : Bool) → is_current r ≡ b
       → cond (is_current r) (slice_set (found_for rows items) (place_of items r.name) (Some r.no)) (found_for rows items) ≡ found_for (rows ++ r ∷ []) items
   by true is = rw is (sym (set_by_name items r.name (λ (i : Item). last_for rows i.name) r.no up)

@@ -22,6 +22,13 @@ pub record IsLaying (s : StateData) (name : List ℕ) (it : Sets) (cs : List Cha
   pub entries : es ≡ laid_entries s name (plan_of it.plan).items it lays
   pub unworn : ¬ IsWorn cs
 
+-- the numbers don't suffice for what is laid
+pub record IsWornLaying (s : StateData) (name : List ℕ) (it : Sets) (r : Refusal) : Type 0 where
+  pub is : r ≡ Worn
+  pub lays : Lays s name (plan_of it.plan).items
+  pub worn : IsWorn (laid_changes s name (plan_of it.plan).items it lays)
+
+-- each command's answer is its case of Command
 pub record Creates (s : StateData) (name : List ℕ) (plan : PlanData) (rollback : Bool) (cs : List Change) (es : List Entry) : Type 0 where
   pub laying : IsLaying s name (create_sets s name plan rollback) cs es
   pub planned : IsPlan plan.items plan.absent

@@ -8,19 +8,20 @@ use Rattle.traversal_graph.specs.Candidates.{place_of}
 use Rattle.row_table.specs.declared.row.Row.{Row}
 use Rattle.step_relation.specs.Rows.{new_row}
 
+abbrev pub is_kept : Act → Bool
+is_kept Delete = false
+is_kept Init = true
+is_kept Create = true
+is_kept Update = true
+is_kept Rollback = true
+
+abbrev pub has_none : Option ℕ → Bool
+has_none None = true
+has_none (Some n) = false
+
 -- the row isn't at DELETE, and nothing replaced it
 abbrev pub is_current : Row → Bool
-is_current r = cond (is_kept r.act) (is_last r.replaced_by) false where
-  is_kept : Act → Bool
-  is_kept Delete = false
-  is_kept Init = true
-  is_kept Create = true
-  is_kept Update = true
-  is_kept Rollback = true
-
-  is_last : Option ℕ → Bool
-  is_last None = true
-  is_last (Some n) = false
+is_current r = cond (is_kept r.act) (has_none r.replaced_by) false
 
 -- the row is the current one of this name
 abbrev pub stands_for : Row → List ℕ → Bool

@@ -1,19 +1,21 @@
--- A command's layout before its numbers are drawn, and the changes and entries of one.
+-- A command's layout before its numbers are drawn, and its draft behind that, with its changes and entries.
 use Rattle.std.specs.Prelude.{List, Option, [], length, map, ℕ, ◌+◌, ◌++◌, ◌^◌, ◌∷◌, ◌≡◌, ◌≤◌}
 use Rattle.heat_plan.specs.declared.item.Item.{Item}
 use Rattle.heat_plan.specs.declared.phase.Status.TheVariants.{InProgress}
-use Rattle.traversal_graph.specs.declared.shape.TravGraph.{TravGraph}
-use Rattle.row_table.specs.declared.row.Row.{Row}
+use Rattle.traversal_graph.specs.declared.shape.Node.{Node}
 use Rattle.core_state.specs.State.{StateData}
 use Rattle.core_state.specs.declared.change.Change.{Change}
 use Rattle.core_state.specs.declared.change.Change.TheVariants.{PutGraph, PutPast, PutRow, PutStack, Send}
+use Rattle.core_state.specs.declared.entry.Actor.{Actor}
 use Rattle.core_state.specs.declared.entry.Entry.{Entry}
 use Rattle.core_state.specs.declared.entry.MailWrite.TheVariants.{Sent}
 use Rattle.core_state.specs.declared.entry.RowWrite.TheVariants.{Set}
 use Rattle.core_state.specs.declared.numbers.Numbers.{Numbers}
-use Rattle.step_relation.specs.Commands.{Lays, Sets, past_command, settled_mark, settles_at_once, stack_set}
-use Rattle.step_relation.specs.Writes.{entry_of, letters_to, mail_entry, rows_entry}
+use Rattle.core_state.specs.declared.stack.Stack.{Stack}
+use Rattle.step_relation.specs.Commands.{Lays, Sets, first_letters, past_command, stack_set}
+use Rattle.step_relation.specs.Writes.{complete_mark, entry_of, mail_entry, mark_complete, rows_entry}
 use Rattle.command_steps.specs.Choices.{lacking, numbered, rows_made}
+use Rattle.command_steps.specs.declared.draft.Draft.{Draft}
 use Rattle.command_steps.specs.declared.layout.Layout.{Layout}
 use Rattle.core_state.specs.declared.change.Change.TheVariants as change_to
 use Rattle.core_state.specs.declared.entry.What.TheVariants as what
@@ -31,23 +33,42 @@ pub record IsLaidOut (s : StateData) (name : List ℕ) (items : List Item) (layo
   pub lays : Lays s name items
   pub chosen_are : lays.chosen ≡ numbered s.next.row layout.found
   pub rows_are : lays.rows ≡ rows_made name s.next.trav s.next.row items layout.found
+  pub each : length layout.found ≡ length items
   pub many : length lays.rows ≡ lacking layout.found
   pub leaves_are : lays.leaves ≡ layout.leaves
   pub graph_is : s.next.row + lacking layout.found ≤ 2 ^ 62 → lays.graph ≡ layout.graph
 
--- the changes and entries of a command, by the rows, graph and leaves that it lays
-abbrev pub changes_by : StateData → List ℕ → Sets → List Row → TravGraph → List ℕ → List Change
-changes_by s name it rows graph leaves =
-    change_to.Numbers (past_command s.next it.stacks (length rows) (length leaves))
-    ∷ PutStack (stack_set s name it InProgress)
-    ∷ PutPast it.past
-    ∷ (map PutRow rows
-    ++ (PutGraph name graph
-    ∷ (map Send (letters_to (stack_set s name it InProgress) s.next.letter leaves) ++ settles_at_once graph.nodes s name it)))
+-- a draft is of what the command lays
+pub record IsDraft (s : StateData) (name : List ℕ) (items : List Item) (it : Sets) (draft : Draft) : Type 0 where
+  pub lays : Lays s name items
+  pub actor_is : draft.actor ≡ it.actor
+  pub next_are : draft.next ≡ past_command s.next it.stacks (length lays.rows) (length lays.leaves)
+  pub stack_is : draft.stack ≡ stack_set s name it InProgress
+  pub past_is : draft.past ≡ it.past
+  pub rows_are : draft.rows ≡ lays.rows
+  pub graph_is : draft.graph ≡ lays.graph
+  pub letters_are : draft.letters ≡ first_letters s name items it lays
+  pub numbers : HasNumbers s.next it.stacks (length lays.rows) (length lays.leaves)
 
-abbrev pub entries_by : StateData → List ℕ → Sets → List Row → TravGraph → List ℕ → List Entry
-entries_by s name it rows graph leaves =
-    entry_of it.actor (what.Command name s.next.trav it.act it.plan it.past.rollback)
-    ∷ (rows_entry it.actor (map Set rows)
-    ++ (mail_entry it.actor (map Sent (letters_to (stack_set s name it InProgress) s.next.letter leaves))
-    ++ settled_mark graph.nodes s name it))
+-- a graph without nodes is done at once
+abbrev pub settles : List Node → Stack → List Change
+settles [] st = mark_complete st
+settles (node ∷ nodes) st = []
+
+abbrev pub settle_mark : List Node → Actor → Stack → List Entry
+settle_mark [] actor st = complete_mark actor st ∷ []
+settle_mark (node ∷ nodes) actor st = []
+
+-- the changes and entries of a draft
+abbrev pub draft_changes : Draft → List Change
+draft_changes d =
+    change_to.Numbers d.next
+    ∷ PutStack d.stack
+    ∷ PutPast d.past
+    ∷ (map PutRow d.rows ++ (PutGraph d.stack.name d.graph ∷ (map Send d.letters ++ settles d.graph.nodes d.stack)))
+
+abbrev pub draft_entries : Draft → List Entry
+draft_entries d =
+    entry_of d.actor (what.Command d.stack.name d.stack.trav d.stack.act d.stack.plan d.past.rollback)
+    ∷ (rows_entry d.actor (map Set d.rows)
+    ++ (mail_entry d.actor (map Sent d.letters) ++ settle_mark d.graph.nodes d.actor d.stack))

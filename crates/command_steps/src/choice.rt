@@ -6,11 +6,11 @@ ghost use Rattle.heat_plan.specs.Plans.{names_of};
 ghost use Rattle.traversal_graph.specs.Candidates.{place_of};
 ghost use Rattle.command_steps.specs.Choices.{found_for, is_current, lacking, noted, numbered, rows_made};
 
-use crate::standing::new_row;
 use core_state::{Batch, Next, Row};
 use heat_plan::{Act, Item, ResName, RowNo, StackName, TravNo, WORN};
 use heat_value::Seq;
 use std::alloc::{AllocError, Global};
+use step_parts::new_row;
 
 /// Of each item the last of these rows that is current and has its name; none where one is to be made.
 /// It goes over the rows once, and looks each row's item up by its name.

@@ -3,13 +3,19 @@
 //! is refused. None of them changes the state, asks a provider or writes.
 #![tactic(auto)]
 
+mod changes;
 mod choice;
+mod creating;
+mod draft;
 mod due;
+mod entries;
+mod laying;
 mod layout;
 mod numbers;
 mod order;
 mod rolling_back;
 mod standing;
 
+pub use creating::create;
 pub use due::is_due;
 pub use rolling_back::roll_back;
