@@ -1,5 +1,5 @@
 -- Of a stack's rows, by rising number, the last one that is current of a name is its name's current row.
-use Rattle.std.proofs.Common.{◌≡◌, ◌≢◌, ◌∙◌, ◌⊎◌, inl, inr, ◌<◌, ◌≤◌, ◌+◌, ℕ, zero, suc, Bool, true, false, cond, List, [], ◌∷◌, Option, Some, None, length, map, refl, sym, ap, arith}
+use Rattle.std.proofs.Common.{◌≡◌, ◌≢◌, ◌∙◌, inl, inr, ◌<◌, ◌≤◌, ◌+◌, ℕ, Bool, true, false, cond, List, [], ◌∷◌, Option, Some, None, map, refl, sym, ap, arith}
 use Rattle.std.specs.Prelude.{Contains, nat_eq}
 use Rattle.std.specs.Str.{bytes_eq}
 use Rattle.std.proofs.lemmas.Bool.Decides.{Decides-eqb}
@@ -15,7 +15,7 @@ use Rattle.row_table.specs.declared.row.Row.{Row}
 use Rattle.core_state.specs.State.{StateData}
 use Rattle.step_relation.specs.Commands.{AreRowsOf, Chooses, current, fresh, none}
 use Rattle.step_relation.specs.Targets.{HasNoCurrent, IsCurrentOf}
-use Rattle.command_steps.specs.Choices.{found_for, has_none, is_current, is_kept, lacking, last_for, numbered, or_else, rows_made, stands_for}
+use Rattle.command_steps.specs.Choices.{found_for, has_none, is_current, is_kept, last_for, numbered, or_else, rows_made, stands_for}
 use Rattle.command_steps.proofs.Members.{below, cons_cases, in_head, in_tail, no_member, rising-tail}
 
 -- the test of a current row

@@ -1,16 +1,15 @@
 -- A layout's graph is that of the numbers that are drawn, whichever the graph was built with.
-use Rattle.std.proofs.Common.{◌≡◌, ◌∙◌, ◌<◌, ◌≤◌, ◌+◌, ◌++◌, ◌^◌, ◌↔◌, ℕ, suc, List, [], ◌∷◌, Option, Some, None, length, map, refl, sym, ap, subst, arith}
+use Rattle.std.proofs.Common.{◌≡◌, ◌∙◌, ◌≤◌, ◌+◌, ◌++◌, ◌^◌, ℕ, suc, List, [], ◌∷◌, Option, Some, None, length, map, refl, sym, ap, arith}
 use Rattle.std.proofs.lemmas.List.{length-append, length-map}
 use Rattle.dep_graph.specs.Lists.{ListsAll}
 use Rattle.heat_plan.specs.declared.item.Item.{Item}
-use Rattle.traversal_graph.specs.Builds.{Joins}
 use Rattle.traversal_graph.specs.Nodes.{IsBuilt, cleanup_nodes, update_nodes}
 use Rattle.traversal_graph.specs.declared.brief.RowBrief.{RowBrief}
 use Rattle.traversal_graph.specs.declared.shape.Node.{Node}
 use Rattle.traversal_graph.specs.declared.shape.TravGraph.{TravGraph}
 use Rattle.row_table.specs.declared.row.Row.{Row}
 use Rattle.core_state.specs.State.{StateData}
-use Rattle.step_relation.specs.Commands.{AreRowsOf, IsLeaf, Lays, brief_of}
+use Rattle.step_relation.specs.Commands.{AreRowsOf, IsLeaf, brief_of}
 use Rattle.command_steps.specs.Choices.{found_for, lacking, numbered, rows_made}
 use Rattle.command_steps.specs.Layouts.{IsLaidOut}
 use Rattle.command_steps.specs.declared.layout.Layout.{Layout}

@@ -1,6 +1,5 @@
 -- What a command lays wears a number out exactly where the numbers don't suffice.
-use Rattle.std.proofs.Common.{◌≡◌, ◌⊎◌, inl, inr, ◌<◌, ◌≤◌, ◌+◌, ◌++◌, ◌^◌, ℕ, List, [], ◌∷◌, length, map, refl, arith}
-use Rattle.std.specs.Prelude.{Contains}
+use Rattle.std.proofs.Common.{◌≡◌, inl, inr, ◌≤◌, ◌+◌, ◌++◌, ◌^◌, ℕ, List, [], ◌∷◌, length, map, refl, arith}
 use Rattle.std.specs.List.{AllByRecursion}
 use Rattle.std.proofs.lemmas.Bool.{cases_lt, leb-true}
 use Rattle.heat_plan.specs.declared.item.Item.{Item}
@@ -16,7 +15,7 @@ use Rattle.core_state.specs.declared.change.Change.TheVariants.{PutGraph, PutPas
 use Rattle.core_state.specs.declared.numbers.Numbers.{Numbers}
 use Rattle.core_state.specs.declared.stack.Stack.{Stack}
 use Rattle.step_relation.specs.Commands.{Chooses, Lays, Sets, current, first_letters, fresh, laid_changes, none, past_command, settles_at_once, stack_set}
-use Rattle.step_relation.specs.Turns.{IsWorn, Overflows, engine, key, letter, row, stack, trav}
+use Rattle.step_relation.specs.Turns.{IsWorn, Overflows, engine, letter, row, stack, trav}
 use Rattle.step_relation.specs.Writes.{mark_complete}
 use Rattle.step_parts.proofs.WearLemmas.{no_other, row_wears}
 use Rattle.command_steps.specs.Layouts.{HasNumbers}

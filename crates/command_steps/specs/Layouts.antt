@@ -1,5 +1,5 @@
 -- A command's layout before its numbers are drawn, and its draft behind that, with its changes and entries.
-use Rattle.std.specs.Prelude.{List, Option, [], length, map, ℕ, ◌+◌, ◌++◌, ◌^◌, ◌∷◌, ◌≡◌, ◌≤◌}
+use Rattle.std.specs.Prelude.{List, [], length, map, ℕ, ◌+◌, ◌++◌, ◌^◌, ◌∷◌, ◌≡◌, ◌≤◌}
 use Rattle.heat_plan.specs.declared.item.Item.{Item}
 use Rattle.heat_plan.specs.declared.phase.Status.TheVariants.{InProgress}
 use Rattle.traversal_graph.specs.declared.shape.Node.{Node}

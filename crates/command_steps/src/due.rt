@@ -1,12 +1,14 @@
 //! Whether a failed traversal is to be rolled back.
 ghost use Rattle.std.specs.Prelude.{◌≡◌, ◌↔◌, ◌≤◌, ◌+◌, IsTrue, length};
+ghost use Rattle.heat_plan.specs.declared.phase.Act.TheVariants.{Delete};
+ghost use Rattle.heat_plan.specs.declared.phase.Status.TheVariants.{InProgress};
 ghost use Rattle.core_state.specs.State.{past_at};
 ghost use Rattle.step_relation.specs.Freshness.{plan_of};
 ghost use Rattle.step_relation.specs.Orders.{IsForward, past_of, row_limit};
 ghost use Rattle.step_relation.specs.Turns.{IsDue};
 
 use core_state::{Stack, State};
-use heat_plan::{Act, StackName};
+use heat_plan::{Act, StackName, Status};
 
 /// How many rows there may be when a command has laid its own.
 pub(crate) const ROW_LIMIT: usize = 4000;
@@ -30,6 +32,20 @@ pub(crate) fn is_forward(act: Act) -> bool
         Act::Update => true,
         Act::Init | Act::Delete | Act::Rollback => false,
     }
+}
+
+/// Whether it is a delete.
+pub(crate) fn is_delete(act: Act) -> bool
+    ensures { IsTrue result ↔ (act ≡ Delete) }
+{
+    act == Act::Delete
+}
+
+/// Whether a traversal has no mark.
+pub(crate) fn is_running(status: Status) -> bool
+    ensures { IsTrue result ↔ (status ≡ InProgress) }
+{
+    status == Status::InProgress
 }
 
 // Whether a failure of the stack is to be rolled back.

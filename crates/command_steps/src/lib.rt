@@ -3,9 +3,11 @@
 //! is refused. None of them changes the state, asks a provider or writes.
 #![tactic(auto)]
 
+mod cancelling;
 mod changes;
 mod choice;
 mod creating;
+mod deleting;
 mod draft;
 mod due;
 mod entries;
@@ -15,7 +17,11 @@ mod numbers;
 mod order;
 mod rolling_back;
 mod standing;
+mod updating;
 
+pub use cancelling::cancel;
 pub use creating::create;
+pub use deleting::delete;
 pub use due::is_due;
 pub use rolling_back::roll_back;
+pub use updating::update;

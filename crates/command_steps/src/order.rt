@@ -1,5 +1,7 @@
 //! What a command sets of its stack.
 ghost use Rattle.std.specs.Prelude.{◌≡◌, ◌<◌, ◌^◌, [], false, IfOk, None};
+ghost use Rattle.heat_plan.specs.Order.{Rising};
+ghost use Rattle.heat_plan.specs.Plans.{names_of};
 ghost use Rattle.step_relation.specs.Freshness.{plan_of};
 ghost use Rattle.step_relation.specs.Orders.{back_after, create_sets, delete_sets, past_of, plan_back, rollback_sets, update_sets};
 ghost use Rattle.command_steps.specs.Orders.{sets_of};
@@ -24,7 +26,8 @@ pub struct Order {
 impl Order {
     /// The items that are asked for.
     pub fn items(&self) -> &[Item]
-        ensures { result.now ≡ (plan_of self.now.plan).items }
+        ensures value { result.now ≡ (plan_of self.now.plan).items }
+        ensures rising { Rising (names_of result.now) }
     {
         match &self.plan {
             Some(plan) => plan.plan().items(),

@@ -1,7 +1,6 @@
 -- One row more is noted.
 use Rattle.std.proofs.Common.{◌≡◌, ◌<◌, ◌∙◌, ◌+◌, ◌++◌, ◌∷◌, [], length, map, ap, sym, arith, take, get_or}
 use Rattle.std.proofs.lemmas.List.{get_or-map, length-map, take_more}
-use Rattle.row_table.specs.declared.row.Row.{Row}
 use Rattle.command_steps.specs.Choices.{found_for, noted}
 use Rattle.command_steps.proofs.Noted.{noted_found}
 use Rattle.command_steps.proofs.choice.found_for.Goals as goal

@@ -1,5 +1,4 @@
 use Rattle.std.proofs.Common.{◌≡◌, map, take}
-use Rattle.row_table.specs.declared.row.Row.{Row}
 use Rattle.command_steps.specs.Choices.{found_for}
 use Rattle.command_steps.proofs.choice.found_for.Given as goal
 

@@ -1,4 +1,4 @@
-use Rattle.std.proofs.Common.{◌≡◌, ◌≤◌, ◌+◌, ◌++◌, ◌^◌, drop, length}
+use Rattle.std.proofs.Common.{◌≡◌, ◌≤◌, ◌+◌, ◌++◌, ◌^◌, drop}
 use Rattle.command_steps.specs.Choices.{lacking, rows_made}
 use Rattle.command_steps.proofs.choice.rows_made.Given as goal
 

@@ -1,8 +1,7 @@
 -- The graph is built with the numbers that are drawn, or with as many others.
-use Rattle.std.proofs.Common.{◌≡◌, ◌∙◌, List, ap, length, map, sym}
+use Rattle.std.proofs.Common.{◌≡◌, ◌∙◌, List, ap, length, map}
 use Rattle.row_table.specs.declared.row.Row.{Row}
 use Rattle.command_steps.specs.Choices.{found_for}
-use Rattle.step_relation.specs.Commands.{brief_of}
 use Rattle.std.proofs.lemmas.List.{length-map}
 use Rattle.command_steps.proofs.Laid.{laid_out_is}
 use Rattle.command_steps.proofs.layout.laid_out.Goals as goal
