@@ -9,11 +9,11 @@ ghost use Rattle.command_steps.specs.Layouts.{HasNumbers, IsLaidOut};
 
 use crate::choice::{found_for, lacking, numbered};
 use crate::numbers::has_numbers;
-use crate::standing::rows_of;
 use core_state::{Row, State};
 use heat_plan::{Item, Refusal, RowNo, StackName};
 use heat_value::{Seq, TryCopy};
 use std::alloc::{AllocError, Global};
+use step_reads::rows_of;
 use traversal_graph::{RowBrief, TravGraph, build};
 
 /// The rows that the items take, none where one is to be made; the graph; and its leaves.

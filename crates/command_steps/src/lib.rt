@@ -16,7 +16,6 @@ mod layout;
 mod numbers;
 mod order;
 mod rolling_back;
-mod standing;
 mod updating;
 
 pub use cancelling::cancel;
@@ -25,3 +24,6 @@ pub use deleting::delete;
 pub use due::is_due;
 pub use rolling_back::roll_back;
 pub use updating::update;
+
+#[cfg(test)]
+mod tests;
