@@ -3,6 +3,7 @@
 //! decides what is written. Each function answers a word of step_relation.
 #![tactic(auto)]
 
+mod chains;
 mod current;
 mod engines;
 mod finishing;

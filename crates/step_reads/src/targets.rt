@@ -41,7 +41,7 @@ fn end_of(s: &State, row: &Row) -> RowNo
 }
 
 // The row that replaced a row, where it stands and has a greater number.
-fn behind<'a>(s: &'a State, row: &Row) -> Option<&'a Row>
+pub(crate) fn behind<'a>(s: &'a State, row: &Row) -> Option<&'a Row>
     ensures some { IfSome result (λ q. IsBehind s.now.state.rows row.now q.now) }
     ensures none { IsNone result → IsLast s.now.state.rows row.now }
 {
