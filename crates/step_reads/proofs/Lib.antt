@@ -13,3 +13,4 @@ pub mod GatherLemmas
 pub mod ThenLemmas
 pub mod InputLemmas
 pub mod ChainLemmas
+pub mod ResendLemmas

@@ -6,7 +6,6 @@ use Rattle.traversal_graph.specs.declared.shape.Node.TheVariants.{U}
 use Rattle.row_table.specs.declared.row.Row.{Row}
 use Rattle.sync_points.specs.declared.point.Input.{Input}
 use Rattle.sync_points.specs.declared.point.Point.{Point}
-use Rattle.mail_table.specs.declared.mail.Letter.{Letter}
 use Rattle.core_state.specs.Reads.{IsReady}
 use Rattle.core_state.specs.State.{StateData, stack_at}
 use Rattle.core_state.specs.declared.graph.Graph.{Graph}
@@ -44,4 +43,5 @@ IsOpenIf g i None = ¬ IsOpen g i
 
 -- an update node whose target is the row of this number
 pub data IsUpdateOf (rows : List Row) (stack : List ℕ) (node : Node) (number : ℕ) : Type 0 where
-  update : (name : List ℕ) (chosen : ℕ) → node ≡ U name chosen → IsTarget rows stack node number → IsUpdateOf rows stack node number
+  update : (name : List ℕ) (chosen : ℕ) → node ≡ U name chosen → IsTarget rows stack node number
+      → IsUpdateOf rows stack node number

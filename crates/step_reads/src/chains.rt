@@ -4,7 +4,7 @@ ghost use Rattle.std.specs.Bool.{OnTrue, OnFalse};
 ghost use Rattle.step_reads.specs.Chains.{AreLeading, LeadsNext};
 
 use crate::standing::by_number;
-use crate::targets::behind;
+use crate::targets::{behind, is_below};
 use core_state::{Row, State};
 use heat_plan::RowNo;
 use heat_value::Seq;
@@ -19,8 +19,9 @@ pub(crate) fn leading_to(alloc: Global, s: &State, row: RowNo) -> Result<Seq<Row
     let mut left = standing.len();
     while left > 0 {
         left -= 1;
-        if leads_next(s, leading.as_slice(), standing[left], row) {
-            leading.push(standing[left].no)?;
+        let other = standing.as_slice()[left];
+        if leads_next(s, leading.as_slice(), other, row) {
+            leading.push(other.no)?;
         }
     }
     Ok(leading)
@@ -32,7 +33,7 @@ fn leads_next(s: &State, leading: &[RowNo], row: &Row, end: RowNo) -> bool
     ensures no_ { OnFalse result (¬ LeadsNext s.now.state.rows leading.now row.now end) }
 {
     match &row.replaced_by {
-        Some(no) if row.no.get() < no.get() && is_in(leading, *no) => true,
+        Some(no) if is_below(row.no, *no) && is_in(leading, *no) => true,
         _ => row.no == end && behind(s, row).is_none(),
     }
 }

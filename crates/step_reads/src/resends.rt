@@ -4,6 +4,7 @@ ghost use Rattle.std.specs.Bool.{OnTrue, OnFalse};
 ghost use Rattle.row_table.specs.Rows.{row_at};
 ghost use Rattle.traversal_graph.specs.declared.shape.Node.TheVariants.{C};
 ghost use Rattle.step_relation.specs.Resends.{AwaitsUpdate, AwaitsCleanup};
+ghost use Rattle.step_relation.specs.Targets.{IsTarget};
 ghost use Rattle.step_reads.specs.Chains.{AreLeading};
 ghost use Rattle.step_reads.specs.Waiting.{IsLeastIf, IsOpenIf, IsResent, IsUpdateOf};
 
@@ -59,8 +60,8 @@ fn waiting_update(
     Ok(None)
 }
 
-// Whether a node is an update node whose target is this row: its chosen row leads there, or stands no
-// more and this row is its name's current one.
+// Whether a node is an update node whose target is this row: its chosen row leads there, or stands
+// no more and this row is its name's current one.
 fn is_update_of(
     s: &State,
     stack: &StackName,
@@ -70,7 +71,7 @@ fn is_update_of(
     row: RowNo,
 ) -> bool
     requires leading { AreLeading s.now.state.rows row leading.now }
-    requires held { option_map (λ r. r.now) held.entry ≡ row_at s.now.state.rows row }
+    requires held { option_map (λ r. r.now) held ≡ row_at s.now.state.rows row }
     ensures yes { OnTrue result (IsUpdateOf s.now.state.rows stack.now node.now row) }
     ensures no_ { OnFalse result (¬ IsUpdateOf s.now.state.rows stack.now node.now row) }
 {
@@ -81,8 +82,19 @@ fn is_update_of(
         return true;
     }
     match held {
-        Some(held) if held.name == *name => target_of(s, stack, node) == Some(row),
+        Some(held) if held.name == *name => has_target(s, stack, node, row),
         _ => false,
+    }
+}
+
+// Whether a node is about this row.
+fn has_target(s: &State, stack: &StackName, node: &Node, row: RowNo) -> bool
+    ensures yes { OnTrue result (IsTarget s.now.state.rows stack.now node.now row) }
+    ensures no_ { OnFalse result (¬ IsTarget s.now.state.rows stack.now node.now row) }
+{
+    match target_of(s, stack, node) {
+        Some(target) => target == row,
+        None => false,
     }
 }
 
