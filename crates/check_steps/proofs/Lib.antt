@@ -1,5 +1,0 @@
-pub mod ReadLemmas
-pub mod AnswerLemmas
-pub mod TurnLemmas
-pub mod PointLemmas
-pub mod LetterLemmas

@@ -1,0 +1,18 @@
+//! The properties of the item that begins, from what its node was given.
+ghost use Rattle.std.specs.Prelude.{IfOk};
+ghost use Rattle.step_relation.specs.Runs.{IsTied};
+ghost use Rattle.check_steps.specs.AtUpdate.{AtUpdate};
+ghost use Rattle.check_steps.specs.Gives.{given_of, unjudged};
+
+use crate::prepared::Prepared;
+use core_state::{Job, State};
+use heat_plan::EngineNo;
+use std::alloc::{AllocError, Global};
+
+/// What the begin of an engine's job at an update node is given. It reads the state alone.
+pub fn prepare(alloc: Global, s: &State, e: EngineNo, job: &Job) -> Result<Prepared, AllocError>
+    requires { AtUpdate s.now.state e job.now }
+    ensures { IfOk result (λ p. IsTied unjudged s.now.state e (given_of p)) }
+{
+    Err(AllocError)
+}
