@@ -1,3 +1,6 @@
 pub mod AtUpdate
 pub mod Gives
-pub mod Turned
+pub mod Founds
+pub mod Writes
+pub mod Takings
+pub mod Makes
