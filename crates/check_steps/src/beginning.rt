@@ -5,7 +5,7 @@ ghost use Rattle.step_relation.specs.Given.{Prepared};
 ghost use Rattle.check_steps.specs.AtUpdate.{AtUpdate};
 ghost use Rattle.check_steps.specs.Founds.{IsFound};
 ghost use Rattle.check_steps.specs.Gives.{given_of};
-ghost use Rattle.step_parts.specs.Turns.{IsTurn, IsSoundTurn, IsTurnRefusal};
+ghost use Rattle.step_parts.specs.Turns.{IsSoundTurn, IsTurnRefusal};
 
 use crate::finding::{Found, find};
 use crate::going_on::{go_on, keep, start, update};

@@ -4,9 +4,14 @@
 #![tactic(auto)]
 
 mod beginning;
+mod finding;
 mod finishing;
+mod going_on;
+mod leaving;
+mod making;
 mod prepared;
 mod preparing;
+mod replacing;
 mod taking;
 
 pub use beginning::begin;
