@@ -20,7 +20,7 @@ use Rattle.step_relation.specs.Begins.{Begins, replaced_changes, replaced_entrie
 use Rattle.step_relation.specs.Freshness.{Names, plan_of}
 use Rattle.step_relation.specs.Inputs.{IsRequired}
 use Rattle.step_relation.specs.Nexts.{Works}
-use Rattle.check_steps.specs.declared.finding.Found.{Found}
+use Rattle.check_steps.specs.declared.found.Found.{Found}
 
 -- these are the parts of the begin of an update node
 pub record IsFound (s : StateData) (e : ℕ) (it : Found) : Type 0 where

@@ -5,7 +5,7 @@ ghost use Rattle.step_relation.specs.Begins.{begun_changes, begun_entries, onwar
 ghost use Rattle.check_steps.specs.Makes.{Makes, MakesNone};
 ghost use Rattle.check_steps.specs.Writes.{kept, started, updated};
 
-use crate::finding::Found;
+use crate::found::Found;
 use crate::making::make;
 use core_state::{Job, Made, Row, Stage};
 use heat_plan::{EngineNo, Properties, Refusal};

@@ -5,7 +5,7 @@ ghost use Rattle.step_parts.specs.Rooms.{MayRise};
 ghost use Rattle.check_steps.specs.Makes.{Makes, MakesNone};
 ghost use Rattle.check_steps.specs.Writes.{succeeded_changes, succeeded_entries};
 
-use crate::finding::Found;
+use crate::found::Found;
 use crate::making::make;
 use core_state::{Actor, Batch, Change, Entry, Made, MailWrite, Numbers, RowWrite, State};
 use heat_plan::{EngineNo, Properties, Refusal, RowNo};
@@ -28,7 +28,10 @@ pub(crate) fn replace(
     ensures cause { IfErr result (MakesNone (succeeded_changes s.now.state e found.now props.now)) }
 {
     let next = s.next().row;
-    if !has_room(next, 1) || !may_rise(found.row) {
+    if !has_room(next, 1) {
+        return Err(Refusal::Worn);
+    }
+    if !may_rise(found.row) {
         return Err(Refusal::Worn);
     }
     let number = RowNo::new(next.get()).unwrap();

@@ -1,44 +1,23 @@
-//! Begin at an update node: which case of it holds.
-ghost use Rattle.std.specs.Prelude.{◌≢◌, IfOk, IfErr};
+//! The begin of an update node whose item has its properties: the case by how far the row is.
+ghost use Rattle.std.specs.Prelude.{◌≡◌, ◌≢◌, IfOk, IfErr};
 ghost use Rattle.heat_plan.specs.declared.phase.Act.TheVariants.{Init};
+ghost use Rattle.heat_plan.specs.declared.phase.Status.TheVariants.{Complete};
 ghost use Rattle.step_relation.specs.Given.{Prepared};
-ghost use Rattle.check_steps.specs.AtUpdate.{AtUpdate};
+ghost use Rattle.step_parts.specs.Turns.{IsTurn, IsTurnRefusal};
 ghost use Rattle.check_steps.specs.Founds.{IsFound};
-ghost use Rattle.check_steps.specs.Gives.{given_of};
-ghost use Rattle.step_parts.specs.Turns.{IsSoundTurn, IsTurnRefusal};
 
-use crate::finding::{Found, find};
+use crate::found::Found;
 use crate::going_on::{go_on, keep, start, update};
 use crate::leaving::leave;
-use crate::prepared::Prepared;
 use crate::replacing::replace;
-use core_state::{Job, Made, State};
+use core_state::{Made, State};
 use heat_plan::{Act, EngineNo, Properties, Refusal, Status};
 use heat_value::Equals;
 use std::alloc::Global;
 use type_catalog::Effect;
 
-/// The begin of an engine's job at an update node, with what was prepared for it.
-pub fn begin(
-    alloc: Global,
-    s: &State,
-    e: EngineNo,
-    job: &Job,
-    prepared: &Prepared,
-) -> Result<Made, Refusal>
-    requires { AtUpdate s.now.state e job.now }
-    ensures made { IfOk result (IsSoundTurn s.now.state e (given_of prepared.now)) }
-    ensures cause { IfErr result (IsTurnRefusal s.now.state e (given_of prepared.now)) }
-{
-    let found = find(alloc, s, job)?;
-    match prepared {
-        Prepared::Props(props, effect) => begin_with(alloc, s, e, &found, props, *effect),
-        Prepared::Fault(_, _) => Err(Refusal::Memory),
-    }
-}
-
-// With properties: the row is begun, or it was begun before.
-fn begin_with(
+/// The begin with these properties: of a row on which nothing was done, or of one that was begun before.
+pub(crate) fn begin_with(
     alloc: Global,
     s: &State,
     e: EngineNo,
@@ -47,7 +26,7 @@ fn begin_with(
     effect: Effect,
 ) -> Result<Made, Refusal>
     requires { IsFound s.now.state e found.now }
-    ensures made { IfOk result (IsSoundTurn s.now.state e (Prepared props.now effect)) }
+    ensures made { IfOk result (IsTurn s.now.state e (Prepared props.now effect)) }
     ensures cause { IfErr result (IsTurnRefusal s.now.state e (Prepared props.now effect)) }
 {
     match found.row.act {
@@ -69,15 +48,16 @@ fn begin_again(
 ) -> Result<Made, Refusal>
     requires found { IsFound s.now.state e found.now }
     requires begun { found.now.row.now.act ≢ Init }
-    ensures made { IfOk result (IsSoundTurn s.now.state e (Prepared props.now effect)) }
+    ensures made { IfOk result (IsTurn s.now.state e (Prepared props.now effect)) }
     ensures cause { IfErr result (IsTurnRefusal s.now.state e (Prepared props.now effect)) }
 {
     let is_ours = found.row.trav == found.stack.trav;
     match found.row.status {
         Status::Complete => begin_complete(alloc, s, e, found, props, effect),
         Status::InProgress if is_ours => go_on(alloc, e, found.job),
+        Status::InProgress => replace(alloc, s, e, found, props),
         Status::Failed if is_ours => leave(alloc, e, found.row),
-        Status::InProgress | Status::Failed => replace(alloc, s, e, found, props),
+        Status::Failed => replace(alloc, s, e, found, props),
     }
 }
 
@@ -93,7 +73,7 @@ fn begin_complete(
     requires found { IsFound s.now.state e found.now }
     requires begun { found.now.row.now.act ≢ Init }
     requires complete { found.now.row.now.status ≡ Complete }
-    ensures made { IfOk result (IsSoundTurn s.now.state e (Prepared props.now effect)) }
+    ensures made { IfOk result (IsTurn s.now.state e (Prepared props.now effect)) }
     ensures cause { IfErr result (IsTurnRefusal s.now.state e (Prepared props.now effect)) }
 {
     if !found.row.kind.name.equals(&found.item.kind.name) {
@@ -104,6 +84,7 @@ fn begin_complete(
     }
     match effect {
         Effect::InPlace => update(alloc, e, found, props),
-        Effect::Same | Effect::Replace => replace(alloc, s, e, found, props),
+        Effect::Same => replace(alloc, s, e, found, props),
+        Effect::Replace => replace(alloc, s, e, found, props),
     }
 }

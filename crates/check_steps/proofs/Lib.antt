@@ -1,0 +1,4 @@
+pub mod Effects
+pub mod Moves
+pub mod Turned
+pub mod Worn
