@@ -15,7 +15,6 @@ use Rattle.check_steps.specs.Founds.{IsFound, begin_of}
 use Rattle.check_steps.specs.Writes.{kept, started, succeeded_changes, succeeded_entries, updated}
 
 module _ (s : StateData) (e : ℕ) (it : Found) (props : Members) (effect : Effect) (found : IsFound s e it) where
-
   pub starts : it.row.now.act ≡ Init → Move s e (Prepared props effect) None
       (begun_changes it.job.now Asking (started it props)) (begun_entries e it.job.now Asking (started it props))
   starts init = begin_init (begin_of s e it found) props effect _ _ init refl refl

@@ -1,10 +1,11 @@
 -- Changes that wear something out.
-use Rattle.std.proofs.Common.{◌≡◌, ◌<◌, ◌≤◌, ◌+◌, ◌^◌, ◌∷◌, ◌⊎◌, List, None, Some, arith, inl, inr, refl, suc, ℕ}
+use Rattle.std.proofs.Common.{Bor, ◌<◌, ◌≤◌, ◌+◌, ◌^◌, ◌∷◌, ◌⊎◌, List, None, Some, arith, inl, inr, refl, suc, ℕ}
 use Rattle.std.proofs.lemmas.Bool.{cases_lt}
-use Rattle.std.specs.Prelude.{Contains, IfSome, Option}
+use Rattle.std.specs.Prelude.{Contains, IfSome, Option, option_map}
 use Rattle.row_table.specs.declared.row.Row.{Row}
 use Rattle.core_state.specs.declared.change.Change.{Change}
-use Rattle.core_state.specs.declared.change.Change.TheVariants.{PutRow}
+use Rattle.step_relation.specs.Rows.{locked, unlocked}
+use Rattle.step_relation.specs.Writes.{lock, unlock}
 use Rattle.step_relation.specs.Turns.{IsWorn, Overflows, key}
 use Rattle.step_parts.specs.Rooms.{MayRise}
 
@@ -31,3 +32,15 @@ no_room next more none = by (cases_lt (2 ^ 62) (next + more)) where
   by : (2 ^ 62 < next + more) ⊎ (next + more ≤ 2 ^ 62) → 2 ^ 62 < next + more
   by (inl past) = past
   by (inr within) = absurd (none within)
+
+-- a row that stands and can't be locked
+pub lock_worn : (row : Option (Bor Row)) (e : ℕ) (rest : List Change) → ¬ IfSome row (λ r. MayRise r.now)
+    → IsWorn (lock (option_map (λ r. r.now) row) e rest)
+lock_worn None e rest cannot = absurd (cannot tt)
+lock_worn (Some r) e rest cannot = worn_first _ _ (key (locked e r.now) (cannot_rise r.now cannot))
+
+-- a row that stands and can't be unlocked
+pub unlock_worn : (row : Option (Bor Row)) (rest : List Change) → ¬ IfSome row (λ r. MayRise r.now)
+    → IsWorn (unlock (option_map (λ r. r.now) row) rest)
+unlock_worn None rest cannot = absurd (cannot tt)
+unlock_worn (Some r) rest cannot = worn_first _ _ (key (unlocked r.now) (cannot_rise r.now cannot))

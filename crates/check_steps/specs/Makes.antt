@@ -1,5 +1,5 @@
 -- What a step gives of which it is known what it changes.
-use Rattle.std.specs.Prelude.{List, ℕ, ◌≡◌}
+use Rattle.std.specs.Prelude.{List, ◌≡◌}
 use Rattle.heat_plan.specs.declared.refusal.Refusal.{Refusal}
 use Rattle.heat_plan.specs.declared.refusal.Refusal.TheVariants.{Memory, Worn}
 use Rattle.core_state.specs.declared.change.Change.{Change}

@@ -1,5 +1,5 @@
 -- What the taking of a letter changes.
-use Rattle.std.specs.Prelude.{List, None, Option, Some, [], ℕ, ◌++◌, ◌∷◌}
+use Rattle.std.specs.Prelude.{List, Option, [], ℕ, ◌++◌, ◌∷◌}
 use Rattle.row_table.specs.declared.row.Row.{Row}
 use Rattle.mail_table.specs.declared.mail.Letter.{Letter}
 use Rattle.mail_table.specs.declared.mail.Stage.TheVariants.{Taken}

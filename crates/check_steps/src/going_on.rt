@@ -28,7 +28,13 @@ pub(crate) fn start(
     ensures cause { IfErr result (MakesNone
         (begun_changes found.now.job.now Asking (started found.now props.now))) }
 {
-    let row = created_row(found.row, found.item, found.stack.trav, props, &found.required)?;
+    let row = created_row(
+        found.row,
+        found.item,
+        found.stack.trav,
+        props,
+        &found.required,
+    )?;
     go_with(alloc, e, found.job, Stage::Asking, row)
 }
 
@@ -54,18 +60,18 @@ pub(crate) fn update(
     ensures cause { IfErr result (MakesNone
         (begun_changes found.now.job.now Asking (updated found.now props.now))) }
 {
-    let row = updated_row(found.row, found.item, found.stack.trav, props, &found.required)?;
+    let row = updated_row(
+        found.row,
+        found.item,
+        found.stack.trav,
+        props,
+        &found.required,
+    )?;
     go_with(alloc, e, found.job, Stage::Asking, row)
 }
 
 // The row is written, and the job is at this stage.
-fn go_with(
-    alloc: Global,
-    e: EngineNo,
-    job: &Job,
-    stage: Stage,
-    row: Row,
-) -> Result<Made, Refusal>
+fn go_with(alloc: Global, e: EngineNo, job: &Job, stage: Stage, row: Row) -> Result<Made, Refusal>
     ensures made { IfOk result (Makes (begun_changes job.now stage row) (begun_entries e job.now stage row)) }
     ensures cause { IfErr result (MakesNone (begun_changes job.now stage row)) }
 {

@@ -3,12 +3,21 @@
 //! provider or writes.
 #![tactic(auto)]
 
+mod beginning;
+mod finding;
+mod finishing;
 mod found;
 mod going_on;
 mod leaving;
 mod making;
 mod prepared;
+mod preparing;
 mod replacing;
+mod taking;
 mod with_props;
 
+pub use beginning::begin;
+pub use finishing::finish;
 pub use prepared::Prepared;
+pub use preparing::prepare;
+pub use taking::take;

@@ -53,10 +53,23 @@ fn changes_of(
     requires key { MayRise found.now.row.now }
     ensures { IfOk result (λ changes. changes ≡ succeeded_changes s.now.state e found.now props.now) }
 {
-    let row = replacement(number, e, found.stack, found.item, props, &found.required, found.row)?;
+    let row = replacement(
+        number,
+        e,
+        found.stack,
+        found.item,
+        props,
+        &found.required,
+        found.row,
+    )?;
     let old = replaced(number, found.row)?;
     let job = moved_job(number, found.job)?;
-    let changes = three(alloc, Change::PutRow(row), Change::PutRow(old), Change::PutJob(job))?;
+    let changes = three(
+        alloc,
+        Change::PutRow(row),
+        Change::PutRow(old),
+        Change::PutJob(job),
+    )?;
     with_first(alloc, Change::Numbers(past_row(s.next())), changes)
 }
 
@@ -84,7 +97,15 @@ fn entries_of(
     ensures { IfOk result (λ entries. entries ≡ succeeded_entries s.now.state e found.now props.now) }
 {
     let by = Actor::Engine(e);
-    let row = replacement(number, e, found.stack, found.item, props, &found.required, found.row)?;
+    let row = replacement(
+        number,
+        e,
+        found.stack,
+        found.item,
+        props,
+        &found.required,
+        found.row,
+    )?;
     let old = replaced(number, found.row)?;
     let writes = seq_of_two(alloc, RowWrite::Set(row), RowWrite::Set(old))?;
     let rows = rows_entry(alloc, by, writes)?;

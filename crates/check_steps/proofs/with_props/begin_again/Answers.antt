@@ -1,4 +1,4 @@
-use Rattle.std.proofs.Common.{◌≡◌, ◌≢◌, ◌∙◌, sym}
+use Rattle.std.proofs.Common.{◌∙◌, sym}
 use Rattle.std.proofs.lemmas.Bool.{eqb-false, eqb-true}
 use Rattle.step_relation.specs.Begins.{given_up, overtaken}
 use Rattle.check_steps.proofs.Moves.{leaves, replaces, resumes}

@@ -1,4 +1,3 @@
-use Rattle.std.proofs.Common.{◌≡◌, ◌≢◌, ◌∙◌, sym}
 use Rattle.std.proofs.lemmas.Bool.{iff_false}
 use Rattle.step_relation.specs.Begins.{changed}
 use Rattle.check_steps.proofs.Effects.{not_replace, not_same}
