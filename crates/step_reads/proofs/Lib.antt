@@ -5,3 +5,6 @@ pub mod NextLemmas
 pub mod HeldLemmas
 pub mod TargetLemmas
 pub mod WorkLemmas
+pub mod StandingLemmas
+pub mod PointLemmas
+pub mod FinishLemmas

@@ -4,3 +4,4 @@ pub mod Rows
 pub mod Work
 pub mod Waiting
 pub mod Inputs
+pub mod Standing

@@ -5,7 +5,7 @@ ghost use Rattle.std.specs.Bool.{OnTrue, OnFalse};
 ghost use Rattle.dep_graph.specs.Lists.{IsRising, ListsAll};
 ghost use Rattle.traversal_graph.specs.Builds.{Joins};
 ghost use Rattle.step_relation.specs.Inputs.{passed_points, passed, AllDone};
-ghost use Rattle.step_reads.specs.Waiting.{IsReadyThen};
+ghost use Rattle.step_reads.specs.Waiting.{IsDoneThen, IsReadyThen};
 
 use core_state::{Graph, Input, Point};
 use heat_value::Seq;
@@ -60,7 +60,10 @@ pub fn all_done(graph: &Graph, node: u32, input: &Input, succs: &[u32]) -> bool
 }
 
 // Whether a node of the graph is done then.
-fn is_done_then(graph: &Graph, node: u32, place: usize) -> bool {
+fn is_done_then(graph: &Graph, node: u32, place: usize) -> bool
+    ensures yes { OnTrue result (IsDoneThen graph.now node place) }
+    ensures no_ { OnFalse result (¬ IsDoneThen graph.now node place) }
+{
     match graph.points.as_slice().get(place) {
         Some(point) => point.done || place == node as usize,
         None => false,

@@ -3,6 +3,7 @@
 //! decides what is written. Each function answers a word of step_relation.
 #![tactic(auto)]
 
+mod current;
 mod engines;
 mod finishing;
 mod given;
@@ -15,6 +16,7 @@ mod standing;
 mod targets;
 mod work;
 
+pub use current::current_of;
 pub use engines::{is_live, is_stopped};
 pub use finishing::{all_done, points_passed, ready_then, succs_of};
 pub use given::{input_of, known, required};
@@ -23,6 +25,6 @@ pub use next::{Task, left, lowest, next_of};
 pub use nodes::{is_done, is_open, is_ready};
 pub use plans::item_of;
 pub use resends::resent;
-pub use standing::{current_of, rows_of};
+pub use standing::rows_of;
 pub use targets::target_of;
 pub use work::{Fresh, Meant, Named, freshness, meaning, what_of};
