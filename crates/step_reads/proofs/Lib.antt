@@ -8,3 +8,4 @@ pub mod WorkLemmas
 pub mod StandingLemmas
 pub mod PointLemmas
 pub mod FinishLemmas
+pub mod ReadyLemmas

@@ -5,3 +5,4 @@ pub mod Work
 pub mod Waiting
 pub mod Inputs
 pub mod Standing
+pub mod Readiness

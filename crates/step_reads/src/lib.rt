@@ -22,7 +22,7 @@ pub use finishing::{all_done, points_passed, ready_then, succs_of};
 pub use given::{input_of, known, required};
 pub use holders::holder;
 pub use next::{Task, left, lowest, next_of};
-pub use nodes::{is_done, is_open, is_ready};
+pub use nodes::{is_done, is_open, is_ready, point_of};
 pub use plans::item_of;
 pub use resends::resent;
 pub use standing::rows_of;
