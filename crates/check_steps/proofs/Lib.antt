@@ -1,6 +1,8 @@
 pub mod Effects
+pub mod Faults
 pub mod Founds
 pub mod Moves
+pub mod Passings
 pub mod Takings
 pub mod Tied
 pub mod Turned

@@ -7,9 +7,11 @@ use Rattle.heat_plan.specs.declared.phase.Status.TheVariants.{Complete, Failed, 
 use Rattle.mail_table.specs.declared.mail.Stage.TheVariants.{Asking, Ending}
 use Rattle.core_state.specs.State.{StateData}
 use Rattle.type_catalog.specs.declared.effect.Effect.{Effect}
-use Rattle.step_relation.specs.Begins.{IsSame, IsSoft, MustGo, begun_changes, begun_entries, left_changes, left_entries, onward_changes, onward_entries}
+use Rattle.step_relation.specs.Begins.{IsSame, IsSoft, MustGo, begun_changes, begun_entries, left_changes}
+use Rattle.step_relation.specs.Begins.{left_entries, onward_changes, onward_entries}
 use Rattle.step_relation.specs.Given.{Prepared}
-use Rattle.step_relation.specs.Moves.{Move, begin_failed, begin_in_place, begin_init, begin_replaced, begin_resumed, begin_same}
+use Rattle.step_relation.specs.Moves.{Move, begin_failed, begin_in_place, begin_init, begin_replaced, begin_resumed}
+use Rattle.step_relation.specs.Moves.{begin_same}
 use Rattle.check_steps.specs.declared.found.Found.{Found}
 use Rattle.check_steps.specs.Founds.{IsFound, begin_of}
 use Rattle.check_steps.specs.Writes.{kept, started, succeeded_changes, succeeded_entries, updated}
@@ -20,7 +22,8 @@ module _ (s : StateData) (e : ℕ) (it : Found) (props : Members) (effect : Effe
   starts init = begin_init (begin_of s e it found) props effect _ _ init refl refl
 
   pub keeps : it.row.now.act ≢ Init → it.row.now.status ≡ Complete → IsSame it.row.now it.item.now props
-      → Move s e (Prepared props effect) None (begun_changes it.job.now Ending (kept it)) (begun_entries e it.job.now Ending (kept it))
+      → Move s e (Prepared props effect) None (begun_changes it.job.now Ending (kept it))
+      (begun_entries e it.job.now Ending (kept it))
   keeps begun complete is = begin_same (begin_of s e it found) props effect _ _ begun complete is refl refl
 
   pub updates : it.row.now.act ≢ Init → it.row.now.status ≡ Complete → IsSoft it.row.now it.item.now props effect

@@ -14,7 +14,8 @@ use Rattle.step_relation.specs.Moves.{Move, take_dropped, take_free, take_stolen
 use Rattle.step_relation.specs.Nexts.{TakesNext}
 use Rattle.step_relation.specs.Takes.{HasNoHolder, IsHolder, IsIdleLetter, Takes, done, held}
 use Rattle.step_reads.specs.Work.{IsMeantOf, meant_of}
-use Rattle.check_steps.specs.Takings.{dropped_changes, dropped_entries, held_changes, held_entries, stolen_changes, stolen_entries}
+use Rattle.check_steps.specs.Takings.{dropped_changes, dropped_entries, held_changes, held_entries, stolen_changes}
+use Rattle.check_steps.specs.Takings.{stolen_entries}
 
 module _ (s : StateData) (e : ℕ) (l : Letter) (next : TakesNext s e l) where
   pub drops : IsIdleLetter s l → Move s e Nothing None (dropped_changes l) (dropped_entries e l)
@@ -29,7 +30,13 @@ module _ (s : StateData) (e : ℕ) (l : Letter) (next : TakesNext s e l) where
     held_letter f j holds live = held (meant_of s l target stack graph node row meant) f j holds live
 
     abbrev takes : ¬ IsDone graph l.node → Takes s e
-    takes undone = record { letter = l; next = next; meant = meant_of s l target stack graph node row meant; open_ = undone }
+    takes undone = record {
+      letter = l;
+      next = next;
+      meant = meant_of s l target stack graph node row meant;
+      open_ =
+          undone;
+    }
 
     pub holds : ¬ IsDone graph l.node → HasNoHolder s.jobs target
         → Move s e Nothing None (held_changes e l target row) (held_entries e l target row)

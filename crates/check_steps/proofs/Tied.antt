@@ -21,7 +21,8 @@ use Rattle.check_steps.specs.Gives.{unjudged}
 use Rattle.check_steps.specs.declared.found.Found.{Found}
 
 module _ (s : StateData) (e : ℕ) (it : Found) (found : IsFound s e it) where
-  pub resolves : (inputs : List Input) (needs : List (List ℕ)) (known given : List KnownFacts) (r : Resolution) (result : Resolved)
+  pub resolves : (inputs : List Input) (needs : List (List ℕ)) (known given : List KnownFacts) (r : Resolution)
+      (result : Resolved)
       → inputs ≡ it.point.now.inputs → needs ≡ it.item.now.needs → AreKnown inputs needs known → given ≡ known
       → resolved_of r ≡ resolve it.plan.now it.item.now given → resolved_of r ≡ result
       → ResolvesTo s e (begin_of s e it found) result
@@ -29,12 +30,15 @@ module _ (s : StateData) (e : ℕ) (it : Found) (found : IsFound s e it) where
     known = known;
     known_are = subst (λ (xs : List Input). AreKnown xs it.item.now.needs known) inputs_are
         (subst (λ (ns : List (List ℕ)). AreKnown inputs ns known) needs_are known_are);
-    result_is = subst (λ (plan : Option PlanData). resolve (plan_of plan) it.item.now known ≡ result) (sym found.its_plan)
+    result_is = subst (λ (plan : Option PlanData). resolve (plan_of plan) it.item.now known ≡ result)
+        (sym found.its_plan)
         (subst (λ (ks : List KnownFacts). resolve it.plan.now it.item.now ks ≡ result) given_is (sym resolved ∙ is));
   }
 
-  pub tied_with : (props : Members) (effect : Effect) (softs : List (List ℕ)) → ResolvesTo s e (begin_of s e it found) (Props props)
-      → softs ≡ it.item.now.kind.soft → ChangeOf softs it.row.now.props props effect → IsTied unjudged s e (Prepared props effect)
+  pub tied_with : (props : Members) (effect : Effect) (softs : List (List ℕ)) → ResolvesTo s e (begin_of s e it found)
+      (Props props)
+      → softs ≡ it.item.now.kind.soft → ChangeOf softs it.row.now.props props effect → IsTied unjudged s e
+      (Prepared props effect)
   tied_with props effect softs is softs_are change = tied_props (begin_of s e it found) props effect is
       (subst (λ (xs : List (List ℕ)). ChangeOf xs it.row.now.props props effect) softs_are change)
 

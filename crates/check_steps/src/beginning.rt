@@ -4,6 +4,7 @@ ghost use Rattle.check_steps.specs.AtUpdate.{AtUpdate};
 ghost use Rattle.check_steps.specs.Gives.{given_of};
 ghost use Rattle.step_parts.specs.Turns.{IsTurn, IsTurnRefusal};
 
+use crate::faulting::fault;
 use crate::finding::find;
 use crate::prepared::Prepared;
 use crate::with_props::begin_with;
@@ -26,6 +27,6 @@ pub fn begin(
     let found = find(alloc, s, job)?;
     match prepared {
         Prepared::Props(props, effect) => begin_with(alloc, s, e, &found, props, *effect),
-        Prepared::Fault(_, _) => Err(Refusal::Memory),
+        Prepared::Fault(code, path) => fault(alloc, s, e, &found, code, path),
     }
 }

@@ -37,9 +37,10 @@ pub(crate) fn find<'a>(alloc: Global, s: &'a State, job: &'a Job) -> Result<Foun
 
 // The name of the item that an update node is about.
 fn name_at<'a>(graph: &'a Graph, node: usize) -> &'a ResName
-    requires { (name : _) × (chosen : ℕ) × (slice_get graph.now.graph.nodes node ≡ Some (U name chosen)) }
-    ensures { (name : _) (chosen : ℕ) → slice_get graph.now.graph.nodes node ≡ Some (U name chosen)
-        → result.now ≡ name }
+    requires { (name : _) × (chosen : ℕ)
+        × (slice_get graph.now.graph.nodes node ≡ Some (U name chosen)) }
+    ensures { (name : _) (chosen : ℕ)
+        → slice_get graph.now.graph.nodes node ≡ Some (U name chosen) → result.now ≡ name }
 {
     match &graph.graph.nodes.as_slice()[node] {
         Node::U(name, _) => name,

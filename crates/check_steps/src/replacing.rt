@@ -15,7 +15,8 @@ use step_parts::{
     seq_of_two, three, with_first, with_last,
 };
 
-/// A row of the next number takes the place of the job's row, which is unlocked, and the job moves to it.
+/// A row of the next number takes the place of the job's row, which is unlocked, and the job moves
+/// to it.
 pub(crate) fn replace(
     alloc: Global,
     s: &State,
@@ -51,7 +52,7 @@ fn changes_of(
 ) -> Result<Batch<Change>, AllocError>
     requires number { number ≡ s.now.state.next.row }
     requires key { MayRise found.now.row.now }
-    ensures { IfOk result (λ changes. changes ≡ succeeded_changes s.now.state e found.now props.now) }
+    ensures { IfOk result (λ cs. cs ≡ succeeded_changes s.now.state e found.now props.now) }
 {
     let row = replacement(
         number,
@@ -94,7 +95,7 @@ fn entries_of(
 ) -> Result<Batch<Entry>, AllocError>
     requires number { number ≡ s.now.state.next.row }
     requires key { MayRise found.now.row.now }
-    ensures { IfOk result (λ entries. entries ≡ succeeded_entries s.now.state e found.now props.now) }
+    ensures { IfOk result (λ es. es ≡ succeeded_entries s.now.state e found.now props.now) }
 {
     let by = Actor::Engine(e);
     let row = replacement(

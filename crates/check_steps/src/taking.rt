@@ -1,5 +1,6 @@
-//! Take: the lowest letter goes, and where it has work that no live engine does, a job begins with it.
-ghost use Rattle.std.specs.Prelude.{◌≡◌, ◌++◌, IfOk, IfErr, IfSome, option_map};
+//! Take: the lowest letter goes, and where it has work that no live engine does, a job begins with
+//! it.
+ghost use Rattle.std.specs.Prelude.{◌≡◌, ◌++◌, IfOk, IfErr, IfSome};
 ghost use Rattle.core_state.specs.declared.entry.Actor.TheVariants.{Engine};
 ghost use Rattle.step_relation.specs.Given.{Nothing};
 ghost use Rattle.step_relation.specs.Nexts.{TakesNext};
@@ -7,7 +8,9 @@ ghost use Rattle.step_relation.specs.Writes.{lock_writes, mail_entry, rows_entry
 ghost use Rattle.step_parts.specs.Rooms.{MayRise};
 ghost use Rattle.step_parts.specs.Turns.{IsTurn, IsTurnRefusal};
 ghost use Rattle.check_steps.specs.Makes.{Makes, MakesNone};
-ghost use Rattle.check_steps.specs.Takings.{dropped_changes, dropped_entries, held_changes, held_entries, stolen_changes, stolen_entries};
+ghost use Rattle.check_steps.specs.Takings.{dropped_changes, dropped_entries, its_row};
+ghost use Rattle.check_steps.specs.Takings.{held_changes, held_entries};
+ghost use Rattle.check_steps.specs.Takings.{stolen_changes, stolen_entries};
 
 use crate::making::make;
 use core_state::{Actor, Batch, Change, Entry, Letter, Made, MailWrite, Stage, State};
@@ -56,9 +59,11 @@ fn drop_letter(alloc: Global, e: EngineNo, letter: &Letter) -> Result<Made, Refu
 
 // The row is locked, if it stands, and a job begins.
 fn hold(alloc: Global, e: EngineNo, letter: &Letter, meant: &Meant<'_>) -> Result<Made, Refusal>
-    ensures made { IfOk result (Makes (held_changes e letter.now meant.now.target (option_map (λ r. r.now) meant.now.row))
-        (held_entries e letter.now meant.now.target (option_map (λ r. r.now) meant.now.row))) }
-    ensures cause { IfErr result (MakesNone (held_changes e letter.now meant.now.target (option_map (λ r. r.now) meant.now.row))) }
+    ensures made { IfOk result (Makes
+        (held_changes e letter.now meant.now.target (its_row meant.now))
+        (held_entries e letter.now meant.now.target (its_row meant.now))) }
+    ensures cause { IfErr result (MakesNone
+        (held_changes e letter.now meant.now.target (its_row meant.now))) }
 {
     if !may_all_rise(meant.row) {
         return Err(Refusal::Worn);
@@ -80,9 +85,11 @@ fn steal(
     meant: &Meant<'_>,
     lost: EngineNo,
 ) -> Result<Made, Refusal>
-    ensures made { IfOk result (Makes (stolen_changes e letter.now meant.now.target (option_map (λ r. r.now) meant.now.row) lost)
-        (stolen_entries e letter.now meant.now.target (option_map (λ r. r.now) meant.now.row) lost)) }
-    ensures cause { IfErr result (MakesNone (stolen_changes e letter.now meant.now.target (option_map (λ r. r.now) meant.now.row) lost)) }
+    ensures made { IfOk result (Makes
+        (stolen_changes e letter.now meant.now.target (its_row meant.now) lost)
+        (stolen_entries e letter.now meant.now.target (its_row meant.now) lost)) }
+    ensures cause { IfErr result (MakesNone
+        (stolen_changes e letter.now meant.now.target (its_row meant.now) lost)) }
 {
     if !may_all_rise(meant.row) {
         return Err(Refusal::Worn);
@@ -111,7 +118,7 @@ fn lock_entries(
 ) -> Result<Batch<Entry>, AllocError>
     requires { IfSome meant.now.row (λ r. MayRise r.now) }
     ensures { IfOk result (λ entries. entries ≡ rows_entry (Engine e)
-        (lock_writes (option_map (λ r. r.now) meant.now.row) e) ++ mail_entry (Engine e) writes) }
+        (lock_writes (its_row meant.now) e) ++ mail_entry (Engine e) writes) }
 {
     let by = Actor::Engine(e);
     let rows = rows_entry(alloc, by, lock_writes(alloc, meant.row, e)?)?;

@@ -14,8 +14,10 @@ pub plan_in-plan-requires : goal.plan_in-plan-requires
 plan_in-plan-requires c =
     let at = c.requires.1 in
     let is : at.stack ≡ c.unwrap-stack.result.now =
-    same_some at.stack c.unwrap-stack.result.now at.names.in_table (sym c.stack.ensures ∙ ap (option_map (λ x. x.now)) c.unwrap-stack.ensures) in
-    has_plan _ at.name at.item (subst (λ (x : Stack). item_at (plan_of x.plan).items at.name ≡ Some at.item) is at.asked)
+    same_some at.stack c.unwrap-stack.result.now at.names.in_table
+    (sym c.stack.ensures ∙ ap (option_map (λ x. x.now)) c.unwrap-stack.ensures) in
+    has_plan _ at.name at.item (subst (λ (x : Stack). item_at (plan_of x.plan).items at.name ≡ Some at.item) is
+    at.asked)
 
 pub returns : goal.returns
 returns c = λ e at. found_of _ _ _ c.unwrap-graph.result.now c.name_at.result.now at
@@ -26,4 +28,5 @@ returns c = λ e at. found_of _ _ _ c.unwrap-graph.result.now c.name_at.result.n
     (λ asked chosen is. c.name_at.ensures asked chosen is)
     (sym c.item_of.ensures ∙ ap (option_map (λ x. x.now)) c.unwrap-item.ensures)
     (sym c.row.ensures ∙ ap (option_map (λ x. x.now)) c.unwrap-row.ensures)
-    (subst (λ (xs : List Input). ListsAll (IsRequired xs) c.in_ok-required.required) c.as_slice-2.ensures c.in_ok-required.ensures)
+    (subst (λ (xs : List Input). ListsAll (IsRequired xs) c.in_ok-required.required) c.as_slice-2.ensures
+    c.in_ok-required.ensures)

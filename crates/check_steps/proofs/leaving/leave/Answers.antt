@@ -7,4 +7,5 @@ use Rattle.check_steps.proofs.leaving.leave.Goals as goal
 
 pub returns-then-not-may_rise-clause-cause : goal.returns-then-not-may_rise-clause-cause
 returns-then-not-may_rise-clause-cause c =
-    worn refl (worn_first _ _ (key _ (cannot_rise c.args.row.now (iff_false c.may_rise.ensures c.if-not-may_rise.true))))
+    worn refl (worn_first _ _ (key _ (cannot_rise c.args.row.now
+    (iff_false c.may_rise.ensures c.if-not-may_rise.true))))
