@@ -9,3 +9,8 @@ pub mod StandingLemmas
 pub mod PointLemmas
 pub mod FinishLemmas
 pub mod ReadyLemmas
+pub mod GatherLemmas
+pub mod ThenLemmas
+pub mod InputLemmas
+pub mod ChainLemmas
+pub mod ResendLemmas

@@ -6,3 +6,5 @@ pub mod Waiting
 pub mod Inputs
 pub mod Standing
 pub mod Readiness
+pub mod Points
+pub mod Chains
