@@ -6,7 +6,9 @@
 mod enlisting;
 mod restarting;
 mod stopping;
+mod taking_over;
 
 pub use enlisting::enlist;
 pub use restarting::restart;
 pub use stopping::stop;
+pub use taking_over::takeover;

