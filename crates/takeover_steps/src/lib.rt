@@ -12,3 +12,6 @@ pub use enlisting::enlist;
 pub use restarting::restart;
 pub use stopping::stop;
 pub use taking_over::takeover;
+
+#[cfg(test)]
+mod tests;

@@ -1,0 +1,4 @@
+pub mod Tasks
+pub mod Rows
+pub mod Work
+pub mod Waiting
