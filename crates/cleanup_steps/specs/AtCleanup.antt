@@ -1,6 +1,8 @@
 -- The begin of a clean-up node.
-use Rattle.std.specs.Prelude.{ℕ}
+use Rattle.std.specs.Prelude.{Some, ℕ, ◌≡◌}
 use Rattle.traversal_graph.specs.declared.shape.Node.TheVariants.{C}
+use Rattle.row_table.specs.Rows.{row_at}
+use Rattle.row_table.specs.declared.row.Row.{Row}
 use Rattle.mail_table.specs.declared.mail.Job.{Job}
 use Rattle.mail_table.specs.declared.mail.Stage.TheVariants.{Taken}
 use Rattle.core_state.specs.State.{StateData}
@@ -16,3 +18,9 @@ pub record AtCleanup (s : StateData) (e : ℕ) (job : Job) : Type 0 where
   pub number : ℕ
   pub works : Works s e job Taken
   pub names : Names s job.letter stack graph (C number)
+
+-- the same, with its stack and its row, which stands
+pub record AtRow (s : StateData) (e : ℕ) (job : Job) (stack : Stack) (row : Row) : Type 0 where
+  pub at : AtCleanup s e job
+  pub stack_is : at.stack ≡ stack
+  pub found : row_at s.rows job.row ≡ Some row

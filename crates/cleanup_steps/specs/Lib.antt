@@ -1,2 +1,2 @@
 pub mod AtCleanup
-pub mod Turned
+pub mod Makes
