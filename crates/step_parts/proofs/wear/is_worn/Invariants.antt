@@ -1,7 +1,7 @@
-use Rattle.std.proofs.Common.{◌≡◌, ℕ, ◌<◌}
-use Rattle.std.specs.Prelude.{Contains, take}
-use Rattle.step_relation.specs.Turns.{IsWorn}
+use Rattle.std.proofs.Common.{ℕ, ◌<◌, get_or}
+use Rattle.core_state.specs.declared.change.Change.{Change}
+use Rattle.step_relation.specs.Turns.{Overflows}
 use Rattle.step_parts.proofs.wear.is_worn.Given as goal
 
 abbrev pub invariant-loop-change : goal.invariant-loop-change
-invariant-loop-change l = ¬ IsWorn (take l.change-index l.changes)
+invariant-loop-change l = (k : ℕ) (d : Change) → k < l.change-index → ¬ Overflows (get_or l.changes k d)
