@@ -19,8 +19,10 @@ pub record AtCleanup (s : StateData) (e : ℕ) (job : Job) : Type 0 where
   pub works : Works s e job Taken
   pub names : Names s job.letter stack graph (C number)
 
--- the same, with its stack and its row, which stands
+-- the same with this stack, and with this row, which stands
 pub record AtRow (s : StateData) (e : ℕ) (job : Job) (stack : Stack) (row : Row) : Type 0 where
-  pub at : AtCleanup s e job
-  pub stack_is : at.stack ≡ stack
+  pub graph : Graph
+  pub number : ℕ
+  pub works : Works s e job Taken
+  pub names : Names s job.letter stack graph (C number)
   pub found : row_at s.rows job.row ≡ Some row

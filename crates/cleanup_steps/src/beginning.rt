@@ -5,9 +5,9 @@ ghost use Rattle.step_parts.specs.Turns.{IsSoundTurn, IsTurnRefusal};
 ghost use Rattle.cleanup_steps.specs.AtCleanup.{AtCleanup, AtRow};
 
 use crate::cases::{delete, give_up, leave, pass, purge};
-use crate::keeping::{is_kept, is_stuck};
+use crate::keeping::{is_init, is_kept, is_stuck};
 use core_state::{Job, Made, Row, Stack, State};
-use heat_plan::{Act, EngineNo, Policy, Refusal};
+use heat_plan::{EngineNo, Policy, Refusal};
 use std::alloc::Global;
 
 /// The begin of an engine's job at a clean-up node: there is nothing to do where the row is gone or
@@ -41,7 +41,7 @@ fn clean(
     if is_kept(s, stack, row) {
         return pass(alloc, e, job);
     }
-    if row.act == Act::Init {
+    if is_init(row) {
         return purge(alloc, e, job, row);
     }
     if is_stuck(row, stack.trav) {

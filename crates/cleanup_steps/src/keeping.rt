@@ -1,6 +1,7 @@
-//! Which row of a clean-up node is kept, and which is left as it is.
+//! What is looked at of a clean-up node's row: whether it is kept, and what was done for it.
 ghost use Rattle.std.specs.Prelude.{◌≡◌, ◌↔◌, IsTrue, Some, Contains};
 ghost use Rattle.heat_plan.specs.Plans.{names_of};
+ghost use Rattle.heat_plan.specs.declared.phase.Act.TheVariants.{Init};
 ghost use Rattle.row_table.specs.Rows.{row_at};
 ghost use Rattle.step_relation.specs.Cleanups.{IsKept, IsStuck};
 ghost use Rattle.step_relation.specs.Freshness.{plan_of};
@@ -34,6 +35,13 @@ fn is_current(s: &State, row: &Row) -> bool
     ensures { IsTrue result ↔ IsCurrentOf s.now.state.rows row.now.stack row.now.name row.now }
 {
     false
+}
+
+/// Whether nothing was done for the row.
+pub fn is_init(row: &Row) -> bool
+    ensures { IsTrue result ↔ (row.now.act ≡ Init) }
+{
+    row.act == Act::Init
 }
 
 /// Whether a delete of the row failed in this traversal.
