@@ -18,19 +18,20 @@ use Rattle.step_relation.specs.Given.{Nothing, same}
 use Rattle.step_relation.specs.Moves.{Move}
 use Rattle.step_relation.specs.Rows.{unlocked}
 use Rattle.step_relation.specs.Turns.{IsWorn, key, plain, unfailed}
-use Rattle.step_parts.specs.Turns.{IsSoundTurn, IsTurnRefusal, memory, worn}
+use Rattle.step_parts.specs.Turns.{IsTurn, IsTurnRefusal, memory, worn}
 use Rattle.cleanup_steps.specs.AtCleanup.{AtCleanup, AtRow}
 use Rattle.cleanup_steps.specs.Makes.{IsRefused, Makes, memory as no_memory, worn as wears}
+use Rattle.next_laws.proofs.Worn.{quiet_not_worn}
 use Rattle.table_laws.proofs.Rows.{same_some}
 
 -- what a case makes is the engine's turn
 pub turns : (s : StateData) (e : ℕ) (cs : List Change) (es : List Entry) (r : Result Made Refusal) → Move s e Nothing None cs es
-    → IfOk r (Makes cs es) → IfOk r (IsSoundTurn s e Nothing)
+    → IfOk r (Makes cs es) → IfOk r (IsTurn s e Nothing)
 turns s e cs es r move made = IfOk-weaker r _ _ turn made where
-  turn : (m : Made) → Makes cs es m → IsSoundTurn s e Nothing m
+  turn : (m : Made) → Makes cs es m → IsTurn s e Nothing m
   turn m is = record {
     turn = plain None (rw (is.changes, is.entries) move) unfailed;
-    lasts = rw is.changes is.lasts;
+    lasts = quiet_not_worn s e Nothing cs es (λ a quiet. cc) (plain None move unfailed) is.lasts;
   }
 
 -- why it isn't made is why the turn isn't

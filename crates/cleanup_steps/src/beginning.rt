@@ -1,7 +1,7 @@
 //! Begin at a clean-up node.
 ghost use Rattle.std.specs.Prelude.{IfOk, IfErr};
 ghost use Rattle.step_relation.specs.Given.{Nothing};
-ghost use Rattle.step_parts.specs.Turns.{IsSoundTurn, IsTurnRefusal};
+ghost use Rattle.step_parts.specs.Turns.{IsTurn, IsTurnRefusal};
 ghost use Rattle.cleanup_steps.specs.AtCleanup.{AtCleanup, AtRow};
 
 use crate::cases::{delete, give_up, leave, pass, purge};
@@ -15,7 +15,7 @@ use std::alloc::Global;
 /// retained is given up; any other is to be deleted.
 pub fn begin(alloc: Global, s: &State, e: EngineNo, job: &Job) -> Result<Made, Refusal>
     requires { AtCleanup s.now.state e job.now }
-    ensures made { IfOk result (IsSoundTurn s.now.state e Nothing) }
+    ensures made { IfOk result (IsTurn s.now.state e Nothing) }
     ensures cause { IfErr result (IsTurnRefusal s.now.state e Nothing) }
 {
     let stack = s.stack(&job.letter.stack).unwrap();
@@ -35,7 +35,7 @@ fn clean(
     row: &Row,
 ) -> Result<Made, Refusal>
     requires { AtRow s.now.state e job.now stack.now row.now }
-    ensures made { IfOk result (IsSoundTurn s.now.state e Nothing) }
+    ensures made { IfOk result (IsTurn s.now.state e Nothing) }
     ensures cause { IfErr result (IsTurnRefusal s.now.state e Nothing) }
 {
     if is_kept(s, stack, row) {
