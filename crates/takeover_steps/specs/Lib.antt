@@ -1,2 +1,2 @@
 pub mod Engines
-pub mod Turned
+pub mod Relays

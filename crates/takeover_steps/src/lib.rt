@@ -4,6 +4,7 @@
 #![tactic(auto)]
 
 mod enlisting;
+mod relaying;
 mod restarting;
 mod stopping;
 mod taking_over;

@@ -2,7 +2,7 @@
 ghost use Rattle.std.specs.Prelude.{IfOk, IfErr};
 ghost use Rattle.step_relation.specs.Given.{Nothing};
 ghost use Rattle.step_relation.specs.Nexts.{TakesOver};
-ghost use Rattle.takeover_steps.specs.Turned.{IsTurn, IsTurnRefusal};
+ghost use Rattle.step_parts.specs.Turns.{IsTurn, IsTurnRefusal};
 
 use core_state::{Job, Made, State};
 use heat_plan::{EngineNo, Refusal};
