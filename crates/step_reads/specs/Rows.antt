@@ -1,5 +1,5 @@
 -- What is found of rows.
-use Rattle.std.specs.Prelude.{List, None, Option, Some, cond, nat_le, ℕ, ◌<◌, ◌≡◌, ◌≤◌}
+use Rattle.std.specs.Prelude.{List, Some, ℕ, ◌<◌, ◌^◌, ◌≡◌}
 use Rattle.traversal_graph.specs.declared.shape.Node.{Node}
 use Rattle.row_table.specs.Chains.{IsCurrent}
 use Rattle.row_table.specs.Rows.{row_at}
@@ -14,6 +14,7 @@ HasNoTarget rows stack node = (t : ℕ) → ¬ IsTarget rows stack node t
 pub record IsBehind (rows : List Row) (r q : Row) : Type 0 where
   pub link : r.replaced_by ≡ Some q.no
   pub rises : r.no < q.no
+  pub below : q.no < 2 ^ 62
   pub found : row_at rows q.no ≡ Some q
 
 -- the row is current under this stack and name
@@ -21,8 +22,3 @@ pub record IsCurrentAs (stack name : List ℕ) (r : Row) : Type 0 where
   pub stack_is : r.stack ≡ stack
   pub name_is : r.name ≡ name
   pub current : IsCurrent r
-
--- the row with the greater number, the first of two that have one number
-abbrev pub greater_row : Option Row → Row → Row
-greater_row None r = r
-greater_row (Some best) r = cond (nat_le r.no best.no) best r

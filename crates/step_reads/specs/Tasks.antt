@@ -1,5 +1,5 @@
 -- What an engine's next work is.
-use Rattle.std.specs.Prelude.{Contains, List, None, Option, Some, cond, nat_le, ℕ, ◌==◌, ◌≡◌, ◌≤◌}
+use Rattle.std.specs.Prelude.{Contains, List, None, ℕ, ◌≡◌, ◌≤◌}
 use Rattle.mail_table.specs.Mails.{letter_at}
 use Rattle.mail_table.specs.declared.mail.Job.{Job}
 use Rattle.mail_table.specs.declared.mail.Letter.{Letter}
@@ -28,18 +28,3 @@ pub record IsLowestLeft (s : StateData) (j : Job) : Type 0 where
 -- no stopped engine has a job
 abbrev pub HasNoneLeft : StateData → Type 0
 HasNoneLeft s = (f : ℕ) (j : Job) → ¬ HasLeft s f j
-
--- the letter with the lower number, the first of two that have one number
-abbrev pub lower_letter : Option Letter → Letter → Letter
-lower_letter None l = l
-lower_letter (Some best) l = cond (nat_le best.no l.no) best l
-
--- the job with the lower engine, the first of two that have one engine
-abbrev pub lower_job : Option Job → Job → Job
-lower_job None j = j
-lower_job (Some best) j = cond (nat_le best.engine j.engine) best j
-
--- of two jobs the one of the lower engine that has the row
-abbrev pub lower_holder : ℕ → Option Job → Option Job → Option Job
-lower_holder n best None = best
-lower_holder n best (Some j) = cond (j.row == n) (Some (lower_job best j)) best

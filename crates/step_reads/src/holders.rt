@@ -1,7 +1,8 @@
 //! Which engine has a row.
-ghost use Rattle.std.specs.Prelude.{◌≡◌, IsNone, IfSome, option_map};
+ghost use Rattle.std.specs.Prelude.{◌≡◌, IsNone, IfSome, option_map, nat_le};
 ghost use Rattle.step_relation.specs.Takes.{IsHolder, HasNoHolder};
-ghost use Rattle.step_reads.specs.Tasks.{lower_holder};
+ghost use Rattle.mail_table.specs.Mails.{job_key};
+ghost use Rattle.step_reads.specs.Best.{Improves};
 
 use crate::next::lower_job;
 use core_state::{Job, State};
@@ -23,8 +24,8 @@ pub fn holder(s: &State, row: RowNo) -> Option<&Job>
 
 // The one with the lower engine, of those that have the row.
 fn lower<'a>(best: Option<&'a Job>, job: Option<&'a Job>, row: RowNo) -> Option<&'a Job>
-    ensures { option_map (λ j. j.now) result
-        ≡ lower_holder row (option_map (λ j. j.now) best.entry) (option_map (λ j. j.now) job.entry) }
+    ensures { Improves nat_le job_key (λ j. j.row ≡ row) (option_map (λ j. j.now) best.entry)
+        (option_map (λ j. j.now) job.entry) (option_map (λ j. j.now) result) }
 {
     match job {
         Some(job) if job.row == row => Some(lower_job(best, job)),

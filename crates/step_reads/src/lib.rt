@@ -21,7 +21,7 @@ pub use given::{input_of, known, required};
 pub use holders::holder;
 pub use next::{Task, left, lowest, next_of};
 pub use nodes::{is_done, is_open, is_ready};
-pub use plans::{back_after, item_of, past_of, plan_back};
+pub use plans::item_of;
 pub use resends::resent;
 pub use standing::{current_of, rows_of};
 pub use targets::target_of;

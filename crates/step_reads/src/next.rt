@@ -1,9 +1,9 @@
 //! The work that an engine does next.
-ghost use Rattle.std.specs.Prelude.{◌≡◌, ◌≤◌, IsNone, IfSome, Some, option_map};
-ghost use Rattle.mail_table.specs.declared.mail.Letter.{Letter as letter_type};
-ghost use Rattle.mail_table.specs.declared.mail.Job.{Job as job_type};
+ghost use Rattle.std.specs.Prelude.{◌≡◌, ◌≤◌, IsNone, IfSome, Some, option_map, nat_le};
+ghost use Rattle.mail_table.specs.Mails.{letter_key, job_key};
 ghost use Rattle.step_relation.specs.Nexts.{IsLowest, HasLeft};
-ghost use Rattle.step_reads.specs.Tasks.{IsTask, HasNoLetter, IsLowestLeft, HasNoneLeft, lower_letter, lower_job};
+ghost use Rattle.step_reads.specs.Tasks.{IsTask, HasNoLetter, IsLowestLeft, HasNoneLeft};
+ghost use Rattle.step_reads.specs.Best.{first_by};
 
 use crate::engines::is_live;
 use core_state::{Job, Letter, State};
@@ -57,7 +57,7 @@ pub fn lowest(letters: &[Letter]) -> Option<&Letter>
 
 // The one with the lower number, the first of two that have one number.
 fn lower_letter<'a>(best: Option<&'a Letter>, letter: &'a Letter) -> &'a Letter
-    ensures { result.now ≡ lower_letter (option_map (λ x. x.now) best.entry) letter.now }
+    ensures { result.now ≡ first_by nat_le letter_key (option_map (λ x. x.now) best.entry) letter.now }
 {
     match best {
         Some(best) if best.no <= letter.no => best,
@@ -81,7 +81,7 @@ pub fn left(s: &State) -> Option<&Job>
 
 // The one with the lower engine, the first of two that have one engine.
 pub(crate) fn lower_job<'a>(best: Option<&'a Job>, job: &'a Job) -> &'a Job
-    ensures { result.now ≡ lower_job (option_map (λ x. x.now) best.entry) job.now }
+    ensures { result.now ≡ first_by nat_le job_key (option_map (λ x. x.now) best.entry) job.now }
 {
     match best {
         Some(best) if best.engine <= job.engine => best,

@@ -18,10 +18,13 @@ pub fn target_of(s: &State, stack: &StackName, node: &Node) -> Option<RowNo>
 {
     match node {
         Node::C(no) => Some(*no),
-        Node::U(name, no) => match s.row(no) {
-            Some(row) => Some(end_of(s, row)),
-            None => current_of(s, stack, name).map(|row| row.no),
-        },
+        Node::U(name, no) => {
+            if let Some(row) = s.row(no) {
+                return Some(end_of(s, row));
+            }
+            let current = current_of(s, stack, name)?;
+            Some(current.no)
+        }
     }
 }
 
@@ -42,8 +45,8 @@ fn behind<'a>(s: &'a State, row: &Row) -> Option<&'a Row>
     ensures some { IfSome result (λ q. IsBehind s.now.state.rows row.now q.now) }
     ensures none { IsNone result → IsLast s.now.state.rows row.now }
 {
-    match row.replaced_by {
-        Some(no) if row.no < no => s.row(&no),
+    match &row.replaced_by {
+        Some(no) if row.no.get() < no.get() => s.row(no),
         _ => None,
     }
 }

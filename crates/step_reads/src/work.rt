@@ -1,7 +1,8 @@
 //! What a letter or a job is about, where it still has work.
-ghost use Rattle.std.specs.Prelude.{◌≡◌, IsNone, IfSome, Some, option_map};
+ghost use Rattle.std.specs.Prelude.{◌≡◌, ◌↔◌, IsTrue, IsSome, IsNone, IfSome, Some, option_map};
+ghost use Rattle.core_state.specs.Reads.{item_at};
 ghost use Rattle.std.specs.Bool.{OnTrue, OnFalse};
-ghost use Rattle.step_relation.specs.Freshness.{Names, Serves, IsOutdated, IsOverrun};
+ghost use Rattle.step_relation.specs.Freshness.{Names, Serves, IsOutdated, IsOverrun, plan_of};
 ghost use Rattle.step_reads.specs.Work.{IsFreshOf, IsMeantOf, NamesNothing};
 
 use crate::plans::item_of;
@@ -104,7 +105,9 @@ fn serves(stack: &Stack, node: &Node, row: Option<&Row>) -> bool
 }
 
 // Whether a stack's plan has an item of this name.
-fn is_asked(stack: &Stack, name: &ResName) -> bool {
+fn is_asked(stack: &Stack, name: &ResName) -> bool
+    ensures { IsTrue result ↔ IsSome (item_at (plan_of stack.now.plan).items name.now) }
+{
     match &stack.plan {
         Some(plan) => item_of(plan.plan(), name).is_some(),
         None => false,
