@@ -1,5 +1,5 @@
 -- The cases of a begin at a clean-up node, from what was read and made.
-use Rattle.std.proofs.Common.{◌≡◌, ◌<◌, ◌+◌, ◌^◌, ◌∙◌, ℕ, List, Some, None, refl, sym, ap, subst, arith}
+use Rattle.std.proofs.Common.{◌≡◌, ◌<◌, ◌+◌, ◌^◌, ◌∙◌, ℕ, List, Some, None, refl, ap, arith}
 use Rattle.std.specs.Prelude.{Result, IfOk, IfErr}
 use Rattle.std.proofs.lemmas.Result.{IfOk-weaker, IfErr-weaker}
 use Rattle.heat_plan.specs.declared.refusal.Refusal.{Refusal}

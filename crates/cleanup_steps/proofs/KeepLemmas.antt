@@ -1,6 +1,6 @@
 -- Which row is kept: the plan has its name, and it is its name's current one.
-use Rattle.std.proofs.Common.{◌≡◌, ◌≢◌, ◌∙◌, ℕ, Bool, true, false, List, [], ◌∷◌, Some, None, refl, sym, ap, subst, inl, inr}
-use Rattle.std.specs.Prelude.{Contains, Option, IsTrue, is_some, option_map, ◌↔◌}
+use Rattle.std.proofs.Common.{◌≡◌, ℕ, List, [], ◌∷◌, Some, None, refl, sym, subst, inl, inr}
+use Rattle.std.specs.Prelude.{Contains, Option, IsTrue, is_some, option_map}
 use Rattle.std.specs.Str.{bytes_eq}
 use Rattle.std.proofs.lemmas.Slice.Eq.{bytes_eq-Decides}
 use Rattle.heat_plan.specs.Plans.{names_of}

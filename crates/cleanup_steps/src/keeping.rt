@@ -9,7 +9,7 @@ ghost use Rattle.step_relation.specs.Targets.{IsCurrentOf};
 
 use core_state::{Row, Stack, State};
 use heat_plan::{Act, ResName, Status, TravNo};
-use step_reads::item_of;
+use step_reads::{current_of, item_of};
 
 /// Whether a row that stands is the current one of its name, and the plan has the name.
 pub fn is_kept(s: &State, stack: &Stack, row: &Row) -> bool
@@ -34,7 +34,10 @@ fn is_current(s: &State, row: &Row) -> bool
     requires { row_at s.now.state.rows row.now.no ≡ Some row.now }
     ensures { IsTrue result ↔ IsCurrentOf s.now.state.rows row.now.stack row.now.name row.now }
 {
-    false
+    match current_of(s, &row.stack, &row.name) {
+        Some(current) => current.no == row.no,
+        None => false,
+    }
 }
 
 /// Whether nothing was done for the row.

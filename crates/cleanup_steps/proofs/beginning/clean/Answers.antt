@@ -1,13 +1,12 @@
 -- Each case is a move of the engine.
-use Rattle.std.proofs.Common.{◌≡◌, ◌∙◌, ℕ, Bool, false, None, List, refl}
+use Rattle.std.proofs.Common.{◌≡◌, Bool, false, refl}
 use Rattle.std.specs.Prelude.{IsTrue}
 use Rattle.std.proofs.lemmas.Bool.{both_ways}
 use Rattle.heat_plan.specs.declared.item.Policy.{Policy}
 use Rattle.heat_plan.specs.declared.item.Policy.TheVariants as policy
 use Rattle.mail_table.specs.declared.mail.Stage.TheVariants.{Asking}
-use Rattle.step_relation.specs.Begins.{begun_changes, begun_entries, left_changes, left_entries}
-use Rattle.step_relation.specs.Given.{Nothing}
-use Rattle.step_relation.specs.Moves.{Move, clean_deleted, clean_init, clean_kept, clean_retained, clean_stuck}
+use Rattle.step_relation.specs.Begins.{begun_entries, left_entries}
+use Rattle.step_relation.specs.Moves.{clean_deleted, clean_init, clean_kept, clean_retained, clean_stuck}
 use Rattle.step_relation.specs.Rows.{deleted_row}
 use Rattle.table_laws.proofs.Rows.{row_self}
 use Rattle.cleanup_steps.proofs.CaseLemmas.{cleans_row, refuses, turns}

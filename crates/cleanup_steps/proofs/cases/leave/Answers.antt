@@ -1,4 +1,4 @@
-use Rattle.std.proofs.Common.{◌≡◌, refl}
+use Rattle.std.proofs.Common.{refl}
 use Rattle.std.proofs.lemmas.Bool.{both_ways}
 use Rattle.cleanup_steps.specs.Makes.{worn}
 use Rattle.cleanup_steps.proofs.CaseLemmas.{left_wears}
