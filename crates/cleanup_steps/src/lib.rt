@@ -8,3 +8,6 @@ mod cases;
 mod keeping;
 
 pub use beginning::begin;
+
+#[cfg(test)]
+mod tests;

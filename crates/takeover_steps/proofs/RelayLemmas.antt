@@ -1,5 +1,5 @@
 -- What wears the end of a stopped engine's job out.
-use Rattle.std.proofs.Common.{◌≡◌, ◌<◌, ◌≤◌, ◌+◌, ◌^◌, ℕ, List, [], ◌∷◌, Some, None, refl, arith}
+use Rattle.std.proofs.Common.{◌≤◌, ◌+◌, ◌^◌, List, ◌∷◌, Some, None, refl, arith}
 use Rattle.std.specs.Prelude.{Option, IfSome, option_map}
 use Rattle.row_table.specs.declared.row.Row.{Row}
 use Rattle.core_state.specs.declared.change.Change.{Change}
