@@ -28,6 +28,8 @@ pub record Enlists (s : StateData) (cs : List Change) (es : List Entry) : Type 0
 
 -- all that were live are stopped, and so many new ones are live
 pub record Restarts (s : StateData) (count : ℕ) (cs : List Change) (es : List Entry) : Type 0 where
+  pub some : 1 ≤ count
+  pub few : count ≤ engine_limit
   pub below : s.next.engine + count ≤ 2 ^ 62
   pub changes : cs ≡ restart_changes s count
   pub entries : es ≡ entry_of Main (what.Engine (engine.Restart s.next.engine count)) ∷ []
