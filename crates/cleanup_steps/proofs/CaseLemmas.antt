@@ -25,7 +25,8 @@ use Rattle.next_laws.proofs.Worn.{quiet_not_worn}
 use Rattle.table_laws.proofs.Rows.{same_some}
 
 -- what a case makes is the engine's turn
-pub turns : (s : StateData) (e : ℕ) (cs : List Change) (es : List Entry) (r : Result Made Refusal) → Move s e Nothing None cs es
+pub turns : (s : StateData) (e : ℕ) (cs : List Change) (es : List Entry) (r : Result Made Refusal)
+    → Move s e Nothing None cs es
     → IfOk r (Makes cs es) → IfOk r (IsTurn s e Nothing)
 turns s e cs es r move made = IfOk-weaker r _ _ turn made where
   turn : (m : Made) → Makes cs es m → IsTurn s e Nothing m
@@ -35,7 +36,8 @@ turns s e cs es r move made = IfOk-weaker r _ _ turn made where
   }
 
 -- why it isn't made is why the turn isn't
-pub refuses : (s : StateData) (e : ℕ) (cs : List Change) (es : List Entry) (r : Result Made Refusal) → Move s e Nothing None cs es
+pub refuses : (s : StateData) (e : ℕ) (cs : List Change) (es : List Entry) (r : Result Made Refusal)
+    → Move s e Nothing None cs es
     → IfErr r (IsRefused cs) → IfErr r (IsTurnRefusal s e Nothing)
 refuses s e cs es r move made = IfErr-weaker r _ _ refused made where
   refused : (f : Refusal) → IsRefused cs f → IsTurnRefusal s e Nothing f
@@ -58,7 +60,8 @@ left_wears e r high = record {
 }
 
 -- the parts that were read are those of the job's node
-pub at_row : (s : StateData) (e : ℕ) (j : Job) (st : Stack) (r : Row) → AtCleanup s e j → stack_at s.stacks j.letter.stack ≡ Some st
+pub at_row : (s : StateData) (e : ℕ) (j : Job) (st : Stack) (r : Row) → AtCleanup s e j
+    → stack_at s.stacks j.letter.stack ≡ Some st
     → row_at s.rows j.row ≡ Some r → AtRow s e j st r
 at_row s e j st r a at_st at_r = record {
   graph = a.graph;
@@ -74,7 +77,21 @@ at_row s e j st r a at_st at_r = record {
 }
 
 abbrev pub cleans : (s : StateData) (e : ℕ) (j : Job) → AtCleanup s e j → Cleans s e
-cleans s e j a = record { job = j; stack = a.stack; graph = a.graph; number = a.number; works = a.works; names = a.names }
+cleans s e j a = record {
+  job = j;
+  stack = a.stack;
+  graph = a.graph;
+  number = a.number;
+  works = a.works;
+  names = a.names;
+}
 
 abbrev pub cleans_row : (s : StateData) (e : ℕ) (j : Job) (st : Stack) (r : Row) → AtRow s e j st r → Cleans s e
-cleans_row s e j st r a = record { job = j; stack = st; graph = a.graph; number = a.number; works = a.works; names = a.names }
+cleans_row s e j st r a = record {
+  job = j;
+  stack = st;
+  graph = a.graph;
+  number = a.number;
+  works = a.works;
+  names = a.names;
+}

@@ -12,7 +12,8 @@ use Rattle.table_laws.proofs.Puts.{contains_head, contains_there}
 use Rattle.table_laws.proofs.Tables.{cases}
 
 -- the name of an item that is found is one of the names
-pub named_in : (items : List Item) (name : List ℕ) (item : Item) → item_at items name ≡ Some item → Contains (names_of items) name
+pub named_in : (items : List Item) (name : List ℕ) (item : Item) → item_at items name ≡ Some item
+    → Contains (names_of items) name
 unfolding at
 named_in [] name item found = cc
 named_in (x ∷ xs) name item found = elim (cases bytes_eq bytes_eq-Decides (λ (i : Item). i.name) x.name name) [
@@ -21,7 +22,8 @@ named_in (x ∷ xs) name item found = elim (cases bytes_eq bytes_eq-Decides (λ 
 ]
 
 -- an item was found exactly where the names have its name
-pub is_named : {B : Type 0} (f : B → Item) (items : List Item) (name : List ℕ) (o : Option B) → option_map f o ≡ item_at items name
+pub is_named : {B : Type 0} (f : B → Item) (items : List Item) (name : List ℕ) (o : Option B)
+    → option_map f o ≡ item_at items name
     → (IsTrue (is_some o) → Contains (names_of items) name) × (Contains (names_of items) name → IsTrue (is_some o))
 is_named f items name (Some x) found = (λ _. named_in items name (f x) (sym found), λ _. refl)
 is_named f items name None found = (λ f. cc, λ c. let (x, at) = item_of items name c in cc)

@@ -11,8 +11,8 @@ use heat_plan::{EngineNo, Policy, Refusal};
 use std::alloc::Global;
 
 /// The begin of an engine's job at a clean-up node: there is nothing to do where the row is gone or
-/// kept; a row at INIT is purged; one that failed to be deleted in this traversal is left; one that is
-/// retained is given up; any other is to be deleted.
+/// kept; a row at INIT is purged; one that failed to be deleted in this traversal is left; one that
+/// is retained is given up; any other is to be deleted.
 pub fn begin(alloc: Global, s: &State, e: EngineNo, job: &Job) -> Result<Made, Refusal>
     requires { AtCleanup s.now.state e job.now }
     ensures made { IfOk result (IsTurn s.now.state e Nothing) }

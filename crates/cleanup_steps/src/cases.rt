@@ -19,7 +19,8 @@ use step_parts::{
 
 /// There is nothing to do: the job goes on to its end.
 pub fn pass(alloc: Global, e: EngineNo, job: &Job) -> Result<Made, Refusal>
-    ensures made { IfOk result (Makes (onward_changes job.now Ending) (onward_entries e job.now Ending)) }
+    ensures made { IfOk result (Makes (onward_changes job.now Ending)
+        (onward_entries e job.now Ending)) }
     ensures cause { IfErr result (IsRefused (onward_changes job.now Ending)) }
 {
     let changes = onward_changes(alloc, job, Stage::Ending)?;
@@ -29,7 +30,8 @@ pub fn pass(alloc: Global, e: EngineNo, job: &Job) -> Result<Made, Refusal>
 
 /// The row goes from the table.
 pub fn purge(alloc: Global, e: EngineNo, job: &Job, row: &Row) -> Result<Made, Refusal>
-    ensures made { IfOk result (Makes (purged_changes job.now row.now) (purged_entries e job.now row.now)) }
+    ensures made { IfOk result (Makes (purged_changes job.now row.now)
+        (purged_entries e job.now row.now)) }
     ensures cause { IfErr result (IsRefused (purged_changes job.now row.now)) }
 {
     let changes = purged_changes(alloc, job, row)?;
@@ -52,7 +54,8 @@ pub fn leave(alloc: Global, e: EngineNo, row: &Row) -> Result<Made, Refusal>
 
 /// The engine gives up what the row asked for, and the row goes.
 pub fn give_up(alloc: Global, e: EngineNo, job: &Job, row: &Row) -> Result<Made, Refusal>
-    ensures made { IfOk result (Makes (retained_changes job.now row.now) (retained_entries e job.now row.now)) }
+    ensures made { IfOk result (Makes (retained_changes job.now row.now)
+        (retained_entries e job.now row.now)) }
     ensures cause { IfErr result (IsRefused (retained_changes job.now row.now)) }
 {
     let changes = retained_changes(alloc, job, row)?;
@@ -103,7 +106,8 @@ pub fn delete(
 ) -> Result<Made, Refusal>
     ensures made { IfOk result (Makes (begun_changes job.now Asking (deleted_row row.now trav))
         (begun_entries e job.now Asking (deleted_row row.now trav))) }
-    ensures cause { IfErr result (IsRefused (begun_changes job.now Asking (deleted_row row.now trav))) }
+    ensures cause { IfErr result (IsRefused
+        (begun_changes job.now Asking (deleted_row row.now trav))) }
 {
     let changes = begun_changes(alloc, job, Stage::Asking, deleted_row(row, trav)?)?;
     let entries = begun_entries(alloc, e, job, Stage::Asking, deleted_row(row, trav)?)?;

@@ -5,14 +5,17 @@ use Rattle.core_state.specs.declared.change.Change.{Change}
 use Rattle.core_state.specs.declared.change.Change.TheVariants.{Enlist}
 use Rattle.step_relation.specs.Steps.{engines_from}
 
+-- a number that was made is the one that was asked for
 pub some_new : (o : Option ℕ) (P : Type 0) (n x : ℕ) → SomeIff o P n → o ≡ Some x → x ≡ n
 some_new None P n x no_number e = cc
 some_new (Some y) P n x is_number e = let same : Some x ≡ Some y = sym e in cc
 
+-- one that was not made is out of range
 pub none_new : (o : Option ℕ) (P : Type 0) (n : ℕ) → SomeIff o P n → o ≡ None → ¬ P
 none_new None P n no_number e = no_number
 none_new (Some x) P n is_number e = cc
 
+-- the numbers from the i-th on: it, and those behind it
 pub engines_step : (first i count : ℕ) → i < count
     → engines_from (first + i) (count - i) ≡ (first + i) ∷ engines_from (first + (i + 1)) (count - (i + 1))
 engines_step first i count lt = from (first + i) (count - i) (count - (i + 1)) (omega (arith, lt)) ∙ later where
@@ -20,9 +23,11 @@ engines_step first i count lt = from (first + i) (count - i) (count - (i + 1)) (
   from n zero k e = absurd (omega (arith, e))
   from n (suc m) k e = let same : m ≡ k = omega (arith, e) in rw same refl
 
-  later : (first + i) ∷ engines_from (first + i + 1) (count - (i + 1)) ≡ (first + i) ∷ engines_from (first + (i + 1)) (count - (i + 1))
+  later : (first + i) ∷ engines_from (first + i + 1) (count - (i + 1))
+      ≡ (first + i) ∷ engines_from (first + (i + 1)) (count - (i + 1))
   later = let same : first + i + 1 ≡ first + (i + 1) = omega arith in rw same refl
 
+-- one more is enlisted
 pub enlisted : (changes all : List Change) (first i count n : ℕ) → i < count → n ≡ first + i
     → changes ++ map Enlist (engines_from (first + i) (count - i)) ≡ all
     → (changes ++ Enlist n ∷ []) ++ map Enlist (engines_from (first + (i + 1)) (count - (i + 1))) ≡ all

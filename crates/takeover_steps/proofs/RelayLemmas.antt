@@ -21,8 +21,8 @@ letter_wears next rest full = record {
 }
 
 -- the key of the row that is to be unlocked can't be raised
-pub key_wears : {B : Type 0} (f : B → Row) (row : Option B) (first : Change) (rest : List Change) → ¬ IfSome row (λ r. MayRise (f r))
-    → IsWorn (first ∷ unlock (option_map f row) rest)
+pub key_wears : {B : Type 0} (f : B → Row) (row : Option B) (first : Change) (rest : List Change)
+    → ¬ IfSome row (λ r. MayRise (f r)) → IsWorn (first ∷ unlock (option_map f row) rest)
 key_wears f None first rest high = absurd (high tt)
 key_wears f (Some r) first rest high = record {
   change = PutRow (unlocked (f r));

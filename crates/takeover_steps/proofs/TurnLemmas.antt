@@ -19,10 +19,11 @@ use Rattle.step_reads.specs.Work.{IsFreshOf, fresh_of}
 use Rattle.next_laws.proofs.Worn.{quiet_not_worn}
 use Rattle.takeover_steps.specs.Relays.{relayed_changes, relayed_entries}
 
-module _ (s : StateData) (e : ℕ) (j : Job) (st : Stack) (g : Graph) (node : Node) (row : Option Row) (over : TakesOver s e j.engine j)
-    (fresh : IsFreshOf s j.letter j.row st g node row) where
+module _ (s : StateData) (e : ℕ) (j : Job) (st : Stack) (g : Graph) (node : Node) (row : Option Row)
+    (over : TakesOver s e j.engine j) (fresh : IsFreshOf s j.letter j.row st g node row) where
   move : Move s e Nothing None (relayed_changes s j st row) (relayed_entries s e j st row)
-  move = takeover_fresh j.engine (record { job = j; next = over; fresh = fresh_of s j.letter j.row st g node row fresh }) _ _ refl refl
+  move = takeover_fresh j.engine (record { job = j; next = over; fresh = fresh_of s j.letter j.row st g node row fresh })
+      _ _ refl refl
 
   pub relay_turns : (r : Result Made Refusal) → IfOk r (λ m. m.changes ≡ relayed_changes s j st row)
       → IfOk r (λ m. m.entries ≡ relayed_entries s e j st row) → IfOk r (λ _. ¬ IsWorn (relayed_changes s j st row))
@@ -34,7 +35,8 @@ module _ (s : StateData) (e : ℕ) (j : Job) (st : Stack) (g : Graph) (node : No
         (plain None move unfailed) lasts;
   }
 
-  pub relay_refuses : (r : Result Made Refusal) → IfErr r (λ f. (f ≡ Memory) ⊎ ((f ≡ Worn) × IsWorn (relayed_changes s j st row)))
+  pub relay_refuses : (r : Result Made Refusal)
+      → IfErr r (λ f. (f ≡ Memory) ⊎ ((f ≡ Worn) × IsWorn (relayed_changes s j st row)))
       → IfErr r (IsTurnRefusal s e Nothing)
   relay_refuses (Ok m) cause = tt
   relay_refuses (Err f) (inl is) = memory is

@@ -18,8 +18,8 @@ use std::alloc::{AllocError, Global};
 /// How many engines may be live.
 pub const ENGINE_LIMIT: usize = 64;
 
-/// The enlisting of an engine; refuses `TooManyEngines` where so many are live as may be, else `Worn`
-/// where its number would be 2^62.
+/// The enlisting of an engine; refuses `TooManyEngines` where so many are live as may be, else
+/// `Worn` where its number would be 2^62.
 pub fn enlist(alloc: Global, s: &State) -> Result<Made, Refusal>
     ensures made { IfOk result (λ m. Enlists s.now.state m.changes m.entries) }
     ensures cause { IfErr result (λ r. (r ≡ Memory) ⊎ RefusesEnlist s.now.state r) }
@@ -38,7 +38,8 @@ fn started(alloc: Global, next: &Numbers, e: EngineNo) -> Result<Made, AllocErro
     requires { next.now.engine ≡ e }
     ensures changes { IfOk result (λ m.
         m.changes ≡ change_to.Numbers (past_engines next.now 1) ∷ change_to.Enlist e ∷ []) }
-    ensures entries { IfOk result (λ m. m.entries ≡ entry_of Main (what.Engine (engine.Start e)) ∷ []) }
+    ensures entries { IfOk result (λ m.
+        m.entries ≡ entry_of Main (what.Engine (engine.Start e)) ∷ []) }
 {
     let mut changes = Batch::new(alloc);
     changes.push(Change::Numbers(past_engines(next, 1)))?;

@@ -1,4 +1,5 @@
-//! What ends a stopped engine's job that has work: its row is free again, and a letter goes to its node.
+//! The end of a stopped engine's job that has work: its row is free again, and a letter goes to its
+//! node.
 ghost use Rattle.std.specs.Prelude.{◌≡◌, ◌⊎◌, ◌∷◌, [], IfOk, IfErr, option_map};
 ghost use Rattle.heat_plan.specs.declared.refusal.Refusal.TheVariants.{Memory, Worn};
 ghost use Rattle.step_relation.specs.Turns.{IsWorn};
@@ -11,8 +12,8 @@ use step_parts::{
     has_room, letters_to, made_within, may_all_rise, released_changes, released_entries,
 };
 
-/// The job of a stopped engine ends with a letter to its node; refuses `Worn` where the letter's number
-/// or the row's key would be 2^62.
+/// The job of a stopped engine ends with a letter to its node; refuses `Worn` where the letter's
+/// number or the row's key would be 2^62.
 pub fn relay(
     alloc: Global,
     s: &State,

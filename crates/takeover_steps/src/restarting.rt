@@ -53,7 +53,8 @@ fn stop_all(changes: &mut Batch<Change>, live: &[EngineNo]) -> Result<(), AllocE
 // The enlisting of so many, from one on.
 fn enlist_all(changes: &mut Batch<Change>, first: Next, count: u8) -> Result<(), AllocError>
     requires { first + count ≤ 2 ^ 62 }
-    ensures { OnOk result (changes.new ≡ changes.old ++ map change_to.Enlist (engines_from first count)) }
+    ensures { OnOk result
+        (changes.new ≡ changes.old ++ map change_to.Enlist (engines_from first count)) }
 {
     let first = first.get();
     for i in 0..count {

@@ -10,8 +10,8 @@ use heat_plan::{EngineNo, Refusal};
 use std::alloc::Global;
 use step_reads::freshness;
 
-/// The take-over of a stopped engine's job, by a live one: a job that is overrun is released; another
-/// ends, and a letter for its node is sent again.
+/// The take-over of a stopped engine's job, by a live one: a job that is overrun is released;
+/// another ends, and a letter for its node is sent again.
 pub fn takeover(alloc: Global, s: &State, e: EngineNo, job: &Job) -> Result<Made, Refusal>
     requires { TakesOver s.now.state e job.now.engine job.now }
     ensures made { IfOk result (IsTurn s.now.state e Nothing) }

@@ -1,4 +1,5 @@
-//! That engines are stopped, enlisted and followed by others with ample memory, and are refused where they are to be.
+//! That engines are stopped, enlisted and followed by others with ample memory, and are refused
+//! where they are to be.
 
 use crate::{enlist, restart, stop};
 use core_state::{Change, Made, State};

@@ -24,7 +24,8 @@ is_kept-requires c = row_self c.args.s.now.state.rows c.args.job.now.row c.args.
 
 pub returns-then-is_kept-clause-made : goal.returns-then-is_kept-clause-made
 returns-then-is_kept-clause-made c = turns _ _ _ _ c.pass.result
-    (clean_kept (cleans_row _ _ _ _ _ c.requires) c.args.row.now _ _ c.requires.found (c.is_kept.ensures.0 c.if-is_kept.true) refl refl)
+    (clean_kept (cleans_row _ _ _ _ _ c.requires) c.args.row.now _ _ c.requires.found
+    (c.is_kept.ensures.0 c.if-is_kept.true) refl refl)
     c.pass.ensures.made
 
 pub returns-then-is_init-clause-made : goal.returns-then-is_init-clause-made
@@ -61,7 +62,8 @@ returns-in-Delete-clause-made c = turns _ _ _ _ c.delete.result
 
 pub returns-in-Delete-clause-cause : goal.returns-in-Delete-clause-cause
 returns-in-Delete-clause-cause c =
-    refuses _ _ _ (begun_entries c.args.e c.args.job.now Asking (deleted_row c.args.row.now c.args.stack.now.trav)) c.delete.result
+    refuses _ _ _ (begun_entries c.args.e c.args.job.now Asking (deleted_row c.args.row.now c.args.stack.now.trav))
+    c.delete.result
     (clean_deleted (cleans_row _ _ _ _ _ c.requires) c.args.row.now _ _ c.requires.found
     (never _ _ c.is_kept.ensures.1 c.if-is_kept.false) (never _ _ c.is_init.ensures.1 c.if-is_init.false)
     (never _ _ c.is_stuck.ensures.1 c.if-is_stuck.false) (kept_not_retained _ c.in-Delete.is) refl refl)
