@@ -5,3 +5,10 @@ pub mod NextLemmas
 pub mod HeldLemmas
 pub mod TargetLemmas
 pub mod WorkLemmas
+pub mod StandingLemmas
+pub mod PointLemmas
+pub mod FinishLemmas
+pub mod ReadyLemmas
+pub mod GatherLemmas
+pub mod ThenLemmas
+pub mod InputLemmas

@@ -4,3 +4,6 @@ pub mod Rows
 pub mod Work
 pub mod Waiting
 pub mod Inputs
+pub mod Standing
+pub mod Readiness
+pub mod Points

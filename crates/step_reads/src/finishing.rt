@@ -1,13 +1,13 @@
-//! What the end of a node leaves of its graph: the points that change, the nodes that are ready then,
-//! and whether all are done.
-ghost use Rattle.std.specs.Prelude.{◌≡◌, ◌<◌, IfOk, Contains, length};
+//! What the end of a node leaves of its graph: the nodes that are ready then, and whether all are done.
+ghost use Rattle.std.specs.Prelude.{◌<◌, IfOk, length};
 ghost use Rattle.std.specs.Bool.{OnTrue, OnFalse};
 ghost use Rattle.dep_graph.specs.Lists.{IsRising, ListsAll};
 ghost use Rattle.traversal_graph.specs.Builds.{Joins};
-ghost use Rattle.step_relation.specs.Inputs.{passed_points, passed, AllDone};
-ghost use Rattle.step_reads.specs.Waiting.{IsReadyThen};
+ghost use Rattle.step_relation.specs.Inputs.{passed, AllDone};
+ghost use Rattle.step_reads.specs.Waiting.{IsDoneThen, IsReadyThen};
 
-use core_state::{Graph, Input, Point};
+use crate::nodes::is_ready_with;
+use core_state::{Graph, Input};
 use heat_value::Seq;
 use std::alloc::{AllocError, Global};
 
@@ -17,19 +17,6 @@ pub fn succs_of(graph: &Graph, node: u32) -> Result<Seq<u32>, AllocError>
     ensures { IfOk result (ListsAll (Joins graph.now.graph.edges node)) }
 {
     graph.graph.succs(node)
-}
-
-/// The points that change when a node is done and gives this input to the nodes behind it.
-pub fn points_passed(
-    alloc: Global,
-    graph: &Graph,
-    node: u32,
-    input: &Input,
-    succs: &[u32],
-) -> Result<Seq<Point>, AllocError>
-    ensures { IfOk result (λ points. points ≡ passed_points graph.now node input.now succs.now) }
-{
-    Err(AllocError)
 }
 
 /// Those of the nodes behind one that are ready then, rising.
@@ -43,7 +30,13 @@ pub fn ready_then(
     requires { IsRising succs.now }
     ensures { IfOk result (ListsAll (IsReadyThen graph.now node input.now succs.now)) }
 {
-    Err(AllocError)
+    let mut ready = Seq::new(alloc);
+    for succ in succs {
+        if is_ready_with(alloc, graph, *succ, Some(input.from))? {
+            ready.push(*succ)?;
+        }
+    }
+    Ok(ready)
 }
 
 /// Whether every node is done then.
@@ -60,7 +53,10 @@ pub fn all_done(graph: &Graph, node: u32, input: &Input, succs: &[u32]) -> bool
 }
 
 // Whether a node of the graph is done then.
-fn is_done_then(graph: &Graph, node: u32, place: usize) -> bool {
+fn is_done_then(graph: &Graph, node: u32, place: usize) -> bool
+    ensures yes { OnTrue result (IsDoneThen graph.now node place) }
+    ensures no_ { OnFalse result (¬ IsDoneThen graph.now node place) }
+{
     match graph.points.as_slice().get(place) {
         Some(point) => point.done || place == node as usize,
         None => false,

@@ -3,6 +3,7 @@
 //! decides what is written. Each function answers a word of step_relation.
 #![tactic(auto)]
 
+mod current;
 mod engines;
 mod finishing;
 mod given;
@@ -10,19 +11,22 @@ mod holders;
 mod next;
 mod nodes;
 mod plans;
+mod points;
 mod resends;
 mod standing;
 mod targets;
 mod work;
 
+pub use current::current_of;
 pub use engines::{is_live, is_stopped};
-pub use finishing::{all_done, points_passed, ready_then, succs_of};
+pub use finishing::{all_done, ready_then, succs_of};
 pub use given::{input_of, known, required};
 pub use holders::holder;
 pub use next::{Task, left, lowest, next_of};
-pub use nodes::{is_done, is_open, is_ready};
+pub use nodes::{is_done, is_open, is_ready, point_of};
 pub use plans::item_of;
+pub use points::points_passed;
 pub use resends::resent;
-pub use standing::{current_of, rows_of};
+pub use standing::rows_of;
 pub use targets::target_of;
 pub use work::{Fresh, Meant, Named, freshness, meaning, what_of};

@@ -5,7 +5,7 @@ ghost use Rattle.row_table.specs.Chains.{Leads, IsLast};
 ghost use Rattle.step_relation.specs.Targets.{IsTarget};
 ghost use Rattle.step_reads.specs.Rows.{IsBehind, HasNoTarget};
 
-use crate::standing::current_of;
+use crate::current::current_of;
 use core_state::{Row, State};
 use heat_plan::{RowNo, StackName};
 use traversal_graph::Node;
