@@ -60,7 +60,7 @@ keeps_one first cs a b (goes_on earlier mid cs1 a1 before after h step e) (goes_
     considers_one mid before after a b step (rw (mids, befores, afters) step_)
 
 -- the rows put in order are one, where no two have a number
-numbers_same : (standing : List Row) → numbers_of (map brief_of standing) ≡ map row_key standing
+pub numbers_same : (standing : List Row) → numbers_of (map brief_of standing) ≡ map row_key standing
 numbers_same [] = refl
 numbers_same (r ∷ standing) = ap (λ (l : List ℕ). r.no ∷ l) (numbers_same standing)
 

@@ -4,7 +4,7 @@ use Rattle.std.specs.Prelude.{Contains}
 use Rattle.dep_graph.specs.Lists.{IsLeast, IsRising, ListsAll}
 
 module _ {A : Type 0} where
-  no_member : (n : A) → Contains [] n → ⊥
+  pub no_member : (n : A) → Contains [] n → ⊥
   no_member n (i, lt, e) = omega (arith, lt)
 
   pub cons_cases : (xs : List A) (y x : A) → Contains (y ∷ xs) x → (x ≡ y) ⊎ Contains xs x

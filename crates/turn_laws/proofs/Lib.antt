@@ -1,0 +1,10 @@
+pub mod Decide
+pub mod Collect
+pub mod Targets
+pub mod Sights
+pub mod Waiting
+pub mod Paths
+pub mod Layings
+pub mod Fates
+pub mod Turning
+pub mod Nexts

@@ -1,0 +1,51 @@
+-- Every engine has a next step.
+use Rattle.std.specs.Prelude.{Contains, List, Some, slice_get, ℕ, ◌≡◌, ◌⊎◌}
+use Rattle.heat_plan.specs.declared.calls.Request.{Request}
+use Rattle.traversal_graph.specs.declared.shape.Node.{Node}
+use Rattle.row_table.specs.Rows.{row_at}
+use Rattle.row_table.specs.declared.row.Row.{Row}
+use Rattle.sync_points.specs.declared.point.Point.{Point}
+use Rattle.mail_table.specs.Mails.{job_at}
+use Rattle.mail_table.specs.declared.mail.Job.{Job}
+use Rattle.mail_table.specs.declared.mail.Stage.TheVariants.{Asking, Polling}
+use Rattle.core_state.specs.State.{StateData}
+use Rattle.core_state.specs.declared.change.Change.{Change}
+use Rattle.core_state.specs.declared.entry.Entry.{Entry}
+use Rattle.core_state.specs.declared.graph.Graph.{Graph}
+use Rattle.core_state.specs.declared.stack.Stack.{Stack}
+use Rattle.step_relation.specs.Asks.{Asks}
+use Rattle.step_relation.specs.Freshness.{Names}
+use Rattle.step_relation.specs.Given.{Given}
+use Rattle.step_relation.specs.Nexts.{IsIdle}
+use Rattle.step_relation.specs.Turns.{Turn}
+use Rattle.turn_laws.specs.Suits.{Suits}
+
+-- whatever the state: what suits an engine's next step makes a turn of it
+abbrev pub TurnExists : Type 0
+TurnExists = (s : StateData) (e : ℕ) (given : Given) → Suits s e given → (cs : List Change) × (es : List Entry) × Turn s e given cs es
+
+-- each node that a job names has its point
+abbrev pub HasPoints : StateData → Type 0
+HasPoints s = (e : ℕ) (j : Job) (st : Stack) (g : Graph) (node : Node) → job_at s.jobs e ≡ Some j → Names s j.letter st g node
+    → (p : Point) × (slice_get g.points j.letter.node ≡ Some p)
+
+-- a job that asks has a row that something is asked for
+pub record IsAskable (s : StateData) (j : Job) : Type 0 where
+  pub row : Row
+  pub found : row_at s.rows j.row ≡ Some row
+  pub asked : Request
+  pub asks : Asks row asked
+
+-- what each job of a state has
+pub record HasWork (s : StateData) : Type 0 where
+  pub points : HasPoints s
+  pub asking : (e : ℕ) (j : Job) → job_at s.jobs e ≡ Some j → j.stage ≡ Asking → IsAskable s j
+  pub polling : (e : ℕ) (j : Job) → job_at s.jobs e ≡ Some j → j.stage ≡ Polling → (r : Row) × (row_at s.rows j.row ≡ Some r)
+
+-- each live engine has a step for something that suits it, or is idle, and never both
+pub record StepsOrIsIdle (s : StateData) (e : ℕ) : Type 0 where
+  pub either : ((given : Given) × Suits s e given) ⊎ IsIdle s e
+  pub apart : (given : Given) → Suits s e given → ¬ IsIdle s e
+
+abbrev pub NextExists : Type 0
+NextExists = (s : StateData) (e : ℕ) → HasWork s → Contains s.live e → StepsOrIsIdle s e
