@@ -1,5 +1,6 @@
 -- The least of a kind by its key, looked for from the first record to the last.
-use Rattle.std.proofs.Common.{◌≡◌, ◌<◌, ◌≤◌, ◌+◌, ◌⊎◌, inl, inr, ℕ, Bool, true, false, cond, List, [], ◌∷◌, ◌++◌, Some, None, refl, sym, arith}
+use Rattle.std.proofs.Common.{◌≡◌, ◌<◌, ◌≤◌, ◌⊎◌, inl, inr, ℕ, Bool, true, false, cond, List, [], ◌∷◌, ◌++◌, Some, None}
+use Rattle.std.proofs.Common.{refl, arith}
 use Rattle.std.specs.Prelude.{Option, nat_eq, nat_le}
 use Rattle.std.proofs.lemmas.Bool.Decides.{Decides-eqb, nat_tests}
 use Rattle.heat_plan.specs.Tables.{at}
@@ -11,19 +12,22 @@ module _ {A : Type 0} (key : A → ℕ) where
       → (at nat_eq key seen n ≡ Some x) ⊎ ((at nat_eq key seen n ≡ None) × (key y ≡ n) × (y ≡ x))
   unfolding at
   at_push [] y n x h = by (nat_eq (key y) n) refl h where
-    by : (b : Bool) → nat_eq (key y) n ≡ b → cond b (Some y) None ≡ Some x → (None ≡ Some x) ⊎ ((at nat_eq key [] n ≡ None) × (key y ≡ n) × (y ≡ x))
+    by : (b : Bool) → nat_eq (key y) n ≡ b → cond b (Some y) None ≡ Some x
+        → (None ≡ Some x) ⊎ ((at nat_eq key [] n ≡ None) × (key y ≡ n) × (y ≡ x))
     by true e h = let is : y ≡ x = cc in inr (refl, (Decides-eqb (key y) n).0 e, is)
     by false e h = inl h
   at_push (z ∷ zs) y n x h = by (nat_eq (key z) n) (at_push zs y n x) h where
     by : (b : Bool) → (at nat_eq key (zs ++ y ∷ []) n ≡ Some x
         → (at nat_eq key zs n ≡ Some x) ⊎ ((at nat_eq key zs n ≡ None) × (key y ≡ n) × (y ≡ x)))
         → cond b (Some z) (at nat_eq key (zs ++ y ∷ []) n) ≡ Some x
-        → (cond b (Some z) (at nat_eq key zs n) ≡ Some x) ⊎ ((cond b (Some z) (at nat_eq key zs n) ≡ None) × (key y ≡ n) × (y ≡ x))
+        → (cond b (Some z) (at nat_eq key zs n) ≡ Some x) ⊎
+        ((cond b (Some z) (at nat_eq key zs n) ≡ None) × (key y ≡ n) × (y ≡ x))
     by true rest h = inl h
     by false rest h = rest h
 
   -- what was found is found
-  pub at_was : (seen : List A) (y : A) (n : ℕ) (x : A) → at nat_eq key seen n ≡ Some x → at nat_eq key (seen ++ y ∷ []) n ≡ Some x
+  pub at_was : (seen : List A) (y : A) (n : ℕ) (x : A) → at nat_eq key seen n ≡ Some x
+      → at nat_eq key (seen ++ y ∷ []) n ≡ Some x
   unfolding at
   at_was [] y n x h = cc
   at_was (z ∷ zs) y n x h = by (nat_eq (key z) n) (at_was zs y n x) h where
@@ -33,12 +37,14 @@ module _ {A : Type 0} (key : A → ℕ) where
     by false rest h = rest h
 
   -- where nothing had its key, the record is found
-  pub at_new : (seen : List A) (y : A) → at nat_eq key seen (key y) ≡ None → at nat_eq key (seen ++ y ∷ []) (key y) ≡ Some y
+  pub at_new : (seen : List A) (y : A) → at nat_eq key seen (key y) ≡ None → at nat_eq key (seen ++ y ∷ [])
+      (key y) ≡ Some y
   unfolding at
   at_new [] y h = let t : nat_eq (key y) (key y) ≡ true = (Decides-eqb (key y) (key y)).1 refl in rw t refl
   at_new (z ∷ zs) y h = by (nat_eq (key z) (key y)) (at_new zs y) h where
     by : (b : Bool) → (at nat_eq key zs (key y) ≡ None → at nat_eq key (zs ++ y ∷ []) (key y) ≡ Some y)
-        → cond b (Some z) (at nat_eq key zs (key y)) ≡ None → cond b (Some z) (at nat_eq key (zs ++ y ∷ []) (key y)) ≡ Some y
+        → cond b (Some z) (at nat_eq key zs (key y)) ≡ None → cond b (Some z) (at nat_eq key (zs ++ y ∷ []) (key y)) ≡
+        Some y
     by true rest h = cc
     by false rest h = rest h
 
@@ -95,7 +101,8 @@ module _ {A : Type 0} (key : A → ℕ) where
             ];
           }
 
-    pub best_skip : (seen : List A) (best : Option A) (y : A) → ¬ Of (key y) → IsBest seen best → IsBest (seen ++ y ∷ []) best
+    pub best_skip : (seen : List A) (best : Option A) (y : A) → ¬ Of (key y) → IsBest seen best
+        → IsBest (seen ++ y ∷ []) best
     best_skip seen None y not h = λ n x found of_n. elim (at_push seen y n x found) [
       | inl was ↦ h n x was of_n
       | inr new ↦ (let (_, same, _) = new in not (rw same of_n))

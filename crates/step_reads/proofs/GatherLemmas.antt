@@ -1,5 +1,6 @@
 -- What a point has gathered once an input is given.
-use Rattle.std.proofs.Common.{◌≡◌, ◌<◌, ◌+◌, ◌⊎◌, inl, inr, ℕ, Bool, true, false, cond, List, [], ◌∷◌, ◌++◌, Some, refl, sym, ap, ◌∙◌, subst, arith, length, get_or, take}
+use Rattle.std.proofs.Common.{◌≡◌, ◌<◌, ◌+◌, ◌⊎◌, inl, ℕ, Bool, true, false, cond, List, [], ◌∷◌, ◌++◌, Some, refl, sym}
+use Rattle.std.proofs.Common.{ap, ◌∙◌, subst, length, get_or, take}
 use Rattle.std.specs.Prelude.{Contains, map, ◌==◌}
 use Rattle.std.proofs.lemmas.Bool.Decides.{Decides-eqb}
 use Rattle.std.proofs.lemmas.List.{map_more}
@@ -12,14 +13,16 @@ use Rattle.step_relation.specs.Inputs.{gathered, has_from, is_among, point_after
 use Rattle.step_reads.specs.Points.{point_with}
 
 pub among_true : (succs : List ℕ) (k : ℕ) → Contains succs k → is_among k succs ≡ true
-among_true succs k (n, lt, e) = list_any_at (λ (m : ℕ). m == k) succs n k lt (ap (λ (m : ℕ). m == k) e ∙ (Decides-eqb k k).1 refl)
+among_true succs k (n, lt, e) =
+    list_any_at (λ (m : ℕ). m == k) succs n k lt (ap (λ (m : ℕ). m == k) e ∙ (Decides-eqb k k).1 refl)
 
 -- the point of a node behind the one that is done
 pub point_given : (g : Graph) (i : ℕ) (x : Input) (succs : List ℕ) (k : ℕ) → Contains succs k
     → point_after g i x succs k ≡ point_with g i k (Some x)
 point_given g i x succs k c = rw (among_true succs k c) refl
 
-pub points_more : (g : Graph) (i : ℕ) (x : Input) (succs : List ℕ) (n y : ℕ) (points : List Point) → n < length succs → y ≡ get_or succs n y
+pub points_more : (g : Graph) (i : ℕ) (x : Input) (succs : List ℕ) (n y : ℕ) (points : List Point) → n < length succs
+    → y ≡ get_or succs n y
     → points ≡ map (point_after g i x succs) (i ∷ take n succs)
     → points ++ point_with g i y (Some x) ∷ [] ≡ map (point_after g i x succs) (i ∷ take (n + 1) succs)
 points_more g i x succs n y points lt is h =
@@ -37,7 +40,8 @@ module _ (x : Input) (inputs : List Input) where
   -- an input of its node is there
   pub gathered_has : (y : Input) × Contains (gathered x inputs) y × (y.from ≡ x.from)
   gathered_has = by (has_from x.from inputs) refl where
-    by : (b : Bool) → has_from x.from inputs ≡ b → (y : Input) × Contains (cond b inputs (inputs ++ x ∷ [])) y × (y.from ≡ x.from)
+    by : (b : Bool) → has_from x.from inputs ≡ b → (y : Input) × Contains (cond b inputs (inputs ++ x ∷ [])) y ×
+        (y.from ≡ x.from)
     by true e =
         let (k, y, lt, is, test) = Any-from_list_any (λ (z : Input). z.from == x.from) inputs e in
         (y, (k, lt, is), (Decides-eqb y.from x.from).0 test)

@@ -1,5 +1,6 @@
 -- The first of a kind by its key, where each record is looked up by its key before it is taken.
-use Rattle.std.proofs.Common.{◌≡◌, ◌<◌, ◌≤◌, ◌+◌, ◌⊎◌, inl, inr, ℕ, Bool, true, false, cond, List, [], ◌∷◌, ◌++◌, Some, None, refl, sym, ◌∙◌, subst}
+use Rattle.std.proofs.Common.{◌≡◌, inl, inr, ℕ, Bool, true, false, cond, List, [], ◌∷◌, ◌++◌, Some, None, refl, sym}
+use Rattle.std.proofs.Common.{◌∙◌, subst}
 use Rattle.std.specs.Prelude.{Contains, Option, nat_eq}
 use Rattle.std.proofs.lemmas.Bool.Decides.{Decides-eqb}
 use Rattle.std.proofs.lemmas.List.Elements.{Contains-push_cases}
@@ -30,7 +31,8 @@ module _ {A : Type 0} (key : A → ℕ) (le : ℕ → ℕ → Bool) (order : IsO
   IsFirst seen (Some b) = IsFirstOf seen b
 
   -- a record that isn't taken
-  pub first_skip : (seen : List A) (best : Option A) (y : A) → (Stands y → ¬ Of y) → IsFirst seen best → IsFirst (seen ++ y ∷ []) best
+  pub first_skip : (seen : List A) (best : Option A) (y : A) → (Stands y → ¬ Of y) → IsFirst seen best
+      → IsFirst (seen ++ y ∷ []) best
   first_skip seen None y not h = λ x among stands of. elim (Contains-push_cases seen y x among) [
     | inl was ↦ h x was stands of
     | inr is ↦ not (subst Stands (sym is) stands) (subst Of (sym is) of)
@@ -45,18 +47,22 @@ module _ {A : Type 0} (key : A → ℕ) (le : ℕ → ℕ → Bool) (order : IsO
   }
 
   -- one that is
-  pub first_more : (seen : List A) (best : Option A) (y z : A) → at nat_eq key all (key y) ≡ Some z → Of z → IsFirst seen best
+  pub first_more : (seen : List A) (best : Option A) (y z : A) → at nat_eq key all (key y) ≡ Some z → Of z
+      → IsFirst seen best
       → IsFirst (seen ++ y ∷ []) (Some (first_by le key best z))
   first_more seen best y z found is h = by best h where
     stands : Stands z
-    stands = subst (λ (k : ℕ). at nat_eq key all k ≡ Some z) (sym (at-key nat_eq Decides-eqb key all (key y) z found)) found
+    stands = subst (λ (k : ℕ). at nat_eq key all k ≡ Some z) (sym (at-key nat_eq Decides-eqb key all (key y) z found))
+        found
 
     -- where y stands it is z
     itself : (x : A) → y ≡ x → Stands x → le (key z) (key x) ≡ true
-    itself x is its = let e : Some z ≡ Some x = sym found ∙ subst (λ (k : A). at nat_eq key all (key k) ≡ Some x) (sym is) its in
+    itself x is its = let e : Some z ≡ Some x =
+        sym found ∙ subst (λ (k : A). at nat_eq key all (key k) ≡ Some x) (sym is) its in
         let f : z ≡ x = cc in subst (λ (k : A). le (key z) (key k) ≡ true) f (order.same (key z))
 
-    pick : (b : A) → IsFirstOf seen b → (t : Bool) → le (key b) (key z) ≡ t → IsFirst (seen ++ y ∷ []) (Some (cond t b z))
+    pick : (b : A) → IsFirstOf seen b → (t : Bool) → le (key b) (key z) ≡ t
+        → IsFirst (seen ++ y ∷ []) (Some (cond t b z))
     pick b h true e = record {
       stands = h.stands;
       of = h.of;
@@ -86,10 +92,13 @@ module _ {A : Type 0} (key : A → ℕ) (le : ℕ → ℕ → Bool) (order : IsO
     by (Some b) h = pick b h (le (key b) (key z)) refl
 
   -- either, by the step that was made
-  pub first_next : (seen : List A) (best new : Option A) (y : A) → Improves le key Of best (at nat_eq key all (key y)) new
+  pub first_next : (seen : List A) (best new : Option A) (y : A) → Improves le key Of best (at nat_eq key all (key y))
+      new
       → IsFirst seen best → IsFirst (seen ++ y ∷ []) new
   first_next seen best new y (none found is) h = subst (IsFirst (seen ++ y ∷ [])) (sym is)
       (first_skip seen best y (λ stands of. let e : None ≡ Some y = sym found ∙ stands in cc) h)
   first_next seen best new y (other x found not is) h = subst (IsFirst (seen ++ y ∷ [])) (sym is)
-      (first_skip seen best y (λ stands of. let e : Some x ≡ Some y = sym found ∙ stands in let f : x ≡ y = cc in not (subst Of (sym f) of)) h)
-  first_next seen best new y (taken x found of is) h = subst (IsFirst (seen ++ y ∷ [])) (sym is) (first_more seen best y x found of h)
+      (first_skip seen best y (λ stands of. let e : Some x ≡ Some y = sym found ∙ stands in let f : x ≡ y = cc in not
+      (subst Of (sym f) of)) h)
+  first_next seen best new y (taken x found of is) h =
+      subst (IsFirst (seen ++ y ∷ [])) (sym is) (first_more seen best y x found of h)

@@ -1,10 +1,10 @@
 -- The holder of a row, and the current row of a name, are the first of their kinds.
-use Rattle.std.proofs.Common.{◌≡◌, ◌<◌, ◌≤◌, ◌+◌, ℕ, Bool, true, false, List, [], Bor, None, Some, sym, subst, arith}
-use Rattle.std.specs.Prelude.{Contains, IfSome, IsNone, Option, nat_le, option_map}
+use Rattle.std.proofs.Common.{◌≡◌, ◌≤◌, ℕ, Bool, true, List, Bor, None, Some, arith}
+use Rattle.std.specs.Prelude.{IfSome, IsNone, Option, nat_le, option_map}
 use Rattle.std.proofs.lemmas.Bool.Decides.{nat_tests}
-use Rattle.mail_table.specs.Mails.{job_at, job_key}
+use Rattle.mail_table.specs.Mails.{job_key}
 use Rattle.mail_table.specs.declared.mail.Job.{Job}
-use Rattle.row_table.specs.Rows.{row_at, row_key}
+use Rattle.row_table.specs.Rows.{row_key}
 use Rattle.row_table.specs.declared.row.Row.{Row}
 use Rattle.step_relation.specs.Takes.{HasNoHolder, IsHolder}
 use Rattle.step_relation.specs.Targets.{HasNoCurrent, IsCurrentOf}
@@ -32,7 +32,8 @@ downs = record {
 abbrev pub IsFirstHolder : List Job → ℕ → List Job → Option Job → Type 0
 IsFirstHolder jobs n = IsFirst job_key nat_le ups jobs (λ (j : Job). j.row ≡ n)
 
-pub holder_of : (jobs : List Job) (n : ℕ) (best : Option (Bor Job)) → IsFirstHolder jobs n jobs (option_map (λ j. j.now) best)
+pub holder_of : (jobs : List Job) (n : ℕ) (best : Option (Bor Job))
+    → IsFirstHolder jobs n jobs (option_map (λ j. j.now) best)
     → IfSome best (λ j. IsHolder jobs n j.now.engine j.now)
 holder_of jobs n None h = tt
 holder_of jobs n (Some j) h = record {
@@ -45,7 +46,8 @@ holder_of jobs n (Some j) h = record {
       omega (arith, less, key);
 }
 
-pub no_holder : (jobs : List Job) (n : ℕ) (best : Option (Bor Job)) → IsFirstHolder jobs n jobs (option_map (λ j. j.now) best)
+pub no_holder : (jobs : List Job) (n : ℕ) (best : Option (Bor Job))
+    → IsFirstHolder jobs n jobs (option_map (λ j. j.now) best)
     → IsNone best → HasNoHolder jobs n
 no_holder jobs n (Some j) h e = cc
 no_holder jobs n None h e = λ f j at has. h j (job-among jobs f j at) (job-self jobs f j at) has
@@ -54,7 +56,8 @@ abbrev pub IsFirstCurrent : List Row → List ℕ → List ℕ → List Row → 
 IsFirstCurrent rows stack name = IsFirst row_key down downs rows (IsCurrentAs stack name)
 
 pub current_of : (rows : List Row) (stack name : List ℕ) (best : Option (Bor Row))
-    → IsFirstCurrent rows stack name rows (option_map (λ r. r.now) best) → IfSome best (λ r. IsCurrentOf rows stack name r.now)
+    → IsFirstCurrent rows stack name rows (option_map (λ r. r.now) best)
+    → IfSome best (λ r. IsCurrentOf rows stack name r.now)
 current_of rows stack name None h = tt
 current_of rows stack name (Some r) h = record {
   found = h.stands;

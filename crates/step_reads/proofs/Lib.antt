@@ -12,3 +12,5 @@ pub mod ReadyLemmas
 pub mod GatherLemmas
 pub mod ThenLemmas
 pub mod InputLemmas
+pub mod ChainLemmas
+pub mod ResendLemmas

@@ -1,6 +1,7 @@
 -- What is found in a table has the key, and is among its records.
-use Rattle.std.proofs.Common.{◌≡◌, ◌≢◌, ◌<◌, ◌+◌, ◌⊎◌, inl, inr, ℕ, zero, suc, Bool, true, false, cond, List, [], ◌∷◌, Some, None, refl, sym, subst, arith}
-use Rattle.std.specs.Prelude.{Contains, Decides, Option, nat_eq}
+use Rattle.std.proofs.Common.{◌≡◌, ◌≢◌, ◌⊎◌, inl, inr, ℕ, zero, suc, Bool, true, false, List, [], ◌∷◌, Some, refl, sym}
+use Rattle.std.proofs.Common.{subst, arith}
+use Rattle.std.specs.Prelude.{Contains, Decides, nat_eq}
 use Rattle.std.proofs.lemmas.Bool.Decides.{Decides-eqb}
 use Rattle.heat_plan.specs.Tables.{at}
 use Rattle.mail_table.specs.Mails.{job_at, job_key}
@@ -40,7 +41,8 @@ module _ {K A : Type 0} (same : K → K → Bool) (decides : (x y : K) → Decid
   unfolding at
   at-among [] k x h = cc
   at-among (y ∷ ys) k x h = elim (cases (key y) k) [
-    | inl is ↦ let e : Some y ≡ Some x = rw is.0 at h in let f : y ≡ x = cc in subst (Contains (y ∷ ys)) f (Contains-head y ys)
+    | inl is ↦ let e : Some y ≡ Some x = rw is.0 at h in let f : y ≡ x = cc in
+        subst (Contains (y ∷ ys)) f (Contains-head y ys)
     | inr not ↦ Contains-tail y ys x (at-among ys k x (rw not.0 at h))
   ]
 

@@ -1,5 +1,6 @@
 -- Which nodes are ready once a node before them is done.
-use Rattle.std.proofs.Common.{◌≡◌, ◌<◌, ◌+◌, ◌⊎◌, inl, inr, ℕ, List, [], ◌∷◌, ◌++◌, Some, refl, sym, ap, ◌∙◌, subst, arith, length, get_or, take}
+use Rattle.std.proofs.Common.{◌≡◌, ◌<◌, ◌+◌, inl, inr, ℕ, List, [], ◌∷◌, ◌++◌, Some, refl, sym, ap, ◌∙◌, subst, arith}
+use Rattle.std.proofs.Common.{length, get_or, take}
 use Rattle.std.specs.Prelude.{Contains, slice_get}
 use Rattle.std.proofs.lemmas.List.{get_or-take, get_or_default, length-take-le, take_more}
 use Rattle.std.proofs.lemmas.List.Elements.{Contains-append_left, Contains-get_or, Contains-push, Contains-push_cases}
@@ -24,9 +25,10 @@ module _ (g : Graph) (i : ℕ) (x : Input) (succs : List ℕ) (k : ℕ) (behind 
 
   -- the inputs that the node has then
   inputs_then : (q : Point) → slice_get g.points k ≡ Some q → (point_after g i x succs k).inputs ≡ gathered x q.inputs
-  inputs_then q there = ap (λ (p : Point). p.inputs) (point_given g i x succs k behind) ∙ ap (λ (p : Point). gathered x p.inputs) at where
-    at : point_at g k ≡ q
-    at = rw there refl
+  inputs_then q there =
+      ap (λ (p : Point). p.inputs) (point_given g i x succs k behind) ∙ ap (λ (p : Point). gathered x p.inputs) at where
+        at : point_at g k ≡ q
+        at = rw there refl
 
   input_then : (a : ℕ) → HasInputWith g k (Some x.from) a → HasInput (passed g i x succs) k a
   input_then a h = by h.comes where
@@ -44,7 +46,8 @@ module _ (g : Graph) (i : ℕ) (x : Input) (succs : List ℕ) (k : ℕ) (behind 
 
     by : ComesFrom h.point.inputs (Some x.from) a → HasInput (passed g i x succs) k a
     by (inl (y, among, e)) = has y (gathered_keeps x h.point.inputs y among) e
-    by (inr is) = let same : x.from ≡ a = cc in let (y, among, e) = gathered_has x h.point.inputs in has y among (e ∙ same)
+    by (inr is) = let same : x.from ≡ a = cc in let (y, among, e) = gathered_has x h.point.inputs in
+        has y among (e ∙ same)
 
   input_before : (a : ℕ) → HasInput (passed g i x succs) k a → HasInputWith g k (Some x.from) a
   input_before a h = by (passed_was g i x succs k h.point h.there) where
@@ -52,10 +55,12 @@ module _ (g : Graph) (i : ℕ) (x : Input) (succs : List ℕ) (k : ℕ) (behind 
     by (q, there) = record { point = q; there = there; comes = comes } where
       is : h.point ≡ point_after g i x succs k
       is = let some : Some h.point ≡ Some (point_after g i x succs k) =
-          sym h.there ∙ passed_here g i x succs k (Contains-tail i succs k behind) (slice_get_within g.points k q there) in cc
+          sym h.there ∙ passed_here g i x succs k (Contains-tail i succs k behind)
+          (slice_get_within g.points k q there) in cc
 
       among : Contains (gathered x q.inputs) h.input
-      among = subst (λ (l : List Input). Contains l h.input) (ap (λ (p : Point). p.inputs) is ∙ inputs_then q there) h.among
+      among = subst (λ (l : List Input). Contains l h.input) (ap (λ (p : Point). p.inputs) is ∙ inputs_then q there)
+          h.among
 
       comes : ComesFrom q.inputs (Some x.from) a
       comes = elim (gathered_of x q.inputs h.input among) [
@@ -67,7 +72,8 @@ module _ (g : Graph) (i : ℕ) (x : Input) (succs : List ℕ) (k : ℕ) (behind 
   ready_from ready a edge = input_then a (ready a (edges_same a edge))
 
   pub ready_to : IsReady (passed g i x succs) k → IsReadyWith g k (Some x.from)
-  ready_to ready a edge = input_before a (ready a (subst (λ (t : TravGraph). Joins t.edges a k) (sym (passed_graph g i x succs)) edge))
+  ready_to ready a edge =
+      input_before a (ready a (subst (λ (t : TravGraph). Joins t.edges a k) (sym (passed_graph g i x succs)) edge))
 
 -- one number more of a rising list, of the kind or not
 module _ (P : ℕ → Type 0) (xs : List ℕ) (up : IsRising xs) (n y : ℕ) (lt : n < length xs) (is : y ≡ get_or xs n y) where
@@ -104,15 +110,16 @@ module _ (P : ℕ → Type 0) (xs : List ℕ) (up : IsRising xs) (n y : ℕ) (lt
 
   pub pick_skip : (picked : List ℕ) → ¬ P y → ListsAll (λ k. Contains (take n xs) k × P k) picked
       → ListsAll (λ k. Contains (take (n + 1) xs) k × P k) picked
-  pick_skip picked not h = rw (take_more xs n y lt, ← is) (record { rising = h.rising; each = λ k. (there k, back k) }) where
-    there : (k : ℕ) → Contains picked k → Contains (take n xs ++ y ∷ []) k × P k
-    there k c = (Contains-append_left (take n xs) (y ∷ []) k ((h.each k).0 c).0, ((h.each k).0 c).1)
+  pick_skip picked not h =
+      rw (take_more xs n y lt, ← is) (record { rising = h.rising; each = λ k. (there k, back k) }) where
+        there : (k : ℕ) → Contains picked k → Contains (take n xs ++ y ∷ []) k × P k
+        there k c = (Contains-append_left (take n xs) (y ∷ []) k ((h.each k).0 c).0, ((h.each k).0 c).1)
 
-    back : (k : ℕ) → Contains (take n xs ++ y ∷ []) k × P k → Contains picked k
-    back k (c, p) = elim (Contains-push_cases (take n xs) y k c) [
-      | inl was ↦ (h.each k).1 (was, p)
-      | inr e ↦ absurd (not (subst P (sym e) p))
-    ]
+        back : (k : ℕ) → Contains (take n xs ++ y ∷ []) k × P k → Contains picked k
+        back k (c, p) = elim (Contains-push_cases (take n xs) y k c) [
+          | inl was ↦ (h.each k).1 (was, p)
+          | inr e ↦ absurd (not (subst P (sym e) p))
+        ]
 
 pub pick_none : (P : ℕ → Type 0) → ListsAll (λ k. Contains [] k × P k) []
 pick_none P = record {

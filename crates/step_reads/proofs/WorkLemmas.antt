@@ -48,7 +48,8 @@ module _ (s : StateData) (l : Letter) where
       none k.target (subst (λ (x : Node). IsTarget s.rows l.stack x k.target)
       (sym (node_same st g n k.fresh.stack k.fresh.graph k.fresh.node names k.fresh.names)) k.to)
 
-  pub work_no : (st : Stack) (g : Graph) (n : Node) (t : ℕ) (row : Option Row) → Names s l st g n → IsTarget s.rows l.stack n t
+  pub work_no : (st : Stack) (g : Graph) (n : Node) (t : ℕ) (row : Option Row) → Names s l st g n
+      → IsTarget s.rows l.stack n t
       → row_at s.rows t ≡ row → ¬ Serves st n row → ¬ IsMeant s l
   work_no st g n t row names to found not k =
       let is : k.target ≡ t = target_once s.rows l.stack n k.target t
@@ -57,7 +58,8 @@ module _ (s : StateData) (l : Letter) where
       serves_no st g n t row names found not (subst (IsFresh s l) is k.fresh)
 
 -- a stack without a plan asks for nothing
-pub asked_none : (st : Stack) (name : List ℕ) → st.plan ≡ None → IsTrue false ↔ IsSome (item_at (plan_of st.plan).items name)
+pub asked_none : (st : Stack) (name : List ℕ) → st.plan ≡ None
+    → IsTrue false ↔ IsSome (item_at (plan_of st.plan).items name)
 unfolding at
 asked_none st name is = rw is ((λ t. cc), (λ t. cc))
 

@@ -7,3 +7,4 @@ pub mod Inputs
 pub mod Standing
 pub mod Readiness
 pub mod Points
+pub mod Chains

@@ -1,4 +1,4 @@
-//! What the end of a node leaves of its graph: the nodes that are ready then, and whether all are done.
+//! What the end of a node leaves of its graph: which nodes are ready, and whether all are done.
 ghost use Rattle.std.specs.Prelude.{◌<◌, IfOk, length};
 ghost use Rattle.std.specs.Bool.{OnTrue, OnFalse};
 ghost use Rattle.dep_graph.specs.Lists.{IsRising, ListsAll};

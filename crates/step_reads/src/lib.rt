@@ -1,8 +1,9 @@
-//! What the steps read of a state: an engine's next work, what a letter or a job is about, the rows of a
-//! stack, who is told again, and what a node is given and gives. Nothing here changes the state or
-//! decides what is written. Each function answers a word of step_relation.
+//! What the steps read of a state: an engine's next work, what a letter or a job is about, the rows
+//! of a stack, who is told again, and what a node is given and gives. Nothing here changes the
+//! state or decides what is written. Each function answers a word of step_relation.
 #![tactic(auto)]
 
+mod chains;
 mod current;
 mod engines;
 mod finishing;

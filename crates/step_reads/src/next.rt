@@ -57,7 +57,8 @@ pub fn lowest(letters: &[Letter]) -> Option<&Letter>
 
 // The one with the lower number, the first of two that have one number.
 fn lower_letter<'a>(best: Option<&'a Letter>, letter: &'a Letter) -> &'a Letter
-    ensures { result.now ≡ first_by nat_le letter_key (option_map (λ x. x.now) best.entry) letter.now }
+    ensures { result.now
+        ≡ first_by nat_le letter_key (option_map (λ x. x.now) best.entry) letter.now }
 {
     match best {
         Some(best) if best.no <= letter.no => best,

@@ -1,5 +1,6 @@
 //! How far a node of a graph is.
-ghost use Rattle.std.specs.Prelude.{◌≡◌, ◌↔◌, ◌++◌, IfOk, IsTrue, Contains, map, option_map, option_to_list, slice_get};
+ghost use Rattle.std.specs.Prelude.{◌≡◌, ◌↔◌, ◌++◌, IfOk, IsTrue, Contains, map};
+ghost use Rattle.std.specs.Prelude.{option_map, option_to_list, slice_get};
 ghost use Rattle.std.specs.Bool.{OnTrue, OnFalse};
 ghost use Rattle.std.specs.List.Sorted.{IsNonDecreasing};
 ghost use Rattle.traversal_graph.specs.Builds.{Joins};
@@ -91,7 +92,8 @@ fn is_among(nodes: &[u32], node: u32) -> bool
 // The nodes that gave these inputs, and this one, none before a lower one.
 fn sources(alloc: Global, inputs: &[Input], from: Option<u32>) -> Result<Vec<u32>, AllocError>
     ensures sorted { IfOk result (λ sources. IsNonDecreasing sources.items) }
-    ensures each { IfOk result (λ sources. (a : _) → Contains sources.items a ↔ ComesFrom inputs.now from a) }
+    ensures each { IfOk result (λ sources.
+        (a : _) → Contains sources.items a ↔ ComesFrom inputs.now from a) }
 {
     let mut sources = givers(alloc, inputs, from)?;
     sources.sort()?;
@@ -100,7 +102,8 @@ fn sources(alloc: Global, inputs: &[Input], from: Option<u32>) -> Result<Vec<u32
 
 // The nodes that gave these inputs in their order, and this one.
 fn givers(alloc: Global, inputs: &[Input], from: Option<u32>) -> Result<Vec<u32>, AllocError>
-    ensures { IfOk result (λ givers. givers.items ≡ map (λ x. x.from) inputs.now ++ option_to_list from) }
+    ensures { IfOk result (λ givers.
+        givers.items ≡ map (λ x. x.from) inputs.now ++ option_to_list from) }
 {
     let mut givers = Vec::new(alloc);
     for input in inputs {

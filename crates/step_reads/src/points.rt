@@ -8,8 +8,8 @@ use core_state::{Graph, Input, Point};
 use heat_value::{Seq, TryCopy};
 use std::alloc::{AllocError, Global};
 
-/// The points that change when a node is done and gives this input to the nodes behind it: its own, and
-/// then theirs.
+/// The points that change when a node is done and gives this input to the nodes behind it: its own,
+/// and then theirs.
 pub fn points_passed(
     alloc: Global,
     graph: &Graph,
@@ -52,7 +52,8 @@ fn point_with(
     node: u32,
     input: Option<&Input>,
 ) -> Result<Point, AllocError>
-    ensures { IfOk result (λ p. p ≡ point_with graph.now done node (option_map (λ x. x.now) input.entry)) }
+    ensures { IfOk result (λ p.
+        p ≡ point_with graph.now done node (option_map (λ x. x.now) input.entry)) }
 {
     let inputs = inputs_in(alloc, point_of(graph, node))?;
     Ok(Point {

@@ -1,5 +1,5 @@
 //! The row that a node is about.
-ghost use Rattle.std.specs.Prelude.{◌≡◌, ◌<◌, IsNone, IfSome, Some};
+ghost use Rattle.std.specs.Prelude.{◌≡◌, ◌<◌, ◌^◌, ◌↔◌, IsTrue, IsNone, IfSome, Some};
 ghost use Rattle.row_table.specs.Rows.{row_at};
 ghost use Rattle.row_table.specs.Chains.{Leads, IsLast};
 ghost use Rattle.step_relation.specs.Targets.{IsTarget};
@@ -10,8 +10,8 @@ use core_state::{Row, State};
 use heat_plan::{RowNo, StackName};
 use traversal_graph::Node;
 
-/// The row that a node of a stack is about: a clean-up node's own; where an update node's row stands, the
-/// end of its chain; else the current row of its name. None where its name has no current row.
+/// The row that a node of a stack is about: a clean-up node's own; where an update node's row
+/// stands, the end of its chain; else the current row of its name, and none where there is none.
 pub fn target_of(s: &State, stack: &StackName, node: &Node) -> Option<RowNo>
     ensures some { IfSome result (IsTarget s.now.state.rows stack.now node.now) }
     ensures none { IsNone result → HasNoTarget s.now.state.rows stack.now node.now }
@@ -41,12 +41,20 @@ fn end_of(s: &State, row: &Row) -> RowNo
 }
 
 // The row that replaced a row, where it stands and has a greater number.
-fn behind<'a>(s: &'a State, row: &Row) -> Option<&'a Row>
+pub(crate) fn behind<'a>(s: &'a State, row: &Row) -> Option<&'a Row>
     ensures some { IfSome result (λ q. IsBehind s.now.state.rows row.now q.now) }
     ensures none { IsNone result → IsLast s.now.state.rows row.now }
 {
     match &row.replaced_by {
-        Some(no) if row.no.get() < no.get() => s.row(no),
+        Some(no) if is_below(row.no, *no) => s.row(no),
         _ => None,
     }
+}
+
+// Whether one number is below another.
+pub(crate) fn is_below(a: RowNo, b: RowNo) -> bool
+    ensures value { IsTrue result ↔ (a < b) }
+    ensures range { b < 2 ^ 62 }
+{
+    a.get() < b.get()
 }

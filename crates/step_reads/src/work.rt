@@ -80,7 +80,8 @@ pub fn freshness<'a>(s: &'a State, job: &Job) -> Option<Fresh<'a>>
 
 /// What a letter names; none where its stack is gone or has another traversal, or has no such node.
 pub fn what_of<'a>(s: &'a State, letter: &Letter) -> Option<Named<'a>>
-    ensures some { IfSome result (λ n. Names s.now.state letter.now n.stack.now n.graph.now n.node.now) }
+    ensures some { IfSome result (λ n.
+        Names s.now.state letter.now n.stack.now n.graph.now n.node.now) }
     ensures none { IsNone result → NamesNothing s.now.state letter.now }
 {
     let stack = s.stack(&letter.stack)?;

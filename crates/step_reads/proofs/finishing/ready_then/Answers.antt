@@ -1,4 +1,4 @@
-use Rattle.std.proofs.Common.{ℕ, get_or, subst}
+use Rattle.std.proofs.Common.{ℕ, get_or}
 use Rattle.std.specs.Prelude.{Contains}
 use Rattle.std.proofs.lemmas.Bool.{OnTrue_at, OnFalse_at}
 use Rattle.std.proofs.lemmas.List.{get_or_default, take_all}
@@ -16,14 +16,18 @@ loop-succ-preserved c =
     let behind : Contains c.args.succs.now k = Contains-get_or c.args.succs.now c.loop-succ.succ-index 0 lt in
     elim c.if-branch.branch [
       | then-branch+in_ok-push w ↦ rw (w.ready-is, w.in_ok-push.ensures.ok)
-          (pick_more (IsReady (passed c.args.graph.now c.args.node c.args.input.now c.args.succs.now)) c.args.succs.now c.requires c.loop-succ.succ-index k lt
+          (pick_more (IsReady (passed c.args.graph.now c.args.node c.args.input.now c.args.succs.now)) c.args.succs.now
+          c.requires c.loop-succ.succ-index k lt
           (get_or_default c.args.succs.now c.loop-succ.succ-index 0 k lt) c.loop-succ.ready
-          (ready_from c.args.graph.now c.args.node c.args.input.now c.args.succs.now k behind (OnTrue_at w.if-branch.true c.in_ok-is_ready_with.ensures.yes))
+          (ready_from c.args.graph.now c.args.node c.args.input.now c.args.succs.now k behind
+          (OnTrue_at w.if-branch.true c.in_ok-is_ready_with.ensures.yes))
           c.loop-succ.invariant)
       | else-branch w ↦ rw w.ready-is
-          (pick_skip (IsReady (passed c.args.graph.now c.args.node c.args.input.now c.args.succs.now)) c.args.succs.now c.requires c.loop-succ.succ-index k lt
+          (pick_skip (IsReady (passed c.args.graph.now c.args.node c.args.input.now c.args.succs.now)) c.args.succs.now
+          c.requires c.loop-succ.succ-index k lt
           (get_or_default c.args.succs.now c.loop-succ.succ-index 0 k lt) c.loop-succ.ready
-          (λ ready. OnFalse_at w.if-branch.false c.in_ok-is_ready_with.ensures.no_ (ready_to c.args.graph.now c.args.node c.args.input.now c.args.succs.now k behind ready))
+          (λ ready. OnFalse_at w.if-branch.false c.in_ok-is_ready_with.ensures.no_
+          (ready_to c.args.graph.now c.args.node c.args.input.now c.args.succs.now k behind ready))
           c.loop-succ.invariant)
     ]
 

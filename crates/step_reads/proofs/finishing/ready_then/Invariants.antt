@@ -6,4 +6,6 @@ use Rattle.step_relation.specs.Inputs.{passed}
 use Rattle.step_reads.proofs.finishing.ready_then.Given as goal
 
 abbrev pub invariant-loop-succ : goal.invariant-loop-succ
-invariant-loop-succ l = ListsAll (λ (k : ℕ). Contains (take l.succ-index l.succs) k × IsReady (passed l.graph l.node l.input l.fn.succs) k) l.ready
+invariant-loop-succ l =
+    ListsAll (λ (k : ℕ). Contains (take l.succ-index l.succs) k × IsReady (passed l.graph l.node l.input l.fn.succs) k)
+    l.ready

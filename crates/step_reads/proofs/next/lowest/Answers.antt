@@ -10,8 +10,10 @@ pub loop-letter-init : goal.loop-letter-init
 loop-letter-init c = none_seen letter_key (λ (_ : ℕ). ⊤)
 
 pub loop-letter-preserved : goal.loop-letter-preserved
-loop-letter-preserved c = rw (take_more _ _ c.letter-item.result c.loop-letter-test.true, ← c.letter-item.is, c.lower_letter.ensures)
-    (best_more letter_key (λ (_ : ℕ). ⊤) _ (option_map (λ b. b.now) c.loop-letter.best) c.letter-item.result tt c.loop-letter.invariant)
+loop-letter-preserved c =
+    rw (take_more _ _ c.letter-item.result c.loop-letter-test.true, ← c.letter-item.is, c.lower_letter.ensures)
+    (best_more letter_key (λ (_ : ℕ). ⊤) _ (option_map (λ b. b.now) c.loop-letter.best) c.letter-item.result tt
+    c.loop-letter.invariant)
 
 pub returns-clause-some : goal.returns-clause-some
 returns-clause-some c = lowest_of c.args.letters.now c.loop-letter.best

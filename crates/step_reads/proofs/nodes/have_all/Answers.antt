@@ -12,4 +12,5 @@ returns-then-not-is_among-clause-no_ c = record {
 }
 
 pub returns-clause-yes : goal.returns-clause-yes
-returns-clause-yes c = rw (take_all c.loop-before.before-index c.args.edges.now c.loop-before-test.false) at c.loop-before.invariant
+returns-clause-yes c =
+    rw (take_all c.loop-before.before-index c.args.edges.now c.loop-before-test.false) at c.loop-before.invariant

@@ -7,12 +7,14 @@ end_of-requires c = found_self _ _ c.in-Some.row.now (rw c.in-Some.is at c.row.e
 
 pub returns-in-Some-clause-some : goal.returns-in-Some-clause-some
 returns-in-Some-clause-some c =
-    chained _ _ c.in-U.name c.in-U.no _ c.in-Some.row.now c.args.node.now c.in-U.is (rw c.in-Some.is at c.row.ensures) c.end_of.ensures
+    chained _ _ c.in-U.name c.in-U.no _ c.in-Some.row.now c.args.node.now c.in-U.is (rw c.in-Some.is at c.row.ensures)
+    c.end_of.ensures
 
 pub returns-in-C-clause-some : goal.returns-in-C-clause-some
 returns-in-C-clause-some c = rw c.in-C.is (of_c _)
 
 pub returns-in_ok-current-in-U-clause-some : goal.returns-in_ok-current-in-U-clause-some
 returns-in_ok-current-in-U-clause-some c =
-    renewed_at _ _ c.in-U.name c.in-U.no c.in_ok-current-in-U.current.now c.args.node.now c.in-U.is (rw c.in_default.is at c.row.ensures)
+    renewed_at _ _ c.in-U.name c.in-U.no c.in_ok-current-in-U.current.now c.args.node.now c.in-U.is
+    (rw c.in_default.is at c.row.ensures)
     c.in_ok-current-in-U.ensures.some
