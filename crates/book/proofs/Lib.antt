@@ -1,10 +1,7 @@
-pub mod Tolds
-pub mod Unmade
-pub mod Learnt
-pub mod Lowest
-pub mod Quiets
-pub mod Kept
-pub mod Refusals
+pub mod Engines
+pub mod Listed
+pub mod Histories
+pub mod Growing
 pub mod Headlines
-pub mod Idles
-pub mod OneItem
+pub mod Working
+pub mod Conditions

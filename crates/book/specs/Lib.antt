@@ -1,5 +1,5 @@
-pub mod Scenes
-pub mod Outcomes
-pub mod Quiet
 pub mod Kept
-pub mod Commands
+pub mod Openings
+pub mod Quiet
+pub mod Scenes
+pub mod Turned
