@@ -1,0 +1,11 @@
+pub mod Listings
+pub mod Graphs
+pub mod Layouts
+pub mod Readings
+pub mod Verdicts
+pub mod Works
+pub mod Parts
+pub mod Pairs
+pub mod Outcomes
+pub mod Turns
+pub mod Worn

@@ -1,0 +1,23 @@
+//! Laws of the next step: a state decides the turn of each engine by what it is given, and what a
+//! command lays out. Nothing here is run: each function has an empty body and stands for its clauses.
+#![tactic(auto)]
+
+ghost use Rattle.next_laws.specs.OneTurn.{LayoutIsOne, TurnIsOne};
+ghost use Rattle.next_laws.specs.Worn.{CallIsNotWorn, QuietIsNotWorn};
+
+/// An engine that is given the same makes the same turn on the same state, whatever the state.
+pub fn a_turn_is_one()
+    ensures { TurnIsOne }
+{}
+
+/// A command lays out the same on the same state, for the same stack, items and settings.
+pub fn a_layout_is_one()
+    ensures { LayoutIsOne }
+{}
+
+/// A turn whose own changes aren't worn is not worn out, where it is given no answer; where it is
+/// given one, the changes that a failure would make decide.
+pub fn an_unworn_turn_is_not_worn_out()
+    ensures quiet { QuietIsNotWorn }
+    ensures call { CallIsNotWorn }
+{}
