@@ -6,7 +6,7 @@ ghost use Rattle.core_laws.specs.Runs.{HasNoNeeds};
 use crate::{Living, could, fits, mark_of, newest, stored};
 use book::{Book, Opened, StackCommand, Turn};
 use core_state::{Entry, What};
-use heat_plan::{Parameters, Plan, Status, Token};
+use heat_plan::{Parameters, Plan, StackName, Status, Token};
 use heat_value::{Seq, Text};
 use script_lines::Command;
 use sim_cloud::{Settings, SimCloud};
@@ -128,6 +128,14 @@ fn fits_newest(alloc: Global, entries: &[Entry], token: &Token) -> Result<bool, 
     }
 }
 
+// The status that the newest traversal's mark gives.
+fn status_of(entries: &[Entry], stack: &StackName) -> Result<Option<Status>, AllocError> {
+    match mark_of(entries, stack)? {
+        Some(mark) => Ok(Some(mark.status())),
+        None => Ok(None),
+    }
+}
+
 fn read_all(alloc: Global, entries: &[Entry], token: &Token) -> Result<Reading, AllocError> {
     let newest = match newest(entries, &token.stack)? {
         Some(latest) => Some(latest.trav().get()),
@@ -136,7 +144,7 @@ fn read_all(alloc: Global, entries: &[Entry], token: &Token) -> Result<Reading, 
     let states = could(alloc, entries, token)?;
     Ok(Reading {
         newest,
-        mark: mark_of(entries, &token.stack),
+        mark: status_of(entries, &token.stack)?,
         rows: stored(alloc, entries)?.as_slice().len(),
         seen: seen_of(states.as_slice()),
         fits: fits_newest(alloc, entries, token)?,
