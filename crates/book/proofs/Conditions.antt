@@ -1,7 +1,7 @@
 -- What the provider asks of its callers holds in a sound state over a cloud that its history allows.
-use Rattle.std.proofs.Common.{ap, refl, subst, sym, ◌∙◌}
+use Rattle.std.proofs.Common.{refl, subst, sym}
 use Rattle.std.proofs.lemmas.List.Elements.{All-contains}
-use Rattle.std.specs.Prelude.{All, Bool, Contains, IsSome, List, None, Option, Some, option_map, true, ℕ, ◌≡◌}
+use Rattle.std.specs.Prelude.{IsSome, List, None, Option, Some, option_map, true, ℕ, ◌≡◌}
 use Rattle.heat_value.specs.Data.{Members}
 use Rattle.heat_plan.specs.declared.calls.Request.{Request}
 use Rattle.heat_plan.specs.declared.token.Token.{Token}
@@ -12,21 +12,14 @@ use Rattle.provider.specs.declared.alive.Alive.{Alive}
 use Rattle.core_state.specs.State.{StateData}
 use Rattle.core_state.specs.declared.entry.Entry.{Entry}
 use Rattle.step_relation.specs.Rows.{token_of}
-use Rattle.history.specs.Could.{Allows, IsPossible, could_of}
+use Rattle.history.specs.Could.{Allows, could_of}
 use Rattle.history.specs.Opening.{Opening, first_of}
 use Rattle.soundness.specs.Agrees.{IsGoing, absent, leaves}
 use Rattle.soundness.specs.Headline.{MayBeAsked, create, delete, gone, poll, update}
-use Rattle.soundness.specs.MailFits.{IsUnderWay}
-use Rattle.soundness.specs.MailFits as under
 use Rattle.soundness.specs.Sound.{Sound}
-use Rattle.agree_laws.proofs.CallTold.{CallsFor}
-use Rattle.agree_laws.proofs.Suits.{AsksAt}
-use Rattle.agree_laws.proofs.Suits as suits
-use Rattle.headline_laws.proofs.CallSaid.{call_fits}
-use Rattle.heat_plan.specs.declared.calls.Answered.TheVariants as answer
+use Rattle.work_laws.proofs.Finds.{calls_may_be_made}
 use Rattle.heat_plan.specs.declared.calls.Request.TheVariants as request
-use Rattle.book.proofs.Headlines.{filled}
-use Rattle.book.specs.Turned.{IsAskedAt, Requests, at_asking, at_polling}
+use Rattle.book.specs.Turned.{Requests}
 
 -- a token that is in a living state is alive
 lives : (c : Cloud) (t : Token) → IsSome (state_of c t) → IsAlive c t
@@ -45,26 +38,8 @@ goes c t h alive = by (entry_of c t) alive (state_of c t) refl h where
 
 module _ (o : Opening) (h : List Entry) (s : StateData) (x : Sound o h s) (c : Cloud) (shows : Allows (first_of o) h c)
     (e : ℕ) (k : Requests s e) where
-  under_way : IsUnderWay k.calls.job.stage
-  under_way = by k.asks where
-    by : IsAskedAt k.stage k.calls.row k.asked → IsUnderWay k.calls.job.stage
-    by (at_asking is asks) = subst IsUnderWay (sym (k.calls.works.stage_is ∙ is)) under.asks
-    by (at_polling is asked_) = subst IsUnderWay (sym (k.calls.works.stage_is ∙ is)) under.polls
-
-  asks_at : AsksAt k.calls.job.stage k.calls.row k.asked
-  asks_at = by k.asks where
-    by : IsAskedAt k.stage k.calls.row k.asked → AsksAt k.calls.job.stage k.calls.row k.asked
-    by (at_asking is asks) = suits.at_asking (k.calls.works.stage_is ∙ is) asks
-    by (at_polling is asked_) = suits.at_polling (k.calls.works.stage_is ∙ is) asked_
-
-  pub may : MayBeAsked (could_of o h (token_of k.calls.row)) k.asked
-  may = (call_fits o h s x (λ t. filled (could_of o h t) (state_of c t) (shows t)) e k.calls.row k.asked answer.Failed (record {
-    job = k.calls.job;
-    its = k.calls.works.its;
-    under_way = under_way;
-    found = k.calls.found;
-    asks = asks_at;
-  })).asked (token_of k.calls.row) k.asked answer.Failed refl
+  may : MayBeAsked (could_of o h (token_of k.calls.row)) k.asked
+  may = calls_may_be_made o h s e k.calls.job k.calls.row k.stage k.asked x k.calls.works k.calls.found k.asks
 
   -- a resource that is updated or polled is alive
   pub alive_at_update : (props : Members) → k.asked ≡ request.Update props → IsAlive c (token_of k.calls.row)

@@ -1,5 +1,5 @@
 -- The numbers of so many engines and of one more.
-use Rattle.std.proofs.Common.{List, [], ap, arith, refl, suc, zero, ℕ, ◌++◌, ◌+◌, ◌∙◌, ◌∷◌, ◌≡◌}
+use Rattle.std.proofs.Common.{List, [], ap, arith, suc, zero, ℕ, ◌++◌, ◌+◌, ◌∙◌, ◌∷◌, ◌≡◌}
 use Rattle.core_state.specs.State.{StateData}
 use Rattle.step_relation.specs.Steps.{engines_from, past_engines}
 use Rattle.history.specs.Opening.{bare}

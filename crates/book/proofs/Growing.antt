@@ -23,7 +23,6 @@ use Rattle.step_relation.specs.Runs.{IsTiedStep, Run, begins, goes_on}
 use Rattle.step_relation.specs.Steps.{IsNote, Step, note, shows, notes, ran, turned}
 use Rattle.step_relation.specs.Writes.{entry_of}
 use Rattle.history.specs.Could.{Allows, could}
-use Rattle.history.specs.Opening.{Opening}
 use Rattle.soundness.specs.Laws.{opening_at}
 use Rattle.tell_laws.proofs.Silence.{AreUncalling, IsUncalling}
 use Rattle.book.specs.Kept.{IsKept, calls_of, opened, registries, unjudged}

@@ -1,22 +1,19 @@
 -- What a book keeps makes its state sound, and gives it the main theorem.
 use Rattle.std.proofs.Common.{List, [], arith, subst, sym}
-use Rattle.std.specs.Prelude.{Contains, ◌≡◌, ◌≢◌}
-use Rattle.heat_plan.specs.declared.token.Token.{Token}
+use Rattle.std.specs.Prelude.{Contains, ◌≢◌}
 use Rattle.provider.specs.Cloud.{Cloud, state_of}
-use Rattle.provider.specs.Table.{TokenState}
 use Rattle.provider.specs.declared.alive.Alive.{Alive}
 use Rattle.core_state.specs.State.{StateData}
 use Rattle.core_state.specs.declared.entry.Entry.{Entry}
 use Rattle.history.specs.Could.{IsPossible, could_of}
-use Rattle.history.specs.Opening.{Opening}
 use Rattle.soundness.specs.Laws.{opening_at}
 use Rattle.soundness.specs.Sound.{Sound}
 use Rattle.headline_laws.proofs.Empty.{empty_is_sound}
 use Rattle.whole_laws.proofs.Whole.{runs_headline, runs_sound}
-use Rattle.book.specs.Kept.{HasHeadline, IsKept, Shown, opened, registries}
+use Rattle.book.specs.Kept.{HasHeadline, IsKept, Shown, registries}
 
 -- a list that has something isn't empty
-pub filled : {A : Type 0} (xs : List A) (x : A) → Contains xs x → xs ≢ []
+filled : {A : Type 0} (xs : List A) (x : A) → Contains xs x → xs ≢ []
 filled xs x among is = let c = subst (λ (ys : List _). Contains ys x) is among in absurd (omega (arith, c.1))
 
 module _ (first : StateData) (origin : Cloud) (s : StateData) (h : List Entry) (c : Cloud) (kept : IsKept first origin s h c) where

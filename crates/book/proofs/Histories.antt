@@ -1,14 +1,12 @@
 -- The calls of a history that goes on, and the states in which the cloud then is.
-use Rattle.std.proofs.Common.{List, [], ap, append_assoc, inl, inr, refl, subst, sym, ◌++◌, ◌∙◌, ◌∷◌, ◌≡◌, ◌⊎◌}
-use Rattle.std.specs.Prelude.{Contains, ◌≢◌}
+use Rattle.std.proofs.Common.{List, [], append_assoc, inl, inr, refl, subst, sym, ◌++◌, ◌∷◌, ◌≡◌}
+use Rattle.std.specs.Prelude.{Contains}
 use Rattle.heat_plan.specs.declared.calls.Answered.{Answered}
 use Rattle.heat_plan.specs.declared.calls.Request.{Request}
 use Rattle.heat_plan.specs.declared.token.Token.{Token}
 use Rattle.provider.proofs.States.{fold-keeps}
 use Rattle.provider.specs.Cloud.{Cloud, state_of}
 use Rattle.provider.specs.Moves.{Answers}
-use Rattle.provider.specs.Table.{TokenState}
-use Rattle.provider.specs.declared.traced.Traced.{Traced}
 use Rattle.core_state.specs.declared.entry.Actor.{Actor}
 use Rattle.core_state.specs.declared.entry.Entry.{Entry}
 use Rattle.core_state.specs.declared.entry.What.{What}

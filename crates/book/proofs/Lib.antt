@@ -3,5 +3,7 @@ pub mod Listed
 pub mod Histories
 pub mod Growing
 pub mod Headlines
-pub mod Working
 pub mod Conditions
+pub mod Telling
+pub mod Tolds
+pub mod KeptTurned

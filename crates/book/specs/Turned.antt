@@ -2,19 +2,18 @@
 use Rattle.std.specs.Prelude.{List, [], ℕ, ◌∷◌, ◌≡◌, ◌≢◌}
 use Rattle.heat_plan.specs.declared.calls.Answered.{Answered}
 use Rattle.heat_plan.specs.declared.calls.Request.{Request}
-use Rattle.row_table.specs.declared.row.Row.{Row}
 use Rattle.mail_table.specs.declared.mail.Stage.{Stage}
-use Rattle.mail_table.specs.declared.mail.Stage.TheVariants.{Asking, Polling}
 use Rattle.core_state.specs.State.{StateData}
 use Rattle.core_state.specs.declared.change.Change.{Change}
 use Rattle.core_state.specs.declared.entry.Entry.{Entry}
-use Rattle.step_relation.specs.Asks.{Asks, Calls, Polls}
+use Rattle.step_relation.specs.Asks.{Calls}
 use Rattle.step_relation.specs.Given.{Answer, Given}
 use Rattle.step_relation.specs.Nexts.{IsIdle, IsLost}
 use Rattle.step_relation.specs.Rows.{token_of}
 use Rattle.step_relation.specs.Runs.{IsTied}
 use Rattle.step_relation.specs.Turns.{Turn, WearsOut}
 use Rattle.step_relation.specs.Writes.{call_entry}
+use Rattle.work_laws.specs.Found.{IsAskedAt}
 use Rattle.book.specs.Kept.{unjudged}
 use Rattle.book.specs.Scenes.{IsUnmade, Makes, Scene, Told}
 use Rattle.book.specs.declared.turning.Turn.TheVariants as turned
@@ -24,17 +23,12 @@ use Rattle.book.specs.declared.turning.Turn.{Turn as Answered_turn}
 abbrev pub IsQuiet : Given → Type 0
 IsQuiet given = (a : Answered) → given ≢ Answer a
 
--- what a job asks for its row, by its stage
-pub data IsAskedAt (stage : Stage) (r : Row) (asked : Request) : Type 0 where
-  at_asking : stage ≡ Asking → Asks r asked → IsAskedAt stage r asked
-  at_polling : stage ≡ Polling → Polls r asked → IsAskedAt stage r asked
-
 -- what the engine's job asks of the cloud, for its row
 pub record Requests (s : StateData) (e : ℕ) : Type 0 where
   pub stage : Stage
   pub calls : Calls s e stage
   pub asked : Request
-  pub asks : IsAskedAt stage calls.row asked
+  pub asks : IsAskedAt calls.row stage asked
 
 -- the turn would raise a number or a key too far, under some answer
 pub record IsWornBy (s : StateData) (e : ℕ) : Type 0 where

@@ -6,6 +6,7 @@
 mod book;
 mod making;
 mod opening;
+mod requests;
 mod turning;
 
 pub use book::Book;
