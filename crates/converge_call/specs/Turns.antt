@@ -1,5 +1,5 @@
 -- Turns of the live engine, and the work that is left.
-use Rattle.std.specs.Prelude.{◌≡◌, ◌≤◌, ◌+◌, ◌*◌, ℕ, List, [], ◌∷◌, ◌++◌, length}
+use Rattle.std.specs.Prelude.{◌≡◌, ◌≢◌, ◌≤◌, ◌+◌, ◌*◌, ℕ, List, [], ◌∷◌, ◌++◌, length}
 use Rattle.heat_plan.specs.declared.calls.Answered.{Answered}
 use Rattle.core_state.specs.declared.change.Change.{Change}
 use Rattle.core_state.specs.declared.entry.Entry.{Entry}
@@ -8,11 +8,15 @@ use Rattle.mail_table.specs.declared.mail.Stage.{Stage}
 use Rattle.mail_table.specs.declared.mail.Stage.TheVariants.{Taken, Asking, Polling, Ending}
 use Rattle.core_state.specs.Changes.{applied}
 use Rattle.core_state.specs.State.{StateData}
-use Rattle.core_state.specs.Steps.{QuietTurn, AskingTurn, PollingTurn, UnstoredTurn}
-use Rattle.book.specs.declared.turning.Turn.{Turn}
+use Rattle.step_relation.specs.Given.{Answer, Given}
+use Rattle.step_relation.specs.Runs.{IsTied}
+use Rattle.step_relation.specs.Steps.{BeginsWithCall}
+use Rattle.step_relation.specs.Turns.{Turn, WearsOut}
+use Rattle.book.specs.declared.turning.Turn.{Turn as turn_type}
 use Rattle.book.specs.declared.turning.Turn.TheVariants as turn
+use Rattle.book.specs.Kept.{unjudged}
 use Rattle.book.specs.Quiet.{Page, Writes, IsIdle}
-use Rattle.book.specs.Scenes.{IsWornBy}
+use Rattle.book.specs.Turned.{IsWornBy}
 use Rattle.converge_call.specs.declared.ran.Ran.{Ran}
 use Rattle.converge_call.specs.declared.ran.Ran.TheVariants as ran
 
@@ -35,7 +39,7 @@ work_of s = jobs_work s.jobs + 69 * length s.letters
 -- one turn of the engine 1, given what its item resolves to
 pub record TurnOf (s : StateData) (cs : List Change) (es : List Entry) : Type 0 where
   pub given : Given
-  pub turn : Turn s 1 given cs es
+  pub made : Turn s 1 given cs es
   pub lasts : ¬ WearsOut s 1 given
   pub tied : IsTied unjudged s 1 given
 
@@ -53,7 +57,7 @@ pub data Lacks (old new : StateData) (es : List Entry) : Type 0 where
       → BeginsWithCall all call → new ≡ old → es ≡ call ∷ [] → Lacks old new es
 
 -- what one turn comes to
-pub data TurnTo (old new : Page) (result : Turn) : Type 0 where
+pub data TurnTo (old new : Page) (result : turn_type) : Type 0 where
   stepped : (cs : List Change) (es : List Entry) → TurnOf old.state cs es → Writes cs es old new
       → result ≡ turn.Stepped → TurnTo old new result
   idle : IsIdle old.state → new ≡ old → result ≡ turn.Idle → TurnTo old new result
