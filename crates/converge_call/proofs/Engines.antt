@@ -1,10 +1,9 @@
 -- The one live engine: the book is idle where it is, and it is never lost.
-use Rattle.std.proofs.Common.{◌≡◌, ◌≢◌, ◌⊎◌, inl, inr, ℕ, zero, suc, Bool, true, false, List, [], ◌∷◌, Some, None, refl, sym, ap, ◌∙◌, subst, nat_eq, arith}
+use Rattle.std.proofs.Common.{◌≡◌, ◌⊎◌, inl, inr, ℕ, zero, suc, Bool, true, false, List, [], ◌∷◌, Some, None, refl, sym, subst, nat_eq, arith}
 use Rattle.std.specs.Prelude.{Contains}
 use Rattle.std.proofs.lemmas.Bool.Decides.{Decides-eqb}
 use Rattle.heat_plan.specs.Tables.{at}
 use Rattle.mail_table.specs.Mails.{job_at, job_key, letter_key}
-use Rattle.mail_table.specs.declared.mail.Job.{Job}
 use Rattle.core_state.specs.State.{StateData}
 use Rattle.step_relation.specs.Nexts as nexts
 use Rattle.book.specs.Quiet.{IsIdle}

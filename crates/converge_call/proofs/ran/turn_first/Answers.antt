@@ -1,6 +1,5 @@
 -- The first live engine is engine 1.
-use Rattle.std.proofs.Common.{◌≡◌, ◌∙◌, ◌∷◌, [], ℕ, List, ap, get_or, subst, sym, refl, arith}
-use Rattle.std.specs.Prelude.{Contains}
+use Rattle.std.proofs.Common.{◌≡◌, ◌∙◌, ℕ, List, ap, get_or, subst}
 use Rattle.book.specs.Scenes.{scene_of}
 use Rattle.book.specs.Turned.{Turned}
 use Rattle.converge_call.proofs.Turning.{found, turn_to}

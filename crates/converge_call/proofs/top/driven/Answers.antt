@@ -1,5 +1,4 @@
-use Rattle.std.proofs.Common.{◌≡◌, ◌∙◌, ap, sym}
-use Rattle.book.specs.Kept.{Shown}
+use Rattle.std.proofs.Common.{◌≡◌}
 use Rattle.converge_call.specs.Ends.{outside}
 use Rattle.converge_call.proofs.Answering.{never_usage}
 use Rattle.converge_call.proofs.Handing.{as_driven}
