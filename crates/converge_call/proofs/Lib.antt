@@ -1,4 +1,4 @@
-pub mod Boxes
+pub mod Engines
 pub mod Turning
 pub mod Noting
 pub mod Lining

@@ -11,8 +11,10 @@ use Rattle.core_state.specs.declared.entry.Entry.{Entry}
 use Rattle.core_state.specs.declared.entry.What.{What}
 use Rattle.core_state.specs.declared.entry.What.TheVariants as what
 use Rattle.core_state.specs.State.{StateData, stack_at}
-use Rattle.book.specs.Commands.{HasCreated}
-use Rattle.book.specs.Commands as commands
+use Rattle.step_relation.specs.Refusals.{RefusesCreate}
+use Rattle.command_steps.specs.Answers.{Creates}
+use Rattle.book.specs.Makings.{Does}
+use Rattle.book.specs.Makings as makings
 use Rattle.book.specs.Quiet.{Page, IsIdle}
 use Rattle.converge_call.specs.declared.exit.Exit.{Exit}
 use Rattle.converge_call.specs.declared.exit.Exit.TheVariants as exit
@@ -136,45 +138,40 @@ noted_as number code its old new result same note =
 err_is : (r s : Refusal) → ◌≡◌ {A = Result ℕ Refusal} (Err r) (Err s) → r ≡ s
 err_is r s same = cc
 
-coded : (r s : Refusal) (code its : List ℕ) → r ≡ s → Some code ≡ code_of r → code_of s ≡ Some its → code ≡ its
-coded r s code its same has is = let both : Some code ≡ Some its = has ∙ ap code_of same ∙ is in cc
-
 -- what a command on a stack came to, and then a note with its code
 module _ (number : ℕ) (name : List ℕ) (plan : PlanData) (old mid new : Page) (result : Result (Unit {0}) Exit) where
   abbrev CreateDone : Type 0
   CreateDone = HasDone (CreateDoes number name plan) IsUndone old new result
 
-  pub created_done : (trav : ℕ) → HasCreated name plan old new (Ok trav) → result ≡ Ok tt → CreateDone
-  created_done trav (commands.created k writes is) went = did _ (does.created k writes.state refl) writes.entries went
-  created_done trav (commands.exists there found same is) went = cc
-  created_done trav (commands.worn none out same is) went = cc
-  created_done trav (commands.memory same is) went = cc
+  -- what the book's call of a create came to
+  abbrev Called : Page → Result ℕ Refusal → Type 0
+  Called after answer = Does (Creates old.state name plan false) (RefusesCreate old.state name plan false) old.state.next.trav old after answer
+
+  pub created_done : (trav : ℕ) → Called new (Ok trav) → result ≡ Ok tt → CreateDone
+  created_done trav (makings.done cs es made writes is) went = did es (does.created cs made writes.state) writes.entries went
+  created_done trav (makings.refused r cause same is) went = cc
+  created_done trav (makings.memory same is) went = cc
 
   -- a refusal without a code is want of memory
-  pub uncreated : (r : Refusal) → HasCreated name plan old new (Err r) → None ≡ code_of r → result ≡ Err exit.Memory → CreateDone
-  uncreated r (commands.created k writes is) none ends = cc
-  uncreated r (commands.exists there found same is) none ends = nothing_done _ old new result same ends
-  uncreated r (commands.worn absent out same is) none ends = nothing_done _ old new result same ends
-  uncreated r (commands.memory same is) none ends = nothing_done _ old new result same ends
+  pub uncreated : (r : Refusal) → Called new (Err r) → result ≡ Err exit.Memory → CreateDone
+  uncreated r (makings.done cs es made writes is) ends = cc
+  uncreated r (makings.refused s cause same is) ends = nothing_done _ old new result same ends
+  uncreated r (makings.memory same is) ends = nothing_done _ old new result same ends
 
   -- a note on the page that nothing has changed
-  noted_on : (code its : List ℕ) → mid ≡ old → code ≡ its
-      → ((es : List Entry) → Notes (refused number its) old.state new.state es → CreateDoes number name plan old.state new.state es)
+  noted_on : (code : List ℕ) → mid ≡ old
+      → ((es : List Entry) → Notes (refused number code) old.state new.state es → CreateDoes number name plan old.state new.state es)
       → HasDone (Notes (refused number code)) IsUndone mid new result → CreateDone
-  noted_on code its same named makes note =
-      done_as _ _ _ _ old new result makes (λ es why un. un)
-      (noted_as number code its old new result named (subst (λ (p : Page). HasDone (Notes (refused number code)) IsUndone p new result) same note))
+  noted_on code same makes note =
+      done_as _ _ _ _ old new result makes (λ es why un. un) (subst (λ (p : Page). HasDone (Notes (refused number code)) IsUndone p new result) same note)
 
-  pub refused_done : (r : Refusal) (code : List ℕ) → HasCreated name plan old mid (Err r) → Some code ≡ code_of r
+  pub refused_done : (r : Refusal) (code : List ℕ) → Called mid (Err r) → Some code ≡ code_of r
       → HasDone (Notes (refused number code)) IsUndone mid new result → CreateDone
-  refused_done r code (commands.created k writes is) its note = cc
-  refused_done r code (commands.exists there found same is) its note =
-      noted_on code (codes "E10") same (coded r refusal.StackExists code (codes "E10") (err_is r refusal.StackExists is) its refl)
-      (λ es noted. does.exists there found noted) note
-  refused_done r code (commands.worn none out same is) its note =
-      noted_on code (codes "E15") same (coded r refusal.Worn code (codes "E15") (err_is r refusal.Worn is) its refl)
-      (λ es noted. does.worn none out noted) note
-  refused_done r code (commands.memory same is) its note =
+  refused_done r code (makings.done cs es made writes is) its note = cc
+  refused_done r code (makings.refused s cause same is) its note =
+      let one : r ≡ s = err_is r s is in
+      noted_on code same (λ es noted. does.not_created s code cause (sym (its ∙ ap code_of one)) noted) note
+  refused_done r code (makings.memory same is) its note =
       let none : Some code ≡ None = its ∙ ap code_of (err_is r refusal.Memory is) in cc
 
 -- a listing of a stack that is there, and of one that isn't

@@ -2,39 +2,58 @@
 use Rattle.std.proofs.Common.{◌≡◌, ◌≤◌, ◌+◌, ℕ, List, [], ◌∷◌, ◌++◌, refl, sym, ap, ◌∙◌, subst, append_assoc, arith}
 use Rattle.core_state.specs.declared.entry.Entry.{Entry}
 use Rattle.core_state.specs.State.{StateData}
-use Rattle.book.specs.declared.turning.Turn.{Turn}
+use Rattle.step_relation.specs.Given.{Answer}
+use Rattle.step_relation.specs.Rows.{token_of}
+use Rattle.step_relation.specs.Runs.{answer}
+use Rattle.book.specs.declared.turning.Turn.{Turn as turn_type}
 use Rattle.book.specs.declared.turning.Turn.TheVariants as turn
 use Rattle.book.specs.Quiet.{Page, page, IsIdle}
-use Rattle.book.specs.Scenes.{Scene, Turned, IsUnmade, IsWornBy}
-use Rattle.book.specs.Scenes as turned
-use Rattle.book.specs.Commands.{page_of}
+use Rattle.book.specs.Scenes.{Scene, IsUnmade}
+use Rattle.book.specs.Turned.{Turned, IsWornBy}
+use Rattle.book.specs.Turned as turned
 use Rattle.converge_call.specs.declared.ran.Ran.TheVariants as ran
-use Rattle.converge_call.specs.Turns.{TurnOf, quiet, asking, polling, Turns, begins, adds, Lacks, TurnTo, RanTo, HasRan}
+use Rattle.converge_call.specs.Turns.{Turns, begins, adds, TurnTo, HasRan}
 use Rattle.converge_call.specs.Turns as to
+use Rattle.converge_call.proofs.Engines.{book_rests, never_lost}
 
 pub append-none : {A : Type 0} (xs : List A) → xs ++ [] ≡ xs
 append-none [] = refl
 append-none (x ∷ xs) = ap (λ rest. x ∷ rest) (append-none xs)
 
+-- what a scene shows of state and history
+abbrev pub page_of : Scene → Page
+page_of it = page it.state it.entries
+
 -- nothing has changed, so that the page is the same
 same_page : (old new : Scene) → IsUnmade old new → page_of new ≡ page_of old
 same_page old new un = ap (λ (s : StateData). page s new.entries) un.state ∙ ap (λ (es : List Entry). page old.state es) un.entries
 
-pub turn_to : (old new : Scene) (result : Turn) → Turned 1 old new result → (result ≡ turn.Idle → IsIdle new.state)
+pub turn_to : (old new : Scene) (result : turn_type) → old.state.live ≡ 1 ∷ [] → Turned 1 old new result
     → TurnTo (page_of old) (page_of new) result
-turn_to old new result (turned.quiet cs es is step makes same) idle =
-    to.stepped cs es (quiet step) (record { state = makes.state; entries = makes.entries }) is
-turn_to old new result (turned.asked k given cs es is step makes told) idle =
-    to.stepped cs es (asking given step) (record { state = makes.state; entries = makes.entries }) is
-turn_to old new result (turned.polled k given cs es is step makes told) idle =
-    to.stepped cs es (polling given step) (record { state = makes.state; entries = makes.entries }) is
-turn_to old new result (turned.unstored k given cs es is step makes told) idle =
-    to.memory es (to.unstored given cs step makes.state) makes.entries is
-turn_to old new result (turned.unmade is un) idle =
+turn_to old new result one (turned.quiet given cs es is quiet step lasts tied makes same) =
+    to.stepped cs es (record { given = given; made = step; lasts = lasts; tied = tied })
+    (record { state = makes.state; entries = makes.entries }) is
+turn_to old new result one (turned.called k given cs es rest is step lasts first makes told) =
+    to.stepped cs es (record { given = Answer given; made = step; lasts = lasts; tied = answer given })
+    (record { state = makes.state; entries = makes.entries }) is
+turn_to old new result one (turned.unstored k given lost es rest is step some lasts first makes told) =
+    to.memory _ (to.unstored given lost es _ step some
+    (record { rest = rest; entries = first; is_call = (token_of k.calls.row, k.asked, given, refl) }) makes.state refl) makes.entries is
+turn_to old new result one (turned.unmade is un) =
     to.memory [] (to.unmade un.state refl) (un.entries ∙ sym (append-none old.entries)) is
-turn_to old new result (turned.idle is jobless empty un) idle =
-    to.idle (subst (λ (s : StateData). IsIdle s) un.state (idle is)) (same_page old new un) is
-turn_to old new result (turned.worn is by un) idle = to.worn by (same_page old new un) is
+turn_to old new result one (turned.idle is rests un) = to.idle (book_rests old.state one rests) (same_page old new un) is
+turn_to old new result one (turned.lost is lost un) = absurd (never_lost old.state one lost)
+turn_to old new result one (turned.worn is by un) = to.worn by (same_page old new un) is
+
+-- the live engine is never lost
+pub found : (old new : Scene) (result : turn_type) → old.state.live ≡ 1 ∷ [] → Turned 1 old new result → result ≡ turn.Lost → ⊥
+found old new result one (turned.quiet given cs es is quiet step lasts tied makes same) lost = cc
+found old new result one (turned.called k given cs es rest is step lasts first makes told) lost = cc
+found old new result one (turned.unstored k given some es rest is step other lasts first makes told) lost = cc
+found old new result one (turned.unmade is un) lost = cc
+found old new result one (turned.idle is rests un) lost = cc
+found old new result one (turned.lost is gone un) lost = never_lost old.state one gone
+found old new result one (turned.worn is by un) lost = cc
 
 -- the turns so far
 pub record SoFar (old new : Page) (made : ℕ) : Type 0 where
@@ -45,7 +64,7 @@ pub record SoFar (old new : Page) (made : ℕ) : Type 0 where
 pub none_so_far : (p : Page) → SoFar p p 0
 none_so_far p = record { added = []; entries = sym (append-none p.entries); turns = begins p.state [] 0 refl refl refl }
 
-pub one_more : (old mid new : Page) (made : ℕ) (result : Turn) → SoFar old mid made → TurnTo mid new result → result ≡ turn.Stepped
+pub one_more : (old mid new : Page) (made : ℕ) (result : turn_type) → SoFar old mid made → TurnTo mid new result → result ≡ turn.Stepped
     → SoFar old new (made + 1)
 one_more old mid new made result so (to.stepped cs es step writes is) stepped = record {
   added = so.added ++ es;
@@ -60,7 +79,7 @@ module _ (n : ℕ) (old : Page) where
   rest_at : (new : Page) (made : ℕ) → made ≤ n → SoFar old new made → IsIdle new.state → HasRan n old new (ran.Idle made)
   rest_at new made within so rests = record { added = so.added; entries = so.entries; ended = to.idle made within so.turns rests refl }
 
-  pub rested : (mid new : Page) (made : ℕ) (result : Turn) → made ≤ n → SoFar old mid made → TurnTo mid new result → result ≡ turn.Idle
+  pub rested : (mid new : Page) (made : ℕ) (result : turn_type) → made ≤ n → SoFar old mid made → TurnTo mid new result → result ≡ turn.Idle
       → HasRan n old new (ran.Idle made)
   rested mid new made result within so (to.idle rests same is) idle =
       subst (λ (p : Page). HasRan n old p (ran.Idle made)) (sym same) (rest_at mid made within so rests)
@@ -71,7 +90,7 @@ module _ (n : ℕ) (old : Page) where
   worn_at : (new : Page) (made : ℕ) → SoFar old new made → IsWornBy new.state 1 → HasRan n old new ran.Worn
   worn_at new made so by = record { added = so.added; entries = so.entries; ended = to.worn made so.turns by refl }
 
-  pub worn_out : (mid new : Page) (made : ℕ) (result : Turn) → SoFar old mid made → TurnTo mid new result → result ≡ turn.Worn
+  pub worn_out : (mid new : Page) (made : ℕ) (result : turn_type) → SoFar old mid made → TurnTo mid new result → result ≡ turn.Worn
       → HasRan n old new ran.Worn
   worn_out mid new made result so (to.worn by same is) worn =
       subst (λ (p : Page). HasRan n old p ran.Worn) (sym same) (worn_at mid made so by)
@@ -79,7 +98,7 @@ module _ (n : ℕ) (old : Page) where
   worn_out mid new made result so (to.idle rests same is) worn = cc
   worn_out mid new made result so (to.memory es lacks entries is) worn = cc
 
-  pub broken_off : (mid new : Page) (made : ℕ) (result : Turn) → SoFar old mid made → TurnTo mid new result → result ≡ turn.Memory
+  pub broken_off : (mid new : Page) (made : ℕ) (result : turn_type) → SoFar old mid made → TurnTo mid new result → result ≡ turn.Memory
       → HasRan n old new ran.Memory
   broken_off mid new made result so (to.memory es lacks entries is) memory = record {
     added = so.added ++ es;

@@ -1,17 +1,21 @@
 -- What each command of a script does to the state and the history, and where it is broken off.
 use Rattle.std.specs.Prelude.{◌≡◌, ◌≤◌, ℕ, true, false, List, [], ◌∷◌, ◌++◌, Some, None, codes, Result, Ok, Err}
 use Rattle.heat_plan.specs.Plans.{PlanData}
+use Rattle.heat_plan.specs.Refusals.{code_of}
+use Rattle.heat_plan.specs.declared.refusal.Refusal.{Refusal}
 use Rattle.core_state.specs.declared.stack.Stack.{Stack}
+use Rattle.core_state.specs.declared.change.Change.{Change}
 use Rattle.core_state.specs.declared.entry.Actor.TheVariants.{Main}
 use Rattle.core_state.specs.declared.entry.Entry.{Entry}
 use Rattle.core_state.specs.declared.entry.What.{What}
 use Rattle.core_state.specs.declared.entry.What.TheVariants as what
 use Rattle.core_state.specs.declared.entry.ShowWhat.TheVariants as show
 use Rattle.core_state.specs.Changes.{applied}
-use Rattle.core_state.specs.Commands.{Creates, WearsOut, created_changes, created_entries}
 use Rattle.core_state.specs.State.{StateData, stack_at}
+use Rattle.step_relation.specs.Refusals.{RefusesCreate}
+use Rattle.command_steps.specs.Answers.{Creates}
 use Rattle.book.specs.Quiet.{Page, IsIdle}
-use Rattle.book.specs.Scenes.{IsWornBy}
+use Rattle.book.specs.Turned.{IsWornBy}
 use Rattle.converge_call.specs.declared.exit.Exit.{Exit}
 use Rattle.converge_call.specs.declared.exit.Exit.TheVariants as exit
 use Rattle.converge_call.specs.Turns.{Turns, Lacks, work_of}
@@ -37,12 +41,9 @@ pub record IsUndone (old new : StateData) (es : List Entry) (why : Exit) : Type 
 
 -- a create makes its step, or is refused by the first cause that holds
 pub data CreateDoes (number : ℕ) (name : List ℕ) (plan : PlanData) (old new : StateData) (es : List Entry) : Type 0 where
-  created : (k : Creates old name plan) → new ≡ applied (created_changes old name plan k) old
-      → es ≡ created_entries old name plan k → CreateDoes number name plan old new es
-  exists : (there : Stack) → stack_at old.stacks name ≡ Some there → Notes (refused number (codes "E10")) old new es
-      → CreateDoes number name plan old new es
-  worn : stack_at old.stacks name ≡ None → WearsOut old plan → Notes (refused number (codes "E15")) old new es
-      → CreateDoes number name plan old new es
+  created : (cs : List Change) → Creates old name plan false cs es → new ≡ applied cs old → CreateDoes number name plan old new es
+  not_created : (r : Refusal) (code : List ℕ) → RefusesCreate old name plan false r → code_of r ≡ Some code
+      → Notes (refused number code) old new es → CreateDoes number name plan old new es
 
 -- a listing shows the stack's rows, or there is no stack of the name
 pub data ListDoes (number : ℕ) (name : List ℕ) (old new : StateData) (es : List Entry) : Type 0 where

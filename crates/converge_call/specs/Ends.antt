@@ -1,11 +1,15 @@
 -- What the top call comes to: of a book that was opened, and where none was.
-use Rattle.std.specs.Prelude.{◌≡◌, ◌⊎◌, ℕ, List, Option}
+use Rattle.std.specs.Prelude.{◌≡◌, ℕ, List, Option}
 use Rattle.heat_value.specs.Counts.{Rose}
-use Rattle.provider.specs.Cloud.{Cloud, HasNone}
-use Rattle.core_laws.specs.Opening.{opened}
-use Rattle.book.specs.Kept.{Shown, HasRun, HasHeadline}
+use Rattle.heat_plan.specs.declared.token.Token.{Token}
+use Rattle.provider.specs.Calls.{ListsNone}
+use Rattle.provider.specs.Changes.{IsAsBefore}
+use Rattle.provider.specs.Cloud.{Cloud}
+use Rattle.book.specs.Kept.{Shown, HasRun, HasHeadline, opened}
+use Rattle.book.specs.Openings.{HasStranger}
 use Rattle.converge_call.specs.declared.exit.Exit.{Exit}
 use Rattle.converge_call.specs.declared.exit.Exit.TheVariants as exit
+use Rattle.converge_call.specs.declared.exit.Finding.TheVariants.{Stranger}
 use Rattle.converge_call.specs.Drives.{Streams, streams, Drove}
 
 -- what a source and a sink show at one moment: what is left and held, and how often they have failed
@@ -22,20 +26,27 @@ outside left read_faults holds write_faults =
 abbrev pub streams_of : Outside → Streams
 streams_of o = streams o.left o.holds
 
--- A book that was opened over the cloud was driven: the history is that of the lines read and what is
--- written its text; it is a run's, its calls are the cloud's trace, and the headline holds of it. Faults
--- of the outside come only where a count rose.
-pub record HasDriven {P : Type 0} (cloud_of : P → Cloud) (cloud : P) (old new : Outside) (status : Exit) (b : Shown P) : Type 0 where
-  pub drove : Drove (streams_of old) (streams_of new) opened b.state b.entries status
+-- A book that was opened was driven by the lines: the history is that of the lines read and what is written its text;
+-- it is a run's, its calls are the cloud's trace, and the main theorem holds of it. Faults of the outside come only where
+-- a count rose.
+pub record HasDriven {P : Type 0} (cloud_of : P → Cloud) (old new : Outside) (status : Exit) (b : Shown P) : Type 0 where
+  pub drove : Drove (streams_of old) (streams_of new) (opened 1) b.state b.entries status
   pub read : status ≡ exit.ReadFault → Rose old.read_faults new.read_faults
   pub write : status ≡ exit.WriteFault → Rose old.write_faults new.write_faults
   pub run : HasRun cloud_of b
-  pub origin : b.origin ≡ cloud
-  pub headline : HasNone (cloud_of cloud) → HasHeadline cloud_of b
+  pub headline : HasHeadline cloud_of b
 
--- No book was opened, for the words or for want of memory alone: nothing was read, written or asked.
-pub record IsUntouched {S K P : Type 0} (source_old source_new : S) (sink_old sink_new : K) (cloud left : P) (status : Exit) : Type 0 where
-  pub cause : (status ≡ exit.Usage) ⊎ (status ≡ exit.Memory)
+-- Why no book was opened, and what was done to the cloud: for the words nothing; else it was asked for its list at most.
+pub data IsUnopened {P : Type 0} (cloud_of : P → Cloud) (cloud left : P) (status : Exit) : Type 0 where
+  by_words : status ≡ exit.Usage → left ≡ cloud → IsUnopened cloud_of cloud left status
+  by_memory : status ≡ exit.Memory → IsAsBefore (cloud_of cloud) (cloud_of left) → IsUnopened cloud_of cloud left status
+  by_fault : status ≡ exit.CloudFault → ListsNone (cloud_of cloud) (cloud_of left) → IsUnopened cloud_of cloud left status
+  by_stranger : (token : Token) → status ≡ exit.Disagree token Stranger → HasStranger token (cloud_of cloud) (cloud_of left)
+      → IsUnopened cloud_of cloud left status
+
+-- No book was opened, for its cause: nothing was read or written.
+pub record IsUntouched {S K P : Type 0} (cloud_of : P → Cloud) (source_old source_new : S) (sink_old sink_new : K) (cloud left : P)
+    (status : Exit) : Type 0 where
+  pub cause : IsUnopened cloud_of cloud left status
   pub unread : source_new ≡ source_old
   pub unwritten : sink_new ≡ sink_old
-  pub unasked : left ≡ cloud

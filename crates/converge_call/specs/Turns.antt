@@ -1,5 +1,5 @@
 -- Turns of the live engine, and the work that is left.
-use Rattle.std.specs.Prelude.{◌≡◌, ◌≤◌, ◌+◌, ◌*◌, ℕ, List, [], ◌∷◌, ◌++◌, length}
+use Rattle.std.specs.Prelude.{◌≡◌, ◌≢◌, ◌≤◌, ◌+◌, ◌*◌, ℕ, List, [], ◌∷◌, ◌++◌, length}
 use Rattle.heat_plan.specs.declared.calls.Answered.{Answered}
 use Rattle.core_state.specs.declared.change.Change.{Change}
 use Rattle.core_state.specs.declared.entry.Entry.{Entry}
@@ -8,11 +8,15 @@ use Rattle.mail_table.specs.declared.mail.Stage.{Stage}
 use Rattle.mail_table.specs.declared.mail.Stage.TheVariants.{Taken, Asking, Polling, Ending}
 use Rattle.core_state.specs.Changes.{applied}
 use Rattle.core_state.specs.State.{StateData}
-use Rattle.core_state.specs.Steps.{QuietTurn, AskingTurn, PollingTurn, UnstoredTurn}
-use Rattle.book.specs.declared.turning.Turn.{Turn}
+use Rattle.step_relation.specs.Given.{Answer, Given}
+use Rattle.step_relation.specs.Runs.{IsTied}
+use Rattle.step_relation.specs.Steps.{BeginsWithCall}
+use Rattle.step_relation.specs.Turns.{Turn, WearsOut}
+use Rattle.book.specs.declared.turning.Turn.{Turn as turn_type}
 use Rattle.book.specs.declared.turning.Turn.TheVariants as turn
+use Rattle.book.specs.Kept.{unjudged}
 use Rattle.book.specs.Quiet.{Page, Writes, IsIdle}
-use Rattle.book.specs.Scenes.{IsWornBy}
+use Rattle.book.specs.Turned.{IsWornBy}
 use Rattle.converge_call.specs.declared.ran.Ran.{Ran}
 use Rattle.converge_call.specs.declared.ran.Ran.TheVariants as ran
 
@@ -32,11 +36,12 @@ jobs_work (j ∷ js) = job_work j.stage + jobs_work js
 abbrev pub work_of : StateData → ℕ
 work_of s = jobs_work s.jobs + 69 * length s.letters
 
--- one turn of the engine 1
-pub data TurnOf (s : StateData) (cs : List Change) (es : List Entry) : Type 0 where
-  quiet : QuietTurn s 1 cs es → TurnOf s cs es
-  asking : (given : Answered) → AskingTurn s 1 given cs es → TurnOf s cs es
-  polling : (given : Answered) → PollingTurn s 1 given cs es → TurnOf s cs es
+-- one turn of the engine 1, given what its item resolves to
+pub record TurnOf (s : StateData) (cs : List Change) (es : List Entry) : Type 0 where
+  pub given : Given
+  pub made : Turn s 1 given cs es
+  pub lasts : ¬ WearsOut s 1 given
+  pub tied : IsTied unjudged s 1 given
 
 -- so many turns of the engine 1, one after another, with their entries
 pub data Turns (first : StateData) : StateData → List Entry → ℕ → Type 0 where
@@ -45,13 +50,14 @@ pub data Turns (first : StateData) : StateData → List Entry → ℕ → Type 0
       → Turns first mid before made → TurnOf mid cs after → last ≡ applied cs mid → all ≡ before ++ after
       → count ≡ made + 1 → Turns first last all count
 
--- a turn that found no memory: nothing was done, or a poll's answer was told that couldn't be stored
+-- a turn that found no memory: nothing was done, or the call alone was told whose answer couldn't be stored
 pub data Lacks (old new : StateData) (es : List Entry) : Type 0 where
   unmade : new ≡ old → es ≡ [] → Lacks old new es
-  unstored : (given : Answered) (cs : List Change) → UnstoredTurn old 1 given cs es → new ≡ applied cs old → Lacks old new es
+  unstored : (given : Answered) (lost : List Change) (all : List Entry) (call : Entry) → Turn old 1 (Answer given) lost all → lost ≢ []
+      → BeginsWithCall all call → new ≡ old → es ≡ call ∷ [] → Lacks old new es
 
 -- what one turn comes to
-pub data TurnTo (old new : Page) (result : Turn) : Type 0 where
+pub data TurnTo (old new : Page) (result : turn_type) : Type 0 where
   stepped : (cs : List Change) (es : List Entry) → TurnOf old.state cs es → Writes cs es old new
       → result ≡ turn.Stepped → TurnTo old new result
   idle : IsIdle old.state → new ≡ old → result ≡ turn.Idle → TurnTo old new result

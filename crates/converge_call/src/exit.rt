@@ -1,8 +1,17 @@
 //! How the program ends.
 ghost use Rattle.std.specs.Prelude.{◌≡◌};
 
-/// The top call's status.
+use heat_plan::Token;
+
+/// In what the stored rows and the cloud differ at an opening.
 #[derive(Clone, Copy, Debug, PartialEq, Eq)]
+pub enum Finding {
+    /// The cloud has a resource of this token, and no row is stored for it.
+    Stranger,
+}
+
+/// The top call's status.
+#[derive(Debug, PartialEq, Eq, Drop)]
 pub enum Exit {
     /// The script was read to its end, and all is written.
     Done,
@@ -16,7 +25,11 @@ pub enum Exit {
     WriteFault,
     /// There was no memory.
     Memory,
-    /// A key would have come to 2^62.
+    /// The cloud has what no row names. Nothing was read or written.
+    Disagree(Token, Finding),
+    /// The cloud didn't tell what it has. Nothing was read or written.
+    CloudFault,
+    /// A number or a key would have come to 2^62.
     Worn,
 }
 
@@ -24,8 +37,8 @@ impl Exit {
     ghost use Rattle.converge_call.specs.Exits.{status_of};
 
     /// The status that the program ends with.
-    pub fn code(self) -> u8
-        ensures { result ≡ status_of self }
+    pub fn code(&self) -> u8
+        ensures { result ≡ status_of self.now }
     {
         match self {
             Exit::Done => 0,
@@ -34,6 +47,8 @@ impl Exit {
             Exit::ReadFault => 4,
             Exit::WriteFault => 5,
             Exit::Memory => 7,
+            Exit::Disagree(_, _) => 9,
+            Exit::CloudFault => 10,
             Exit::Worn => 11,
         }
     }

@@ -11,7 +11,7 @@ mod ran;
 mod top;
 mod words;
 
-pub use exit::Exit;
+pub use exit::{Exit, Finding};
 pub use ran::{Ran, turns, work};
 pub use top::{End, Outcome, converge};
 pub use words::{Mode, WordsFault, words_of};

@@ -1,8 +1,7 @@
 //! What one line of the script does.
-ghost use Rattle.heat_plan.specs.Plans.{IsPlan};
+ghost use Rattle.std.specs.Prelude.{◌≡◌, ◌∷◌, []};
 ghost use Rattle.core_state.specs.declared.entry.What.TheVariants as what;
-ghost use Rattle.core_state.specs.Steps.{IsNote};
-ghost use Rattle.core_laws.specs.Runs.{HasNoNeeds};
+ghost use Rattle.step_relation.specs.Steps.{IsNote};
 ghost use Rattle.book.specs.Kept.{IsSameBook};
 ghost use Rattle.book.specs.Quiet.{page};
 ghost use Rattle.converge_call.specs.Commands.{refused, Notes, IsUndone, CreateDoes, ListDoes, RunDoes, RunBreaks, HasDone};
@@ -25,28 +24,20 @@ pub fn do_line<P: Provider>(
     number: u64,
     line: &[u8],
 ) -> Result<(), Exit>
+    requires one { book.old.state.live ≡ 1 ∷ [] }
     ensures done { HasDone (LineDoes number line.now) (LineBreaks line.now)
         (page book.old.state book.old.entries) (page book.new.state book.new.entries) result }
+    ensures live { book.new.state.live ≡ book.old.state.live }
     ensures same { IsSameBook book.old book.new }
 {
     match Command::read(alloc, line) {
         Ok(Command::Blank) => Ok(()),
-        Ok(Command::Create(name, plan)) => {
-            keeps_its_form(&plan);
-            create(alloc, book, number, name, plan)
-        }
+        Ok(Command::Create(name, plan)) => create(alloc, book, number, name, plan),
         Ok(Command::Run) => run(book),
         Ok(Command::Resources(name)) => list(alloc, book, number, name),
         Err(LineFault::N00) => refuse(alloc, book, number, "N00"),
         Err(LineFault::Memory) => Err(Exit::Memory),
     }
-}
-
-// What every plan keeps. It does nothing.
-fn keeps_its_form(plan: &Plan)
-    ensures { IsPlan plan.now.items plan.now.absent }
-{
-    let _ = plan.items();
 }
 
 // Creates a stack, or notes why not.
@@ -57,12 +48,12 @@ fn create<P: Provider>(
     name: StackName,
     plan: Plan,
 ) -> Result<(), Exit>
-    requires { HasNoNeeds plan }
     ensures done { HasDone (CreateDoes number name plan) IsUndone
         (page book.old.state book.old.entries) (page book.new.state book.new.entries) result }
+    ensures live { book.new.state.live ≡ book.old.state.live }
     ensures same { IsSameBook book.old book.new }
 {
-    match book.command(StackCommand::Create(name, plan)) {
+    match book.command(StackCommand::Create(name, plan, false)) {
         Ok(_) => Ok(()),
         Err(refusal) => match refusal.code() {
             Some(code) => refuse(alloc, book, number, code),
@@ -73,8 +64,10 @@ fn create<P: Provider>(
 
 // Makes turns until the book is idle, and notes how many.
 fn run<P: Provider>(book: &mut Book<P>) -> Result<(), Exit>
+    requires one { book.old.state.live ≡ 1 ∷ [] }
     ensures done { HasDone RunDoes RunBreaks
         (page book.old.state book.old.entries) (page book.new.state book.new.entries) result }
+    ensures live { book.new.state.live ≡ book.old.state.live }
     ensures same { IsSameBook book.old book.new }
 {
     let most = work(book.state());
@@ -90,6 +83,7 @@ fn run<P: Provider>(book: &mut Book<P>) -> Result<(), Exit>
 fn ran<P: Provider>(book: &mut Book<P>, idle: bool, turns: u128) -> Result<(), Exit>
     ensures done { HasDone (Notes (what.Ran idle turns)) IsUndone
         (page book.old.state book.old.entries) (page book.new.state book.new.entries) result }
+    ensures live { book.new.state.live ≡ book.old.state.live }
     ensures same { IsSameBook book.old book.new }
 {
     note(book, What::Ran { idle, turns })
@@ -104,6 +98,7 @@ fn list<P: Provider>(
 ) -> Result<(), Exit>
     ensures done { HasDone (ListDoes number stack) IsUndone
         (page book.old.state book.old.entries) (page book.new.state book.new.entries) result }
+    ensures live { book.new.state.live ≡ book.old.state.live }
     ensures same { IsSameBook book.old book.new }
 {
     if book.state().stack(&stack).is_none() {
@@ -122,6 +117,7 @@ fn list<P: Provider>(
 fn refuse<P: Provider>(alloc: Global, book: &mut Book<P>, line: u64, code: &str) -> Result<(), Exit>
     ensures done { HasDone (Notes (refused line code.now)) IsUndone
         (page book.old.state book.old.entries) (page book.new.state book.new.entries) result }
+    ensures live { book.new.state.live ≡ book.old.state.live }
     ensures same { IsSameBook book.old book.new }
 {
     match Text::from_str(alloc, code) {
@@ -142,6 +138,7 @@ fn note<P: Provider>(book: &mut Book<P>, what: What) -> Result<(), Exit>
     requires { IsNote what }
     ensures done { HasDone (Notes what) IsUndone
         (page book.old.state book.old.entries) (page book.new.state book.new.entries) result }
+    ensures live { book.new.state.live ≡ book.old.state.live }
     ensures same { IsSameBook book.old book.new }
 {
     match book.note(what) {

@@ -1,5 +1,5 @@
 //! Turns of the engines, and how many of them are enough.
-ghost use Rattle.std.specs.Prelude.{◌≡◌, ◌≤◌, ◌*◌, length};
+ghost use Rattle.std.specs.Prelude.{◌≡◌, ◌≢◌, ◌≤◌, ◌*◌, ◌∷◌, [], length};
 ghost use Rattle.book.specs.Kept.{IsSameBook};
 ghost use Rattle.book.specs.Quiet.{page};
 ghost use Rattle.converge_call.specs.Turns.{work_of, jobs_work, job_work, TurnTo, HasRan};
@@ -15,7 +15,7 @@ pub enum Ran {
     Idle(u128),
     /// The turns were made, and the book isn't idle.
     Tired(u128),
-    /// A key would have come to 2^62.
+    /// A number or a key would have come to 2^62.
     Worn,
     /// There was no memory.
     Memory,
@@ -56,14 +56,17 @@ fn job_work(stage: Stage) -> u128
 
 /// Makes at most `n` turns of the live engine, until the book is idle.
 pub fn turns<P: Provider>(book: &mut Book<P>, n: u128) -> Ran
+    requires one { book.old.state.live ≡ 1 ∷ [] }
     ensures ran { HasRan n (page book.old.state book.old.entries)
         (page book.new.state book.new.entries) result }
+    ensures live { book.new.state.live ≡ book.old.state.live }
     ensures same { IsSameBook book.old book.new }
 {
     for made in 0..n {
         match turn_first(book) {
             Turn::Stepped => {}
             Turn::Idle => return Ran::Idle(made),
+            Turn::Lost => unreachable!(),
             Turn::Worn => return Ran::Worn,
             Turn::Memory => return Ran::Memory,
         }
@@ -75,10 +78,13 @@ pub fn turns<P: Provider>(book: &mut Book<P>, n: u128) -> Ran
     }
 }
 
-// One turn of the first live engine.
+// One turn of the live engine.
 fn turn_first<P: Provider>(book: &mut Book<P>) -> Turn
+    requires one { book.old.state.live ≡ 1 ∷ [] }
     ensures turned { TurnTo (page book.old.state book.old.entries)
         (page book.new.state book.new.entries) result }
+    ensures found { result ≢ Turn.Lost }
+    ensures live { book.new.state.live ≡ book.old.state.live }
     ensures same { IsSameBook book.old book.new }
 {
     let e = book.live()[0];

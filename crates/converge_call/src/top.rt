@@ -1,10 +1,11 @@
 //! The top call: from the words and the bytes that come in to the bytes that go out.
 ghost use Rattle.std.specs.Prelude.{◌≡◌, ◌≢◌, ◌∷◌, ◌↔◌, [], codes};
-ghost use Rattle.book.specs.Kept.{Shown, HasOpened};
+ghost use Rattle.provider.specs.Calls.{Lists};
+ghost use Rattle.book.specs.Kept.{Shown, opened};
 ghost use Rattle.converge_call.specs.Ends.{outside, HasDriven, IsUntouched};
 
 use crate::drive::drive;
-use crate::exit::Exit;
+use crate::exit::{Exit, Finding};
 use crate::words::words_of;
 use book::{Book, Opened};
 use heat_io::{Sink, Source};
@@ -50,28 +51,41 @@ pub fn converge<S: Source, K: Sink, P: Provider>(
     ensures source { result.status ≡ Exit.Usage → source.new ≡ source.old }
     ensures sink { result.status ≡ Exit.Usage → sink.new ≡ sink.old }
 
-    // No book is opened for the words or for want of memory alone; nothing is then done at all.
+    // No book is opened for the words, for want of memory, or for what the cloud's list is alone; nothing is then
+    // read or written.
     ensures unopened { (p : P) → result.end ≡ End.Unopened p
-        → IsUntouched source.old source.new sink.old sink.new cloud p result.status }
+        → IsUntouched P.cloud source.old source.new sink.old sink.new cloud p result.status }
 
-    // A book that is handed back was driven by the lines, and the headline holds of it.
-    ensures driven { (b : Shown P) → result.end ≡ End.Book b → HasDriven P.cloud cloud
+    // A book is opened over a cloud that has nothing, as its list says.
+    ensures listed { (b : Shown P) → result.end ≡ End.Book b → Lists [] (P.cloud cloud) (P.cloud b.origin) }
+
+    // A book that is handed back was driven by the lines, and the main theorem holds of it.
+    ensures driven { (b : Shown P) → result.end ≡ End.Book b → HasDriven P.cloud
         (outside (S.left source.old) (S.faults source.old) (K.holds sink.old) (K.faults sink.old))
         (outside (S.left source.new) (S.faults source.new) (K.holds sink.new) (K.faults sink.new))
         result.status b }
 {
     if words_of(words).is_err() {
-        return Outcome {
-            status: Exit::Usage,
-            end: End::Unopened(cloud),
-        };
+        return unopened(Exit::Usage, cloud);
     }
-    match Book::recover(alloc, cloud) {
+    match Book::recover(alloc, cloud, 1) {
         Opened::Book(book) => driven(alloc, source, sink, book),
-        Opened::Memory(cloud) => Outcome {
-            status: Exit::Memory,
-            end: End::Unopened(cloud),
-        },
+        Opened::Disagree(cloud, token) => {
+            unopened(Exit::Disagree(token, Finding::Stranger), cloud)
+        }
+        Opened::CloudFault(cloud) => unopened(Exit::CloudFault, cloud),
+        Opened::Memory(cloud) => unopened(Exit::Memory, cloud),
+    }
+}
+
+// No book was opened.
+fn unopened<P: Provider>(status: Exit, cloud: P) -> Outcome<P>
+    ensures status { result.status ≡ status }
+    ensures end { result.end ≡ End.Unopened cloud }
+{
+    Outcome {
+        status,
+        end: End::Unopened(cloud),
     }
 }
 
@@ -82,10 +96,13 @@ fn driven<S: Source, K: Sink, P: Provider>(
     sink: &mut K,
     book: Book<P>,
 ) -> Outcome<P>
-    requires { HasOpened book.origin book }
+    requires opening { book.opening ≡ opened 1 }
+    requires state { book.state ≡ opened 1 }
+    requires entries { book.entries ≡ [] }
     ensures status { result.status ≢ Exit.Usage }
     ensures book { (p : P) → result.end ≢ End.Unopened p }
-    ensures driven { (b : Shown P) → result.end ≡ End.Book b → HasDriven P.cloud book.origin
+    ensures origin { (b : Shown P) → result.end ≡ End.Book b → b.origin ≡ book.origin }
+    ensures driven { (b : Shown P) → result.end ≡ End.Book b → HasDriven P.cloud
         (outside (S.left source.old) (S.faults source.old) (K.holds sink.old) (K.faults sink.old))
         (outside (S.left source.new) (S.faults source.new) (K.holds sink.new) (K.faults sink.new))
         result.status b }

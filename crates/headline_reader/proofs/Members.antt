@@ -1,7 +1,7 @@
 -- What holds of some of a list, and of all of it.
-use Rattle.std.proofs.Common.{zero, suc, List, [], ◌∷◌, ◌++◌, refl, subst, arith}
+use Rattle.std.proofs.Common.{◌≡◌, zero, suc, Bool, true, false, ◌||◌, List, [], ◌∷◌, ◌++◌, refl, subst, ap, ◌∙◌, arith}
 use Rattle.std.specs.Prelude.{All, Any, Contains}
-use Rattle.std.specs.List.{AllZip}
+use Rattle.std.specs.List.{AllZip, list_any}
 
 module _ {X : Type 0} (P : X → Type 0) where
   pub all_at : (xs : List X) → All P xs → (x : X) → Contains xs x → P x
@@ -33,3 +33,12 @@ zip_at R [] ys zip x (k, lt, at) = absurd (omega (arith, lt))
 zip_at R (x ∷ xs) [] zip z c = absurd zip
 zip_at R (x ∷ xs) (y ∷ ys) zip z (zero, lt, at) = (y, subst (λ (w : _). R w y) at zip.0)
 zip_at R (x ∷ xs) (y ∷ ys) zip z (suc k, lt, at) = zip_at R xs ys zip.1 z (k, omega (arith, lt), at)
+
+-- one of the list passes the test
+pub any_passes : {X : Type 0} (p : X → Bool) (xs : List X) (x : X) → Contains xs x → p x ≡ true → list_any p xs ≡ true
+any_passes p [] x (k, lt, at) is = absurd (omega (arith, lt))
+any_passes p (y ∷ ys) x (zero, lt, at) is = let e : p y ≡ true = ap p at ∙ is in rw e refl
+any_passes p (y ∷ ys) x (suc k, lt, at) is = by (p y) (any_passes p ys x (k, omega (arith, lt), at) is) where
+  by : (b : Bool) → list_any p ys ≡ true → (b || list_any p ys) ≡ true
+  by true rest = refl
+  by false rest = rest

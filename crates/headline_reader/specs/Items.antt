@@ -3,7 +3,7 @@ use Rattle.std.specs.Prelude.{◌≡◌, ℕ, false, List, [], ◌∷◌, Option
 use Rattle.heat_plan.specs.Plans.{PlanData}
 use Rattle.heat_plan.specs.declared.item.Item.{Item}
 use Rattle.provider.specs.Table.{Living, TokenState}
-use Rattle.core_laws.specs.Tokens.{IsAlive, IsCertain}
+use Rattle.history.specs.Tokens.{IsCertain, MayLive}
 use Rattle.headline_reader.specs.declared.possible.Possible.{Possible}
 
 -- the resource, where one state alone is possible and it is alive
@@ -28,7 +28,7 @@ IsNeed need p = (p.token.name ≡ need) × IsSomeAnd (sole p.states) IsReady
 
 -- no other of its name may be alive
 abbrev pub IsSame : Possible → Possible → Type 0
-IsSame p q = IsAlive q.states → q.token.name ≡ p.token.name → q.token.row ≡ p.token.row
+IsSame p q = MayLive q.states → q.token.name ≡ p.token.name → q.token.row ≡ p.token.row
 
 abbrev pub IsOnly : List Possible → Possible → Type 0
 IsOnly ps p = All (IsSame p) ps
@@ -52,7 +52,7 @@ abbrev pub HasName : List Item → List ℕ → Type 0
 HasName items name = Any (λ (i : Item). i.name ≡ name) items
 
 unfoldable pub IsPlanned : List Item → Possible → Type 0
-IsPlanned items p = IsAlive p.states → HasName items p.token.name
+IsPlanned items p = MayLive p.states → HasName items p.token.name
 
 -- what a reader finds of a plan
 pub record Finds (ps : List Possible) (plan : PlanData) : Type 0 where

@@ -1,6 +1,6 @@
 //! What the states of one token say.
 ghost use Rattle.std.specs.Prelude.{◌≡◌, ◌↔◌, IsTrue, IsSomeAnd, option_map};
-ghost use Rattle.core_laws.specs.Tokens.{IsAlive, IsCertain};
+ghost use Rattle.history.specs.Tokens.{IsCertain, MayLive};
 ghost use Rattle.headline_reader.specs.Items.{IsReady, sole};
 
 use crate::living::Living;
@@ -15,8 +15,8 @@ pub(crate) fn is_certain(possible: &Possible) -> bool
 }
 
 /// Whether one of the states is alive.
-pub(crate) fn is_alive(possible: &Possible) -> bool
-    ensures { IsTrue result ↔ IsAlive possible.now.states }
+pub(crate) fn may_live(possible: &Possible) -> bool
+    ensures { IsTrue result ↔ MayLive possible.now.states }
 {
     possible
         .states

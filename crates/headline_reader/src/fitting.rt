@@ -1,9 +1,9 @@
 //! Whether what is alive in a stack is what a plan asks for.
-ghost use Rattle.std.specs.Prelude.{◌≡◌, ◌↔◌, Bool, IsTrue, IfOk, All};
+ghost use Rattle.std.specs.Prelude.{◌≡◌, ◌↔◌, ℕ, Bool, IsTrue, IfOk, All};
 ghost use Rattle.heat_plan.specs.declared.token.Token.{Token};
-ghost use Rattle.core_laws.specs.Opening.{empty_opening};
-ghost use Rattle.core_laws.specs.Fits.{Fits};
-ghost use Rattle.core_laws.specs.Tokens.{IsCertain};
+ghost use Rattle.history.specs.Opening.{empty_opening};
+ghost use Rattle.history.specs.Fits.{Fits};
+ghost use Rattle.history.specs.Tokens.{IsCertain};
 ghost use Rattle.headline_reader.specs.Items.{HasItem, IsPlanned, Finds};
 
 use crate::certain::is_certain;
@@ -21,8 +21,8 @@ pub fn fits(
     stack: &StackName,
     plan: &Plan,
 ) -> Result<bool, AllocError>
-    ensures { (leaving : Token → Bool) → IfOk result (λ b.
-        IsTrue b ↔ Fits (empty_opening leaving) entries.now stack.now plan.now) }
+    ensures { (engines : ℕ) (leaving : Token → Bool) → IfOk result (λ b.
+        IsTrue b ↔ Fits (empty_opening engines leaving) entries.now stack.now plan.now) }
 {
     let all = called(alloc, entries, stack)?;
     Ok(finds(all.as_slice(), plan))

@@ -2,7 +2,7 @@
 ghost use Rattle.std.specs.Prelude.{◌↔◌, IsTrue};
 ghost use Rattle.headline_reader.specs.Items.{IsAs, IsOfItem, IsNeed, IsSame, IsOnly, HasOne, HasNeed, HasNeeds, HasItem, HasName, IsPlanned};
 
-use crate::certain::{is_alive, is_ready, sole};
+use crate::certain::{is_ready, may_live, sole};
 use crate::living::Living;
 use crate::possible::Possible;
 use heat_plan::{Item, ResName};
@@ -58,7 +58,7 @@ fn is_only(all: &[Possible], it: &Possible) -> bool
 fn is_same(it: &Possible, other: &Possible) -> bool
     ensures { IsTrue result ↔ IsSame it.now other.now }
 {
-    !is_alive(other) || other.token.name != it.token.name || other.token.row == it.token.row
+    !may_live(other) || other.token.name != it.token.name || other.token.row == it.token.row
 }
 
 fn has_needs(all: &[Possible], needs: &[ResName]) -> bool
@@ -86,7 +86,7 @@ fn is_need(need: &ResName, it: &Possible) -> bool
 pub(crate) fn is_planned(items: &[Item], it: &Possible) -> bool
     ensures { IsTrue result ↔ IsPlanned items.now it.now }
 {
-    !is_alive(it) || has_name(items, &it.token.name)
+    !may_live(it) || has_name(items, &it.token.name)
 }
 
 fn has_name(items: &[Item], name: &ResName) -> bool

@@ -1,8 +1,8 @@
 //! The rows that are stored: each row write in its turn.
-ghost use Rattle.std.specs.Prelude.{◌≡◌, Bool, IfOk, OnOk, fold};
+ghost use Rattle.std.specs.Prelude.{◌≡◌, ℕ, Bool, IfOk, OnOk, fold};
 ghost use Rattle.heat_plan.specs.declared.token.Token.{Token};
-ghost use Rattle.core_laws.specs.Opening.{empty_opening};
-ghost use Rattle.core_laws.specs.Stored.{stored, stored_by, written};
+ghost use Rattle.history.specs.Opening.{empty_opening};
+ghost use Rattle.history.specs.Stored.{stored, stored_by, written};
 
 use core_state::{Entry, Row, RowWrite, Table, What};
 use heat_value::TryCopy;
@@ -10,8 +10,8 @@ use std::alloc::{AllocError, Global};
 
 /// The rows, in the order in which their numbers came.
 pub fn stored(alloc: Global, entries: &[Entry]) -> Result<Table<Row>, AllocError>
-    ensures { (leaving : Token → Bool)
-        → IfOk result (λ t. t.items ≡ stored (empty_opening leaving) entries.now) }
+    ensures { (engines : ℕ) (leaving : Token → Bool)
+        → IfOk result (λ t. t.items ≡ stored (empty_opening engines leaving) entries.now) }
 {
     let mut rows = Table::new(alloc);
     for entry in entries {

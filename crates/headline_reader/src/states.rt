@@ -1,8 +1,8 @@
 //! The states in which a token may be, by its calls alone.
-ghost use Rattle.std.specs.Prelude.{◌≡◌, Bool, IfOk};
+ghost use Rattle.std.specs.Prelude.{◌≡◌, ℕ, Bool, IfOk};
 ghost use Rattle.heat_plan.specs.declared.token.Token.{Token as token_type};
-ghost use Rattle.core_laws.specs.Opening.{first_of, empty_opening};
-ghost use Rattle.core_laws.specs.Could.{could, could_by};
+ghost use Rattle.history.specs.Opening.{first_of, empty_opening};
+ghost use Rattle.history.specs.Could.{could, could_by};
 ghost use Rattle.headline_reader.specs.Called.{could_be};
 
 use crate::after::after_each;
@@ -18,8 +18,8 @@ pub fn could(
     entries: &[Entry],
     token: &Token,
 ) -> Result<Seq<Option<Living>>, AllocError>
-    ensures { (leaving : token_type → Bool)
-        → IfOk result (λ s. s ≡ could (first_of (empty_opening leaving)) entries.now token.now) }
+    ensures { (engines : ℕ) (leaving : token_type → Bool)
+        → IfOk result (λ s. s ≡ could (first_of (empty_opening engines leaving)) entries.now token.now) }
 {
     states_of(alloc, entries, token)
 }

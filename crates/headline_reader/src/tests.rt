@@ -1,12 +1,9 @@
 //! The plain program over the histories of the rows that stand, which the engine writes over the simulated
 //! cloud: no command, one resource at each step to its end, and a second create of its name.
-ghost use Rattle.std.specs.Prelude.{IsTrue};
-ghost use Rattle.core_laws.specs.Runs.{HasNoNeeds};
-
 use crate::{Living, could, fits, mark_of, newest, stored};
 use book::{Book, Opened, StackCommand, Turn};
 use core_state::{Entry, What};
-use heat_plan::{Parameters, Plan, Status, Token};
+use heat_plan::{Parameters, Plan, StackName, Status, Token};
 use heat_value::{Seq, Text};
 use script_lines::Command;
 use sim_cloud::{Settings, SimCloud};
@@ -60,19 +57,10 @@ fn no_plan(alloc: Global) -> Plan {
     )
 }
 
-/// Whether no item of the plan needs another.
-fn needs_nothing(plan: &Plan) -> bool
-    ensures { IsTrue result → HasNoNeeds plan.now }
-{
-    plan.items()
-        .iter()
-        .all(|item| item.needs.as_slice().is_empty())
-}
-
 /// Makes the create that the line says, or notes that it is refused.
 fn create(alloc: Global, book: &mut Book<SimCloud>) {
     if let Ok(Command::Create(name, plan)) = Command::read(alloc, CREATE) {
-        if needs_nothing(&plan) && book.command(StackCommand::Create(name, plan)).is_err() {
+        if book.command(StackCommand::Create(name, plan, false)).is_err() {
             refuse(alloc, book, "E10");
         }
     }
@@ -128,6 +116,14 @@ fn fits_newest(alloc: Global, entries: &[Entry], token: &Token) -> Result<bool, 
     }
 }
 
+// The status that the newest traversal's mark gives.
+fn status_of(entries: &[Entry], stack: &StackName) -> Result<Option<Status>, AllocError> {
+    match mark_of(entries, stack)? {
+        Some(mark) => Ok(Some(mark.status())),
+        None => Ok(None),
+    }
+}
+
 fn read_all(alloc: Global, entries: &[Entry], token: &Token) -> Result<Reading, AllocError> {
     let newest = match newest(entries, &token.stack)? {
         Some(latest) => Some(latest.trav().get()),
@@ -136,7 +132,7 @@ fn read_all(alloc: Global, entries: &[Entry], token: &Token) -> Result<Reading, 
     let states = could(alloc, entries, token)?;
     Ok(Reading {
         newest,
-        mark: mark_of(entries, &token.stack),
+        mark: status_of(entries, &token.stack)?,
         rows: stored(alloc, entries)?.as_slice().len(),
         seen: seen_of(states.as_slice()),
         fits: fits_newest(alloc, entries, token)?,
@@ -148,14 +144,14 @@ fn read_after(alloc: Global, creates: u8, turns: u8, token: &Token) -> Option<Re
     let Ok(cloud) = empty_cloud(alloc) else {
         return None;
     };
-    match Book::recover(alloc, cloud) {
+    match Book::recover(alloc, cloud, 1) {
         Opened::Book(mut book) => {
             drive(alloc, &mut book, creates, turns);
             let seen = read_all(alloc, book.entries(), token);
             let _ = book.give_back();
             seen.ok()
         }
-        Opened::Memory(_cloud) => None,
+        Opened::Disagree(_, _) | Opened::CloudFault(_) | Opened::Memory(_) => None,
     }
 }
 

@@ -1,8 +1,8 @@
 //! A stack's newest traversal: that of its last command.
-ghost use Rattle.std.specs.Prelude.{◌≡◌, Bool, IfOk};
+ghost use Rattle.std.specs.Prelude.{◌≡◌, ℕ, Bool, IfOk};
 ghost use Rattle.heat_plan.specs.declared.token.Token.{Token};
-ghost use Rattle.core_laws.specs.Opening.{empty_opening};
-ghost use Rattle.core_laws.specs.Newest.{newest, newest_by};
+ghost use Rattle.history.specs.Opening.{empty_opening};
+ghost use Rattle.history.specs.Newest.{newest, newest_by};
 
 use core_state::{Entry, What};
 use heat_plan::{Act, Plan, StackName, TravNo};
@@ -21,7 +21,7 @@ pub struct Latest {
 impl Model for Latest {
     ghost use Rattle.std.specs.Coded.{codes};
     ghost use Rattle.heat_value.specs.Code.{data_code, members_code};
-    ghost use Rattle.core_laws.specs.Newest.{Latest as latest_type};
+    ghost use Rattle.history.specs.Newest.{Latest as latest_type};
 
     ghost Value = { latest_type };
 
@@ -42,8 +42,8 @@ impl Latest {
 /// The newest traversal of a stack; none where it had no command.
 #[tactic(auto, unfolding(heat_plan::specs::Tables::at))]
 pub fn newest(entries: &[Entry], stack: &StackName) -> Result<Option<Latest>, AllocError>
-    ensures { (leaving : Token → Bool)
-        → IfOk result (λ l. l ≡ newest (empty_opening leaving) entries.now stack.now) }
+    ensures { (engines : ℕ) (leaving : Token → Bool)
+        → IfOk result (λ l. l ≡ newest (empty_opening engines leaving) entries.now stack.now) }
 {
     let mut latest = None;
     for entry in entries {

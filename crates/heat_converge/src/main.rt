@@ -12,7 +12,7 @@ mod tests;
 use converge_call::{Exit, Outcome, converge};
 use heat_io::{StdSink, StdSource};
 use heat_value::Text;
-use said::words_for;
+use said::{word_for, words_for};
 use sim_cloud::{Settings, SimCloud};
 use std::alloc::{AllocError, Global};
 use std::process::ExitCode;
@@ -57,14 +57,27 @@ fn run(rt: &HostRuntime) -> Result<Exit, AllocError> {
     Ok(status)
 }
 
+// Says on standard error how the program ended.
+fn say(rt: &HostRuntime, status: &Exit) {
+    let words = words_for(status);
+    match status {
+        Exit::Done => {}
+        Exit::Disagree(token, finding) => {
+            let (stack, name, row) = (token.stack.as_str(), token.name.as_str(), token.row.get());
+            let finding = word_for(*finding);
+            let _ = eprintln!(rt; "heat_converge: {words} {stack}/{name}/{row} {finding}");
+        }
+        _ => {
+            let _ = eprintln!(rt; "heat_converge: {words}");
+        }
+    }
+}
+
 fn main(rt: HostRuntime) -> ExitCode {
     let status = match run(&rt) {
         Ok(status) => status,
         Err(_) => Exit::Memory,
     };
-    if status != Exit::Done {
-        let words = words_for(status);
-        let _ = eprintln!(rt; "heat_converge: {words}");
-    }
+    say(&rt, &status);
     ExitCode::from(status.code())
 }

@@ -36,9 +36,13 @@ fn read(alloc: Global, entries: &[Entry], stack: &StackName) -> Result<Reading, 
         Some(plan) => fits(alloc, entries, stack, plan)?,
         None => false,
     };
+    let mark = match mark_of(entries, stack)? {
+        Some(mark) => Some(mark.status()),
+        None => None,
+    };
     Ok(Reading {
         newest: Some(latest.trav().get()),
-        mark: mark_of(entries, stack),
+        mark,
         fits,
     })
 }

@@ -1,12 +1,12 @@
 //! What the program says of how it ended.
 ghost use Rattle.std.specs.Prelude.{◌≡◌};
-ghost use Rattle.heat_converge.specs.Said.{said_of};
+ghost use Rattle.heat_converge.specs.Said.{found_of, said_of};
 
-use converge_call::Exit;
+use converge_call::{Exit, Finding};
 
-/// The words on standard error for this status.
-pub fn words_for(exit: Exit) -> &'static str
-    ensures { result.now ≡ said_of exit }
+/// The first words on standard error for this status.
+pub fn words_for(exit: &Exit) -> &'static str
+    ensures { result.now ≡ said_of exit.now }
 {
     match exit {
         Exit::Done => "done",
@@ -15,6 +15,17 @@ pub fn words_for(exit: Exit) -> &'static str
         Exit::ReadFault => "read fault",
         Exit::WriteFault => "write fault",
         Exit::Memory => "no memory",
+        Exit::Disagree(_, _) => "disagree",
+        Exit::CloudFault => "cloud fault",
         Exit::Worn => "worn",
+    }
+}
+
+/// The word for what the opening found.
+pub fn word_for(finding: Finding) -> &'static str
+    ensures { result.now ≡ found_of finding }
+{
+    match finding {
+        Finding::Stranger => "stranger",
     }
 }

@@ -2,7 +2,7 @@
 ghost use Rattle.std.specs.Prelude.{◌<◌};
 
 use crate::empty_cloud;
-use converge_call::{Exit, Outcome, converge};
+use converge_call::{Outcome, converge};
 use heat_io::{MemSink, MemSource};
 use heat_value::{Seq, Text};
 use provider::Provider;
@@ -68,9 +68,9 @@ fn drives<P: Provider>(
     source: &mut MemSource,
     sink: &mut MemSink,
     cloud: P,
-) -> (Exit, P) {
+) -> (u8, P) {
     let Outcome { status, end } = converge(alloc, words, source, sink, cloud);
-    (status, end.give_back())
+    (status.code(), end.give_back())
 }
 
 /// How a drive of an empty simulated cloud ends.
@@ -79,7 +79,7 @@ fn sim_drives(
     words: &[&str],
     source: &mut MemSource,
     sink: &mut MemSink,
-) -> Result<Exit, AllocError> {
+) -> Result<u8, AllocError> {
     let words = texts(alloc, words)?;
     let (status, _cloud) = drives(alloc, &words, source, sink, empty_cloud(alloc)?);
     Ok(status)
@@ -92,7 +92,7 @@ fn written(
     script: &[u8],
     piece: usize,
     fails: &[u64],
-) -> Result<(Exit, MemSink), AllocError>
+) -> Result<(u8, MemSink), AllocError>
     requires { 0 < piece }
 {
     let mut source = MemSource::new(alloc, script, piece, fails)?;
@@ -107,7 +107,7 @@ fn ends_with(
     words: &[&str],
     script: &[&str],
     out: &[&str],
-    status: Exit,
+    status: u8,
 ) -> Result<bool, AllocError> {
     let script = joined(alloc, script)?;
     let (ended, sink) = written(alloc, words, script.as_bytes(), 4096, &[])?;
@@ -116,54 +116,54 @@ fn ends_with(
 }
 
 /// A name, the words, the script, what is written, and the status.
-const ROWS: &[(&str, &[&str], &[&str], &[&str], Exit)] = &[
-    ("empty_script", &["drive"], &[], &[], Exit::Done),
+const ROWS: &[(&str, &[&str], &[&str], &[&str], u8)] = &[
+    ("empty_script", &["drive"], &[], &[], 0),
     (
         "one_resource",
         &["drive"],
         &[CREATE, "run\nresources s\n"],
         &[CREATED, BEGUN, COMPLETED, "idle 5\n", LISTED],
-        Exit::Done,
+        0,
     ),
     (
         "create_twice_and_unknown_stack",
         &["drive"],
         &[CREATE, CREATE, "resources t\n"],
         &[CREATED, "refused 2 E10\nrefused 3 E11\n"],
-        Exit::Done,
+        0,
     ),
     (
         "form_not_built",
         &["drive"],
         &["bogus\n"],
         &["refused 1 N00\n"],
-        Exit::Done,
+        0,
     ),
     (
         "usage_0",
         &["drive", "--workers", "65"],
         &[],
         &[],
-        Exit::Usage,
+        2,
     ),
-    ("usage_1", &["drive", "--workers=0"], &[], &[], Exit::Usage),
-    ("usage_2", &["run"], &[], &[], Exit::Usage),
-    ("usage_3", &[], &[], &[], Exit::Usage),
-    ("usage_4", &["drive", "a", "b"], &[], &[], Exit::Usage),
-    ("usage_5", &["gen", "501"], &[], &[], Exit::Usage),
+    ("usage_1", &["drive", "--workers=0"], &[], &[], 2),
+    ("usage_2", &["run"], &[], &[], 2),
+    ("usage_3", &[], &[], &[], 2),
+    ("usage_4", &["drive", "a", "b"], &[], &[], 2),
+    ("usage_5", &["gen", "501"], &[], &[], 2),
     (
         "a last line without LF",
         &["drive"],
         &["\r\nrun\r\nbogus"],
         &["idle 0\nrefused 3 N00\n"],
-        Exit::Done,
+        0,
     ),
     (
         "names out of order",
         &["drive"],
         &[THREE, "run\n"],
         &[CREATED, ALL_THREE, "idle 15\n"],
-        Exit::Done,
+        0,
     ),
     (
         "two stacks before a run",
@@ -177,7 +177,7 @@ const ROWS: &[(&str, &[&str], &[&str], &[&str], Exit)] = &[
             OTHER_COMPLETED,
             "idle 10\n",
         ],
-        Exit::Done,
+        0,
     ),
     (
         "a create after a run",
@@ -192,14 +192,14 @@ const ROWS: &[(&str, &[&str], &[&str], &[&str], Exit)] = &[
             OTHER_COMPLETED,
             "idle 5\n",
         ],
-        Exit::Done,
+        0,
     ),
     (
         "an empty stack",
         &["drive"],
         &[EMPTY, "run\n"],
         &["stack e 1 CREATE_IN_PROGRESS\nstack e 1 CREATE_COMPLETE\nidle 0\n"],
-        Exit::Done,
+        0,
     ),
 ];
 
@@ -226,9 +226,10 @@ fn scripted_answer(alloc: Global, letter: u8) -> Result<ScriptedAnswer, AllocErr
     }
 }
 
-/// A cloud that takes at most so many boxes, and answers so.
+/// A cloud that takes at most so many boxes, tells at the opening that it has none, and answers so.
 fn scripted(alloc: Global, most: u32, letters: &[u8]) -> Result<ScriptedCloud, AllocError> {
     let mut answers = Seq::new(alloc);
+    answers.push(ScriptedAnswer::Works(0))?;
     for letter in letters {
         answers.push(scripted_answer(alloc, *letter)?)?;
     }
@@ -246,7 +247,7 @@ fn runs_with(alloc: Global, cloud: ScriptedCloud, out: &[&str]) -> Result<bool, 
     let words = texts(alloc, &["drive"])?;
     let (status, _cloud) = drives(alloc, &words, &mut source, &mut sink, cloud);
     let out = joined(alloc, out)?;
-    Ok(status == Exit::Done && sink.held() == out.as_bytes())
+    Ok(status == 0 && sink.held() == out.as_bytes())
 }
 
 /// What is written where the resource fails, but for why and how many turns were made.
@@ -319,7 +320,7 @@ fn read_fails_at(alloc: Global, script: &[u8], call: u64) -> Result<bool, AllocE
     let came = (call as usize).saturating_sub(1).saturating_mul(30);
     let whole = script.get(..whole_lines(script, came)).unwrap_or(script);
     let (_, before) = written(alloc, &["drive"], whole, 4096, &[])?;
-    Ok(status == Exit::ReadFault && sink.held() == before.held())
+    Ok(status == 4 && sink.held() == before.held())
 }
 
 /// A script that a source of 30 bytes a call gives in five calls, with one more for its end.
@@ -339,7 +340,7 @@ fn a_source_fails_at_each_call(rt: HostRuntime) -> Result<(), Fail> {
 }
 
 /// How a drive into a sink of ten bytes a call ends that fails at this call, and what it writes.
-fn write_fails_at(alloc: Global, script: &[u8], call: u64) -> Result<(Exit, MemSink), AllocError> {
+fn write_fails_at(alloc: Global, script: &[u8], call: u64) -> Result<(u8, MemSink), AllocError> {
     let mut source = MemSource::new(alloc, script, 4096, &[])?;
     let mut sink = MemSink::new(alloc, 10, &[call])?;
     let status = sim_drives(alloc, &["drive"], &mut source, &mut sink)?;
@@ -352,7 +353,7 @@ fn a_sink_fails_at_each_call(rt: HostRuntime) -> Result<(), Fail> {
     let (_, all) = written(rt.alloc(), &["drive"], script.as_bytes(), 4096, &[])?;
     for call in 1..=22 {
         let (status, sink) = write_fails_at(rt.alloc(), script.as_bytes(), call)?;
-        assert_eq!(rt; status, Exit::WriteFault, "{}", call);
+        assert_eq!(rt; status, 5, "{}", call);
         assert!(rt; all.held().starts_with(sink.held()), "{}", call);
         assert!(rt; sink.held().len() < all.held().len(), "{}", call);
     }
@@ -360,20 +361,20 @@ fn a_sink_fails_at_each_call(rt: HostRuntime) -> Result<(), Fail> {
 }
 
 /// How a drive of one comment line of so many bytes ends, with this behind it.
-fn long_line_ends(alloc: Global, length: usize, end: &[u8]) -> Result<Exit, AllocError> {
+fn long_line_ends(alloc: Global, length: usize, end: &[u8]) -> Result<u8, AllocError> {
     let mut script = Vec::from_elem(alloc, b'#', length)?;
     script.extend_from_slice(end)?;
     Ok(written(alloc, &["drive"], &script, 4096, &[])?.0)
 }
 
 /// A line's length, its end, and the status.
-const LENGTHS: &[(usize, &[u8], Exit)] = &[
-    (1_048_576, b"\n", Exit::Done),
-    (1_048_577, b"\n", Exit::TooLong),
-    (1_048_575, b"\r\n", Exit::Done),
-    (1_048_576, b"\r\n", Exit::TooLong),
-    (1_048_576, b"", Exit::Done),
-    (1_048_577, b"", Exit::TooLong),
+const LENGTHS: &[(usize, &[u8], u8)] = &[
+    (1_048_576, b"\n", 0),
+    (1_048_577, b"\n", 3),
+    (1_048_575, b"\r\n", 0),
+    (1_048_576, b"\r\n", 3),
+    (1_048_576, b"", 0),
+    (1_048_577, b"", 3),
 ];
 
 #[test]
@@ -386,5 +387,23 @@ fn a_line_is_too_long_past_its_limit(rt: HostRuntime) -> Result<(), Fail> {
             length
         );
     }
+    Ok(())
+}
+
+/// The status over a cloud that has a box already, or fails at the opening, and what is written then.
+fn unopened(alloc: Global, cloud: ScriptedCloud) -> Result<(u8, usize), AllocError> {
+    let mut source = MemSource::new(alloc, b"run\n", 4096, &[])?;
+    let mut sink = MemSink::new(alloc, 4096, &[])?;
+    let words = texts(alloc, &["drive"])?;
+    let (status, _cloud) = drives(alloc, &words, &mut source, &mut sink, cloud);
+    Ok((status, sink.held().len()))
+}
+
+#[test]
+fn a_cloud_that_does_not_tell_is_a_fault(rt: HostRuntime) -> Result<(), Fail> {
+    let mut answers = Seq::new(rt.alloc());
+    answers.push(ScriptedAnswer::Fails)?;
+    let cloud = ScriptedCloud::new(rt.alloc(), Seq::new(rt.alloc()), answers);
+    assert_eq!(rt; unopened(rt.alloc(), cloud)?, (10, 0));
     Ok(())
 }

@@ -11,6 +11,7 @@ loop-number-init g c = record {
   so = starts _ _ _ c.new-reader.result.held c.new-reader.result.given c.requires.opened c.requires.fresh (ap (λ (r : Reader). r.held) c.new-reader.ensures) (ap (λ (r : Reader). r.given) c.new-reader.ensures);
   reads = omega arith;
   writes = omega arith;
+  live = refl;
   same = record { opening = refl; origin = refl };
   goes_on = ap (λ (r : Reader). r.goes_on) c.new-reader.ensures;
 }
@@ -21,6 +22,7 @@ loop-number-preserved g c = record {
       (answered_as _ _ c.in-Line.line _ _ _ _ _ _ _ c.as_slice.ensures c.loop-number.invariant.same.opening c.answer.ensures.answered) c.in-Ok.is;
   reads = omega (arith, c.loop-number.invariant.reads, c.next.ensures.later);
   writes = omega (arith, c.loop-number.invariant.writes, c.answer.ensures.later);
+  live = c.answer.ensures.live ∙ c.loop-number.invariant.live;
   same = record {
     opening = c.answer.ensures.same.opening ∙ c.loop-number.invariant.same.opening;
     origin = c.answer.ensures.same.origin ∙ c.loop-number.invariant.same.origin;

@@ -12,6 +12,7 @@ invariant-loop-number g l = record {
       (page l.book.state l.book.entries) (ahead l.reader.held (g.S.Source.left l.source)) (g.K.Sink.holds l.sink) l.reader.given l.number;
   reads : g.S.Source.faults l.initial.source ≤ g.S.Source.faults l.source;
   writes : g.K.Sink.faults l.initial.sink ≤ g.K.Sink.faults l.sink;
+  live : l.book.state.live ≡ l.initial.book.state.live;
   same : IsSameBook l.initial.book l.book;
   goes_on : l.reader.goes_on ≡ true;
 }

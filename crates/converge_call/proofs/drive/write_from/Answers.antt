@@ -15,7 +15,7 @@ returns-in-Err-WriteFault-clause-written g c =
     let (written, rest, parts, grows) = c.put_all.ensures.first in
     let text : text_after c.args.book.now.opening c.args.book.now.entries c.args.from ≡ c.as_bytes.result.now =
     sym (c.as_bytes.ensures.value ∙ c.as_str.ensures.value ∙ c.in-Ok.ensures
-    ∙ ap (λ (s : StateData). text_after s c.entries-entries.result.now c.args.from) c.opening.ensures.value
+    ∙ ap (λ (s : StateData). text_after s c.entries-entries.result.now c.args.from) c.opening.ensures
     ∙ ap (λ (es : List Entry). text_after c.args.book.now.opening es c.args.from) c.entries-entries.ensures) in
     first written rest _ (text ∙ parts) grows write_fault refl
 
@@ -24,7 +24,7 @@ returns-clause-written g c =
     let (written, rest, parts, grows) = c.put_all.ensures.first in
     let text : text_after c.args.book.now.opening c.args.book.now.entries c.args.from ≡ c.as_bytes.result.now =
     sym (c.as_bytes.ensures.value ∙ c.as_str.ensures.value ∙ c.in-Ok.ensures
-    ∙ ap (λ (s : StateData). text_after s c.entries-entries.result.now c.args.from) c.opening.ensures.value
+    ∙ ap (λ (s : StateData). text_after s c.entries-entries.result.now c.args.from) c.opening.ensures
     ∙ ap (λ (es : List Entry). text_after c.args.book.now.opening es c.args.from) c.entries-entries.ensures) in
     first written rest _ (text ∙ parts) grows no_memory refl
 

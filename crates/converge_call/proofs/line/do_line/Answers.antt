@@ -4,17 +4,10 @@ use Rattle.script_lines.specs.Lines.{Says}
 use Rattle.script_lines.specs.declared.command.Command.{Command}
 use Rattle.converge_call.specs.Commands.{did}
 use Rattle.converge_call.specs.Lines.{blank, not_built, undone}
-use Rattle.converge_call.proofs.Boxes.{needless}
 use Rattle.converge_call.proofs.Lining.{created_by, listed_by, ran_by}
 use Rattle.converge_call.proofs.Noting.{done_as, nothing_done}
 use Rattle.converge_call.proofs.Turning.{append-none}
 use Rattle.converge_call.proofs.line.do_line.Goals as goal
-
-pub create-requires : goal.create-requires
-create-requires g c = record {
-  proper = c.keeps_its_form.ensures;
-  needless = needless _ _ _ (subst (λ (x : Command). Says c.args.line.now x) c.in-Ok-Create.field-0-is c.in-Ok-Create.ensures.ok);
-}
 
 pub returns-in-Ok-Blank-clause-done : goal.returns-in-Ok-Blank-clause-done
 returns-in-Ok-Blank-clause-done g c = did [] (blank (subst (λ (x : Command). Says c.args.line.now x) c.in-Ok-Blank.field-0-is c.in-Ok-Blank.ensures.ok) refl refl) (sym (append-none c.args.book.now.entries)) refl

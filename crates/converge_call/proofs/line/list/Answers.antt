@@ -1,6 +1,6 @@
 use Rattle.std.proofs.Common.{◌∙◌, sym, ap}
 use Rattle.std.specs.Prelude.{not}
-use Rattle.core_state.specs.Steps.{shows}
+use Rattle.step_relation.specs.Steps.{shows}
 use Rattle.core_state.specs.State.{StateData, stack_at}
 use Rattle.converge_call.proofs.Noting.{listed_of, unlisted_of, some_mapped, none_mapped}
 use Rattle.converge_call.proofs.line.list.Goals as goal

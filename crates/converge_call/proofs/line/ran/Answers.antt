@@ -1,4 +1,4 @@
-use Rattle.core_state.specs.Steps.{ran}
+use Rattle.step_relation.specs.Steps.{ran}
 use Rattle.converge_call.proofs.line.ran.Goals as goal
 
 pub note-requires : goal.note-requires

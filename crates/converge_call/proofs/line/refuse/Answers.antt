@@ -1,6 +1,6 @@
 -- A note with the line's number and the code, or nothing.
 use Rattle.std.proofs.Common.{refl}
-use Rattle.core_state.specs.Steps.{notes}
+use Rattle.step_relation.specs.Steps.{notes}
 use Rattle.converge_call.proofs.Noting.{nothing_done, noted_as}
 use Rattle.converge_call.proofs.line.refuse.Goals as goal
 

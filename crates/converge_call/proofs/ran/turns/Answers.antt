@@ -4,11 +4,12 @@ use Rattle.converge_call.proofs.Turning.{none_so_far, one_more, rested, worn_out
 use Rattle.converge_call.proofs.ran.turns.Goals as goal
 
 pub loop-made-init : goal.loop-made-init
-loop-made-init g c = record { so = none_so_far _; same = record { opening = refl; origin = refl } }
+loop-made-init g c = record { so = none_so_far _; live = refl; same = record { opening = refl; origin = refl } }
 
 pub loop-made-preserved : goal.loop-made-preserved
 loop-made-preserved g c = record {
   so = one_more _ _ _ c.loop-made.made _ c.loop-made.invariant.so c.turn_first.ensures.turned c.in-Stepped.is;
+  live = c.turn_first.ensures.live ∙ c.loop-made.invariant.live;
   same = record {
     opening = c.turn_first.ensures.same.opening ∙ c.loop-made.invariant.same.opening;
     origin = c.turn_first.ensures.same.origin ∙ c.loop-made.invariant.same.origin;

@@ -13,4 +13,4 @@ returns-clause-driven g c b is =
     let new = outside (g.S.Source.left c.drive-status.new.source) (g.S.Source.faults c.drive-status.new.source) (g.K.Sink.holds c.drive-status.new.sink) (g.K.Sink.faults c.drive-status.new.sink) in
     let same : c.drive-status.new.book ≡ b = cc in
     as_driven g.P.Provider.cloud c.args.book old new c.drive-status.result c.drive-status.new.book b same c.requires.opening c.drive-status.ensures.drove
-    c.drive-status.ensures.read c.drive-status.ensures.write c.promises.ensures.run c.drive-status.ensures.same.origin c.promises.ensures.headline
+    c.drive-status.ensures.read c.drive-status.ensures.write c.promises.ensures.run c.promises.ensures.headline

@@ -1,4 +1,4 @@
-use Rattle.core_state.specs.Steps.{notes}
+use Rattle.step_relation.specs.Steps.{notes}
 use Rattle.headline_reader.proofs.tests.refuse.Goals as goal
 
 pub note-requires : goal.note-requires
