@@ -4,7 +4,3 @@ pub mod State
 pub mod Changes
 pub mod Applies
 pub mod Reads
-pub mod Resolve
-pub mod Commands
-pub mod Turns
-pub mod Steps

@@ -1,6 +1,6 @@
 //! The engine's state, its changes, and the history that a step adds to. A state is tables that are read
 //! by keys; it changes only by lists of changes. Nothing here decides what a step does, asks a provider
-//! or writes. It answers to `specs/State.antt`, `Changes.antt` and `Steps.antt`.
+//! or writes. It answers to `specs/State.antt`, `Changes.antt` and `Applies.antt`.
 #![tactic(auto)]
 
 mod apply_fault;
