@@ -1,0 +1,16 @@
+pub mod Tables
+pub mod Best
+pub mod Held
+pub mod NextLemmas
+pub mod HeldLemmas
+pub mod TargetLemmas
+pub mod WorkLemmas
+pub mod StandingLemmas
+pub mod PointLemmas
+pub mod FinishLemmas
+pub mod ReadyLemmas
+pub mod GatherLemmas
+pub mod ThenLemmas
+pub mod InputLemmas
+pub mod ChainLemmas
+pub mod ResendLemmas

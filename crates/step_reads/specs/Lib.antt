@@ -1,0 +1,10 @@
+pub mod Best
+pub mod Tasks
+pub mod Rows
+pub mod Work
+pub mod Waiting
+pub mod Inputs
+pub mod Standing
+pub mod Readiness
+pub mod Points
+pub mod Chains
