@@ -1,0 +1,44 @@
+//! What no clause says: that each answer comes.
+use crate::{Effect, change_of};
+use heat_plan::Properties;
+use heat_value::{Text, Value};
+use std::alloc::Global;
+use std::test::Fail;
+
+// Properties of a text; none where it is no map.
+fn properties(alloc: Global, text: &[u8]) -> Result<Option<Properties>, Fail> {
+    match Value::read(alloc, text)? {
+        Value::Fields(props) => Ok(Properties::from_props(props)),
+        _ => Ok(None),
+    }
+}
+
+// What the change from the first to the second asks for, where `s` and `t` change in place.
+fn effect(alloc: Global, old: &[u8], new: &[u8]) -> Result<Option<Effect>, Fail> {
+    let softs = [Text::from_str(alloc, "s")?, Text::from_str(alloc, "t")?];
+    let (Some(old), Some(new)) = (properties(alloc, old)?, properties(alloc, new)?) else {
+        return Ok(None);
+    };
+    Ok(Some(change_of(&softs, &old, &new)))
+}
+
+#[test]
+fn changes_are_told(rt: HostRuntime) -> Result<(), Fail> {
+    let rows: [(&[u8], &[u8], Effect); 7] = [
+        (b"{\"h\":1}", b"{\"h\":1}", Effect::Same),
+        (b"{\"h\":1}", b"{\"h\":2}", Effect::Replace),
+        (b"{\"h\":1}", b"{\"h\":1,\"s\":1}", Effect::InPlace),
+        (
+            b"{\"h\":1,\"s\":1}",
+            b"{\"h\":1,\"s\":2,\"t\":1}",
+            Effect::InPlace,
+        ),
+        (b"{\"s\":1,\"t\":1}", b"{}", Effect::InPlace),
+        (b"{\"s\":1}", b"{\"h\":1,\"s\":2}", Effect::Replace),
+        (b"{}", b"{\"h\":1}", Effect::Replace),
+    ];
+    for (old, new, expected) in rows {
+        assert_eq!(rt; effect(rt.alloc(), old, new)?, Some(expected));
+    }
+    Ok(())
+}
