@@ -1,0 +1,2 @@
+pub mod AtCleanup
+pub mod Makes
