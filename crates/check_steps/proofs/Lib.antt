@@ -1,5 +1,9 @@
-pub mod ReadLemmas
-pub mod AnswerLemmas
-pub mod TurnLemmas
-pub mod PointLemmas
-pub mod LetterLemmas
+pub mod Effects
+pub mod Faults
+pub mod Founds
+pub mod Moves
+pub mod Passings
+pub mod Takings
+pub mod Tied
+pub mod Turned
+pub mod Worn

@@ -1,2 +1,8 @@
-pub mod Held
-pub mod Refusals
+pub mod AtUpdate
+pub mod Gives
+pub mod Founds
+pub mod Writes
+pub mod Marks
+pub mod Takings
+pub mod Passes
+pub mod Makes

@@ -1,113 +1,85 @@
-//! Finish of a node without successors: the row is unlocked, the job ends, and the node is done; where
-//! it is the last, the stack is complete.
-ghost use Rattle.std.specs.Prelude.{◌≡◌, ◌<◌, ◌+◌, ◌^◌, ◌↔◌, ◌∷◌, [], IfOk, IfErr, IsTrue, true, All, Some, IsSome, slice_get, slice_set, length};
-ghost use Rattle.sync_points.specs.declared.point.Point.{Point as point_type};
-ghost use Rattle.core_state.specs.declared.change.Change.TheVariants.{PutStack};
-ghost use Rattle.core_state.specs.Turns.{Finishes, done_point, completed, finished_changes, finished_entries, complete_mark_entry};
-ghost use Rattle.core_state.specs.Steps.{QuietTurn};
-ghost use Rattle.check_steps.specs.Refusals.{IsTurnRefusal};
+//! Finish: the job ends, its node is done, and the nodes behind it are told.
+ghost use Rattle.std.specs.Prelude.{IfOk, IfErr};
+ghost use Rattle.std.specs.Bool.{OnTrue, OnFalse};
+ghost use Rattle.mail_table.specs.declared.mail.Stage.TheVariants.{Ending};
+ghost use Rattle.step_relation.specs.Finishes.{Settles};
+ghost use Rattle.step_relation.specs.Given.{Nothing};
+ghost use Rattle.step_relation.specs.Nexts.{Works};
+ghost use Rattle.step_parts.specs.Turns.{IsTurn, IsTurnRefusal};
+ghost use Rattle.check_steps.specs.Passes.{IsAtWork, IsPassed, finish_of};
 
-use crate::batches::{three, two};
-use crate::reads::{graph_of, is_worn, job_of, row_of, stack_of};
-use crate::rows::{completed, done_point, unlocked};
-use crate::telling::{ended_entry, mark_entry, set_entry};
-use core_state::{Batch, Change, Entry, Made, Point, Row, Stack, State};
-use heat_plan::{EngineNo, Refusal};
+use crate::passed::Passed;
+use crate::passing::pass_on;
+use core_state::{Actor, Batch, Job, Made, State};
+use heat_plan::{EngineNo, Refusal, Status};
 use std::alloc::{AllocError, Global};
+use step_ends::finish_overrun;
+use step_parts::{complete_mark, mark_complete, one};
+use step_reads::{Fresh, all_done, freshness, input_of, ready_then, succs_of};
 
-/// The end of an engine's job at a node without successors; refuses `Worn` where the row's key would be
-/// 2^62.
-pub fn finish(alloc: Global, s: &State, e: EngineNo) -> Result<Made, Refusal>
-    requires { Finishes s.now.state e }
-    ensures made { IfOk result (λ m. QuietTurn s.now.state e m.changes m.entries) }
-    ensures cause { IfErr result (IsTurnRefusal (Finishes s.now.state e) (λ k. k.row)) }
+/// The end of an engine's job; one that is overrun is released.
+pub fn finish(alloc: Global, s: &State, e: EngineNo, job: &Job) -> Result<Made, Refusal>
+    requires { Works s.now.state e job.now Ending }
+    ensures made { IfOk result (IsTurn s.now.state e Nothing) }
+    ensures cause { IfErr result (IsTurnRefusal s.now.state e Nothing) }
 {
-    let job = job_of(s, e);
-    let row = row_of(s, job);
-    if is_worn(row) {
-        return Err(Refusal::Worn);
-    }
-    let stack = stack_of(s, &job.letter);
-    let points = graph_of(s, &job.letter).points.as_slice();
-    let node = job.letter.node as usize;
-    if is_last(points, node) {
-        Ok(unlock_last(alloc, e, stack, row, &points[node])?)
-    } else {
-        Ok(unlock(alloc, e, row, &points[node])?)
-    }
-}
-
-// Whether every other node is done.
-fn is_last(points: &[Point], node: usize) -> bool
-    ensures { (point : point_type) → slice_get points.now node ≡ Some point
-        → IsTrue result ↔ All (λ (p : point_type). p.done ≡ true) (slice_set points.now node (done_point point)) }
-{
-    for (place, point) in points.iter().enumerate() {
-        if place != node && !point.done {
-            return false;
+    match freshness(s, job) {
+        Some(fresh) => {
+            let passed = passed_by(alloc, job, fresh)?;
+            finish_node(alloc, s, e, &passed)
         }
+        None => finish_overrun(alloc, s, e, job),
     }
-    true
 }
 
-// The row, the job and the node, where others are left.
-fn unlock(alloc: Global, e: EngineNo, row: &Row, point: &Point) -> Result<Made, AllocError>
-    requires { row.now.key + 1 < 2 ^ 62 }
-    ensures changes { IfOk result (λ m. m.changes ≡ finished_changes e row.now point.now []) }
-    ensures entries { IfOk result (λ m. m.entries ≡ finished_entries e row.now []) }
+// What the end of a job finds.
+fn passed_by<'a>(alloc: Global, job: &'a Job, fresh: Fresh<'a>) -> Result<Passed<'a>, AllocError>
+    requires { (s : _) × IsAtWork s job.now fresh }
+    ensures { (s : _) (e : _) → Works s e job.now Ending
+        → IsAtWork s job.now fresh.entry
+        → IfOk result (IsPassed s e) }
 {
-    let changes = unlock_changes(alloc, e, row, point)?;
-    let entries = unlock_entries(alloc, e, row)?;
-    Made::new(alloc, changes, entries)
+    let node = job.letter.node;
+    let input = input_of(node, fresh.node, job.row, fresh.row)?;
+    let succs = succs_of(fresh.graph, node)?;
+    let ready = ready_then(alloc, fresh.graph, node, &input, succs.as_slice())?;
+    Ok(Passed {
+        job,
+        fresh,
+        input,
+        succs,
+        ready,
+    })
 }
 
-// The same, and the mark of a stack whose last node is done.
-fn unlock_last(
-    alloc: Global,
-    e: EngineNo,
-    stack: &Stack,
-    row: &Row,
-    point: &Point,
-) -> Result<Made, AllocError>
-    requires { row.now.key + 1 < 2 ^ 62 }
-    ensures changes { IfOk result (λ m. m.changes ≡
-        finished_changes e row.now point.now (PutStack (completed stack.now) ∷ [])) }
-    ensures entries { IfOk result (λ m. m.entries ≡
-        finished_entries e row.now (complete_mark_entry e stack.now ∷ [])) }
+// The node is done, and where it is the last of a traversal without a mark, the stack is complete.
+fn finish_node(alloc: Global, s: &State, e: EngineNo, passed: &Passed<'_>) -> Result<Made, Refusal>
+    requires { IsPassed s.now.state e passed.now }
+    ensures made { IfOk result (IsTurn s.now.state e Nothing) }
+    ensures cause { IfErr result (IsTurnRefusal s.now.state e Nothing) }
 {
-    let mut changes = unlock_changes(alloc, e, row, point)?;
-    changes.push(Change::PutStack(completed(stack)?))?;
-    let mut entries = unlock_entries(alloc, e, row)?;
-    entries.push(mark_entry(e, stack, None)?)?;
-    Made::new(alloc, changes, entries)
+    if !settles(passed) {
+        return pass_on(alloc, s, e, passed, Batch::new(alloc), Batch::new(alloc));
+    }
+    let mark = mark_complete(alloc, passed.fresh.stack)?;
+    let told = one(alloc, complete_mark(Actor::Engine(e), passed.fresh.stack)?)?;
+    pass_on(alloc, s, e, passed, mark, told)
 }
 
-// The changes of the row, the job and the node.
-fn unlock_changes(
-    alloc: Global,
-    e: EngineNo,
-    row: &Row,
-    point: &Point,
-) -> Result<Batch<Change>, AllocError>
-    requires { row.now.key + 1 < 2 ^ 62 }
-    ensures { IfOk result (λ changes. changes ≡ finished_changes e row.now point.now []) }
+// Whether all nodes are done then, and the stack has no mark.
+fn settles(passed: &Passed<'_>) -> bool
+    ensures yes { (s : _) (e : _) (it : IsPassed s e passed.now)
+        → OnTrue result (Settles s e (finish_of s e passed.now it)) }
+    ensures no_ { (s : _) (e : _) (it : IsPassed s e passed.now)
+        → OnFalse result (¬ Settles s e (finish_of s e passed.now it)) }
 {
-    let row = unlocked(row)?;
-    let point = done_point(point)?;
-    three(
-        alloc,
-        Change::PutRow(row),
-        Change::EndJob(e),
-        Change::PutPoint(point),
+    if passed.fresh.stack.status != Status::InProgress {
+        return false;
+    }
+    all_done(
+        passed.fresh.graph,
+        passed.job.letter.node,
+        &passed.input,
+        passed.succs.as_slice(),
     )
-}
-
-// What is told of the row and the job.
-fn unlock_entries(alloc: Global, e: EngineNo, row: &Row) -> Result<Batch<Entry>, AllocError>
-    requires { row.now.key + 1 < 2 ^ 62 }
-    ensures { IfOk result (λ entries. entries ≡ finished_entries e row.now []) }
-{
-    let rows = set_entry(alloc, e, unlocked(row)?)?;
-    let mail = ended_entry(alloc, e)?;
-    two(alloc, rows, mail)
 }

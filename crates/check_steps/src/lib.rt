@@ -1,23 +1,26 @@
-//! An engine's steps at an update node. Each function answers the changes and entries of one case of
-//! `QuietTurn`, `AskingTurn` or `PollingTurn` in `core_state`. None of them changes the state, asks the
-//! provider or writes.
+//! An engine's steps that ask nobody: the taking of a letter, the begin of a job at an update node,
+//! and the finish of a job. Each answers the changes and entries of a case of `Turn` in
+//! step_relation. None changes the state, asks the provider or writes.
 #![tactic(auto)]
 
-mod answering;
-mod batches;
 mod beginning;
-mod failing;
+mod faulting;
+mod finding;
 mod finishing;
-mod polling;
-mod reads;
-mod rows;
+mod found;
+mod going_on;
+mod leaving;
+mod making;
+mod passed;
+mod passing;
+mod prepared;
+mod preparing;
+mod replacing;
 mod taking;
-mod telling;
+mod with_props;
 
-pub use answering::asked;
 pub use beginning::begin;
 pub use finishing::finish;
-pub use polling::polled;
-pub use reads::job_row;
+pub use prepared::Prepared;
+pub use preparing::prepare;
 pub use taking::take;
-pub use telling::token_of;

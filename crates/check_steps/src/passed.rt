@@ -1,0 +1,16 @@
+//! What the end of a job finds in the state and in its graph.
+
+use core_state::{Input, Job};
+use heat_value::Seq;
+use step_reads::Fresh;
+
+/// A job with its work, the input that its node gives, the nodes behind the node, and those of them
+/// that are ready then, each rising.
+#[derive(Drop)]
+pub(crate) struct Passed<'a> {
+    pub job: &'a Job,
+    pub fresh: Fresh<'a>,
+    pub input: Input,
+    pub succs: Seq<u32>,
+    pub ready: Seq<u32>,
+}
