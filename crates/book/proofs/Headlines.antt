@@ -1,18 +1,40 @@
--- The headline of a book over a cloud that was empty at first.
-use Rattle.std.proofs.Common.{List, sym, subst}
+-- What a book keeps makes its state sound, and gives it the main theorem.
+use Rattle.std.proofs.Common.{List, [], arith, subst, sym}
+use Rattle.std.specs.Prelude.{Contains, ◌≢◌}
+use Rattle.provider.specs.Cloud.{Cloud, state_of}
 use Rattle.provider.specs.declared.alive.Alive.{Alive}
-use Rattle.provider.specs.Cloud.{Cloud, HasNone, state_of}
-use Rattle.core_laws.specs.Headline.{Headline}
-use Rattle.core_laws.specs.Opening.{opened}
-use Rattle.core_laws.specs.Runs.{Run}
-use Rattle.core_laws.specs.Shown.{Agrees}
-use Rattle.core_laws.proofs.FromOpening.{opened_headline}
-use Rattle.book.specs.Kept.{Shown, HasHeadline}
+use Rattle.core_state.specs.State.{StateData}
+use Rattle.core_state.specs.declared.entry.Entry.{Entry}
+use Rattle.history.specs.Could.{IsPossible, could_of}
+use Rattle.soundness.specs.Laws.{opening_at}
+use Rattle.soundness.specs.Sound.{Sound}
+use Rattle.headline_laws.proofs.Empty.{empty_is_sound}
+use Rattle.whole_laws.proofs.Whole.{runs_headline, runs_sound}
+use Rattle.book.specs.Kept.{HasHeadline, IsKept, Shown, registries}
 
-pub headline_of : {P : Type 0} (cloud_of : P → Cloud) (b : Shown P) → Run opened b.state b.entries
-    → Agrees (state_of (cloud_of b.origin)) b.entries (cloud_of b.cloud) → HasNone (cloud_of b.origin) → HasHeadline cloud_of b
-headline_of cloud_of b run agrees none = record {
-  headline = subst (λ (all : List Alive). Headline (record { state = opened; alive = all; leaving = (cloud_of b.origin).leaving }) b.entries b.state)
-      (sym none) (opened_headline (cloud_of b.origin).leaving b.state b.entries run);
-  agrees = agrees;
+-- a list that has something isn't empty
+filled : {A : Type 0} (xs : List A) (x : A) → Contains xs x → xs ≢ []
+filled xs x among is = let c = subst (λ (ys : List _). Contains ys x) is among in absurd (omega (arith, c.1))
+
+module _ (first : StateData) (origin : Cloud) (s : StateData) (h : List Entry) (c : Cloud) (kept : IsKept first origin s h c) where
+  -- each token is in one of its states
+  pub possible : IsPossible (opening_at first origin) h
+  possible t = filled (could_of (opening_at first origin) h t) (state_of c t) (kept.agrees t)
+
+  first_sound : Sound (opening_at first origin) [] first
+  first_sound = subst (λ (all : List Alive). Sound (record { state = first; alive = all; leaving = origin.leaving }) [] first) (sym kept.none)
+      (subst (λ (x : StateData). Sound (record { state = x; alive = []; leaving = origin.leaving }) [] x) (sym kept.opens)
+      (empty_is_sound kept.engines origin.leaving))
+
+  pub sound : Sound (opening_at first origin) h s
+  sound = runs_sound registries (opening_at first origin) s h first_sound kept.run possible
+
+-- the main theorem of what a book shows
+pub headline_of : {P : Type 0} (cloud_of : P → Cloud) (b : Shown P)
+    → IsKept b.opening (cloud_of b.origin) b.state b.entries (cloud_of b.cloud) → HasHeadline cloud_of b
+headline_of cloud_of b kept = record {
+  headline = runs_headline registries (opening_at b.opening (cloud_of b.origin)) b.state b.entries
+      (first_sound b.opening (cloud_of b.origin) b.state b.entries (cloud_of b.cloud) kept) kept.run
+      (possible b.opening (cloud_of b.origin) b.state b.entries (cloud_of b.cloud) kept);
+  agrees = kept.agrees;
 }

@@ -1,5 +1,7 @@
-pub mod Scenes
-pub mod Outcomes
-pub mod Quiet
 pub mod Kept
-pub mod Commands
+pub mod Openings
+pub mod Quiet
+pub mod Scenes
+pub mod Requests
+pub mod Turned
+pub mod Makings

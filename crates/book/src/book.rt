@@ -1,39 +1,32 @@
 //! The book: what it shows, and its calls.
-ghost use Rattle.std.specs.Prelude.{◌≡◌, ◌++◌, ◌∷◌, ◌↔◌, ◌-◌, ◌^◌, [], min, IsTrue, OnOk, OnErr, Contains};
-ghost use Rattle.book.specs.Quiet.{IsIdle};
+ghost use Rattle.std.specs.Prelude.{◌≡◌, ◌++◌, ◌∷◌, ◌↔◌, ◌-◌, ◌^◌, ◌≤◌, [], min, IsTrue, OnOk, OnErr};
+ghost use Rattle.heat_plan.specs.declared.token.Token.{Token as token_type};
 ghost use Rattle.core_state.specs.declared.entry.Actor.TheVariants.{Main};
-ghost use Rattle.core_state.specs.Steps.{IsNote};
-ghost use Rattle.core_laws.specs.Opening.{opened};
-ghost use Rattle.book.specs.Commands.{IsCommandBuilt, Commanded, number_of};
-ghost use Rattle.book.specs.Kept.{Shown, IsKept, IsSameBook, scene_of, HasOpened, HasRun, HasHeadline};
-ghost use Rattle.provider.specs.Cloud.{HasNone};
-ghost use Rattle.book.specs.Scenes.{Turned};
+ghost use Rattle.step_relation.specs.Steps.{IsNote};
+ghost use Rattle.provider.specs.Calls.{ListsNone};
+ghost use Rattle.provider.specs.Changes.{IsAsBefore};
+ghost use Rattle.book.specs.Kept.{Shown, IsKept, IsSameBook, HasRun, HasHeadline};
+ghost use Rattle.book.specs.Openings.{HasOpened, HasStranger};
+ghost use Rattle.book.specs.Quiet.{IsIdle, number_of};
 
-use crate::commanding::{StackCommand, create_stack, parts_of};
-use crate::opening::{Opening, opening_of};
-use crate::turning::{Turn, turn_of};
+use crate::opening::{Opened, opening_of};
 use core_state::{Actor, Entry, Next, Roomed, State, What};
-use heat_plan::{EngineNo, Refusal, StackName, StackNo, TravNo, WORN};
-use provider::Provider;
+use heat_plan::{EngineNo, StackName, StackNo, WORN};
+use heat_value::Seq;
+use provider::{Alive, Listed, Provider};
 use std::alloc::{AllocError, Global};
 use std::marker::Model;
 use std::snapshot::Snapshot;
 
 /// The engine's state, its history since the opening, and the cloud. `origin` is the cloud as it stood
-/// at the opening, which contracts alone see.
+/// when the opening had asked it, which contracts alone see.
 pub struct Book<P: Provider> {
     alloc: Global,
-    opening: Opening,
+    opening: State,
     state: State,
     entries: Roomed<Entry>,
     cloud: P,
     origin: Snapshot<P>,
-}
-
-/// A book, or the cloud as it was where there was no memory to open one.
-pub enum Opened<P: Provider> {
-    Book(Book<P>),
-    Memory(P),
 }
 
 impl<P: Provider> Model for Book<P> {
@@ -46,67 +39,55 @@ impl<P: Provider> Model for Book<P> {
     ghost coded = { Prim.hlevel (codes, data_code, members_code) };
 
     ghost view = { λ b. record {
-      opening = b.opening.state.state;
-      alive = b.opening.alive;
-      leaving = b.opening.leaving;
+      opening = b.opening.state;
       state = b.state.state;
       entries = b.entries.items;
       cloud = b.cloud;
       origin = b.origin.value;
     } };
 
-    ghost invariant = { λ b. IsKept b.opening.state.state b.opening.alive b.opening.leaving
-        (P.cloud b.origin.value) b.state.state b.entries.items (P.cloud b.cloud) };
+    ghost invariant = { λ b. IsKept b.opening.state (P.cloud b.origin.value)
+        b.state.state b.entries.items (P.cloud b.cloud) };
 }
 
 impl<P: Provider> Book<P> {
-    /// Opens a book over a cloud, which is asked nothing, with the engine 1.
-    pub fn recover(alloc: Global, cloud: P) -> Opened<P>
-        ensures book { (b : Shown P) → result ≡ Opened.Book b → HasOpened cloud b }
-        ensures memory { (p : P) → result ≡ Opened.Memory p → p ≡ cloud }
+    /// Opens a book over a cloud that has nothing, with so many engines. The cloud is asked for its list,
+    /// once.
+    pub fn recover(alloc: Global, cloud: P, workers: u8) -> Opened<P>
+        requires some { 1 ≤ workers }
+        requires few { workers ≤ 64 }
+        ensures book { (b : Shown P) → result ≡ Opened.Book b → HasOpened P.cloud workers cloud b }
+        ensures disagree { (p : P) (token : token_type) → result ≡ Opened.Disagree p token
+            → HasStranger token (P.cloud cloud) (P.cloud p) }
+        ensures fault { (p : P) → result ≡ Opened.CloudFault p → ListsNone (P.cloud cloud) (P.cloud p) }
+        ensures memory { (p : P) → result ≡ Opened.Memory p → IsAsBefore (P.cloud cloud) (P.cloud p) }
     {
-        let Ok(opening) = opening_of(alloc) else {
+        let Ok(opening) = opening_of(alloc, workers) else {
             return Opened::Memory(cloud);
         };
-        let Ok(state) = opening.state.copy() else {
+        let Ok(state) = opening.copy() else {
             return Opened::Memory(cloud);
         };
-        let origin = Snapshot::of(&cloud);
-        Opened::Book(Book {
-            alloc,
-            opening,
-            state,
-            entries: Roomed::new(alloc),
-            cloud,
-            origin,
-        })
-    }
-
-    /// One turn of a live engine: at most one request is made.
-    pub fn turn(&mut self, e: EngineNo) -> Turn
-        requires { Contains self.old.state.live e }
-        ensures turned { Turned e (scene_of P.cloud self.old) (scene_of P.cloud self.new) result }
-        ensures idle { result ≡ Turn.Idle → IsIdle self.new.state }
-        ensures live { self.new.state.live ≡ self.old.state.live }
-        ensures same { IsSameBook self.old self.new }
-    {
-        turn_of(
-            self.alloc,
-            &mut self.state,
-            &mut self.entries,
-            &mut self.cloud,
-            e,
-        )
-    }
-
-    /// A command on a stack, by the reader of commands. Gives the traversal that was drawn.
-    pub fn command(&mut self, c: StackCommand) -> Result<TravNo, Refusal>
-        requires { IsCommandBuilt c }
-        ensures commanded { Commanded c (scene_of P.cloud self.old) (scene_of P.cloud self.new) result }
-        ensures same { IsSameBook self.old self.new }
-    {
-        let (name, plan) = parts_of(c);
-        create_stack(self.alloc, &mut self.state, &mut self.entries, &name, plan)
+        let mut cloud = cloud;
+        match cloud.list() {
+            Listed::Got(mut all) => {
+                if !all.is_empty() {
+                    let first = all.remove(0);
+                    return Opened::Disagree(cloud, first.token);
+                }
+                let origin = Snapshot::of(&cloud);
+                Opened::Book(Book {
+                    alloc,
+                    opening,
+                    state,
+                    entries: Roomed::new(alloc),
+                    cloud,
+                    origin,
+                })
+            }
+            Listed::Failed => Opened::CloudFault(cloud),
+            Listed::Memory => Opened::Memory(cloud),
+        }
     }
 
     /// Adds what a line shows, a refusal, or how a run ended.
@@ -127,11 +108,11 @@ impl<P: Provider> Book<P> {
         Ok(())
     }
 
-    /// What every book keeps: its history is that of a run, which the cloud has followed; and where the
-    /// cloud had nothing at the opening, the headline holds of it. It does nothing.
+    /// What every book keeps: its history is that of a run, which the cloud has followed, and the main
+    /// theorem holds of it. It does nothing.
     pub fn promises(&self)
         ensures run { HasRun P.cloud self.now }
-        ensures headline { HasNone (P.cloud self.now.origin) → HasHeadline P.cloud self.now }
+        ensures headline { HasHeadline P.cloud self.now }
     {
         let _ = &self.entries;
     }
@@ -152,16 +133,14 @@ impl<P: Provider> Book<P> {
 
     /// The state at the opening.
     pub fn opening(&self) -> &State
-        ensures value { result.now.state ≡ self.now.opening }
-        ensures first { self.now.opening ≡ opened }
+        ensures { result.now.state ≡ self.now.opening }
     {
-        &self.opening.state
+        &self.opening
     }
 
-    /// The live engines, by rising number. So far there is one.
+    /// The live engines, by rising number.
     pub fn live(&self) -> &[EngineNo]
-        ensures value { result.now ≡ self.now.state.live }
-        ensures one { self.now.state.live ≡ 1 ∷ [] }
+        ensures { result.now ≡ self.now.state.live }
     {
         self.state.live()
     }

@@ -1,8 +1,11 @@
 //! The one place where a state and a history change: room first, then the changes and the entries.
 ghost use Rattle.std.specs.Prelude.{◌≡◌, ◌≤◌, ◌++◌, OnOk, OnErr, length};
 ghost use Rattle.core_state.specs.Changes.{applied};
+ghost use Rattle.book.specs.Makings.{MadeAs};
+ghost use Rattle.book.specs.Quiet.{page};
 
 use core_state::{Entry, Made, Roomed, State};
+use heat_plan::Refusal;
 use std::alloc::AllocError;
 
 /// Makes room for a step's changes and entries.
@@ -50,4 +53,22 @@ pub(crate) fn make(
     make_room(state, entries, &made)?;
     make_within(state, entries, made);
     Ok(())
+}
+
+/// Makes a step that was thought out, or hands its refusal on; then all stays as it was.
+pub(crate) fn make_step(
+    state: &mut State,
+    entries: &mut Roomed<Entry>,
+    made: Result<Made, Refusal>,
+) -> Result<(), Refusal>
+    ensures { MadeAs made
+        (page state.old.state entries.old.items) (page state.new.state entries.new.items) result }
+{
+    match made {
+        Ok(made) => match make(state, entries, made) {
+            Ok(()) => Ok(()),
+            Err(_) => Err(Refusal::Memory),
+        },
+        Err(refusal) => Err(refusal),
+    }
 }

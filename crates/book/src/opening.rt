@@ -1,49 +1,60 @@
 //! What a book opens with.
-ghost use Rattle.std.specs.Prelude.{◌≡◌, [], IfOk};
-ghost use Rattle.core_laws.specs.Opening.{opened};
+ghost use Rattle.std.specs.Prelude.{◌≡◌, ◌++◌, ◌∷◌, ◌≤◌, [], IfOk, OnOk};
+ghost use Rattle.heat_plan.specs.Numbers.{IsNumber};
+ghost use Rattle.history.specs.Opening.{bare};
+ghost use Rattle.step_relation.specs.Steps.{past_engines};
+ghost use Rattle.book.specs.Kept.{opened};
 
+use crate::book::Book;
 use core_state::{Change, Next, Numbers, Ready, State};
 use heat_plan::{EngineNo, Token};
-use heat_value::Seq;
-use provider::Alive;
+use provider::Provider;
 use std::alloc::{AllocError, Global};
 
-/// The state as it stood when the book had opened, the cloud's alive list at that moment, and which of
-/// its tokens were leaving. The opening asks the cloud nothing so far, and keeps two empty lists.
-#[derive(Debug, Drop)]
-pub struct Opening {
-    pub state: State,
-    pub alive: Seq<Alive>,
-    pub leaving: Seq<Token>,
+/// A book; or the cloud, where its list has a resource, whose token is told, where it didn't answer, or
+/// where there was no memory.
+pub enum Opened<P: Provider> {
+    Book(Book<P>),
+    Disagree(P, Token),
+    CloudFault(P),
+    Memory(P),
 }
 
-/// No stack, and the engine 1.
-pub(crate) fn opening_of(alloc: Global) -> Result<Opening, AllocError>
-    ensures state { IfOk result (λ o. o.state.state ≡ opened) }
-    ensures alive { IfOk result (λ o. o.alive ≡ []) }
-    ensures leaving { IfOk result (λ o. o.leaving ≡ []) }
+/// No stack, and so many engines.
+pub(crate) fn opening_of(alloc: Global, workers: u8) -> Result<State, AllocError>
+    ensures { IfOk result (λ s. s.state ≡ opened workers) }
+{
+    let mut state = numbered(alloc, workers)?;
+    for drawn in 0..u64::from(workers) {
+        enlist(alloc, &mut state, drawn + 1)?;
+    }
+    Ok(state)
+}
+
+// No stack and no engine, where the numbers of so many are drawn.
+fn numbered(alloc: Global, workers: u8) -> Result<State, AllocError>
+    ensures { IfOk result (λ s. s.state ≡ record bare { next = past_engines bare.next workers }) }
 {
     let mut state = State::new(alloc);
-    state.reserve(2)?;
+    state.reserve(1)?;
     let numbers = Numbers {
-        engine: Next::first().after(1),
+        engine: Next::first().after(u64::from(workers)),
         ..Numbers::first()
     };
     state.make(Ready::new(alloc, Change::Numbers(numbers))?);
-    state.make(Ready::new(alloc, Change::Enlist(first_engine()))?);
-    Ok(Opening {
-        state,
-        alive: Seq::new(alloc),
-        leaving: Seq::new(alloc),
-    })
+    Ok(state)
 }
 
-// The engine 1.
-fn first_engine() -> EngineNo
-    ensures { result ≡ 1 }
+// Enlists the engine of this number.
+fn enlist(alloc: Global, state: &mut State, number: u64) -> Result<(), AllocError>
+    requires { IsNumber number }
+    ensures { OnOk result (state.new.state
+        ≡ record state.old.state { live = state.old.state.live ++ number ∷ [] }) }
 {
-    match EngineNo::new(1) {
-        Some(engine) => engine,
+    state.reserve(1)?;
+    match EngineNo::new(number) {
+        Some(engine) => state.make(Ready::new(alloc, Change::Enlist(engine))?),
         None => unreachable!(),
     }
+    Ok(())
 }

@@ -1,4 +1,4 @@
--- The history is that of a run, and every run from an empty opening has the headline.
+-- The history is that of a run, and every run from an empty opening has the main theorem.
 use Rattle.book.proofs.Headlines.{headline_of}
 use Rattle.book.proofs.book.Book.promises.Goals as goal
 
@@ -6,4 +6,4 @@ pub returns-clause-run : goal.returns-clause-run
 returns-clause-run g c = rw (← c.self.view_is) (record { run = c.self.invariant.run; agrees = c.self.invariant.agrees; trace = c.self.invariant.trace })
 
 pub returns-clause-headline : goal.returns-clause-headline
-returns-clause-headline g c = rw (← c.self.view_is) (headline_of g.P.Provider.cloud _ c.self.invariant.run c.self.invariant.agrees)
+returns-clause-headline g c = rw (← c.self.view_is) (headline_of g.P.Provider.cloud _ c.self.invariant)

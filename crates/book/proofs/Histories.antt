@@ -1,0 +1,59 @@
+-- The calls of a history that goes on, and the states in which the cloud then is.
+use Rattle.std.proofs.Common.{List, [], append_assoc, inl, inr, refl, subst, sym, ◌++◌, ◌∷◌, ◌≡◌}
+use Rattle.std.specs.Prelude.{Contains}
+use Rattle.heat_plan.specs.declared.calls.Answered.{Answered}
+use Rattle.heat_plan.specs.declared.calls.Request.{Request}
+use Rattle.heat_plan.specs.declared.token.Token.{Token}
+use Rattle.provider.proofs.States.{fold-keeps}
+use Rattle.provider.specs.Cloud.{Cloud, state_of}
+use Rattle.provider.specs.Moves.{Answers}
+use Rattle.core_state.specs.declared.entry.Actor.{Actor}
+use Rattle.core_state.specs.declared.entry.Entry.{Entry}
+use Rattle.core_state.specs.declared.entry.What.{What}
+use Rattle.step_relation.specs.Writes.{entry_of}
+use Rattle.history.specs.Could.{Allows, could_of}
+use Rattle.history.specs.Opening.{Opening, first_of}
+use Rattle.tell_laws.proofs.Silence.{AreUncalling, IsUncalling, could-silent}
+use Rattle.agree_laws.proofs.Called.{could_else, could_here}
+use Rattle.agree_laws.proofs.Tokens.{token_or_not}
+use Rattle.book.specs.Kept.{call_of, calls_of}
+use Rattle.core_state.specs.declared.entry.What.TheVariants as what
+
+pub calls_of-append : (h g : List Entry) → calls_of (h ++ g) ≡ calls_of h ++ calls_of g
+calls_of-append [] g = refl
+calls_of-append (e ∷ h) g = rw (calls_of-append h g) (sym (append_assoc (call_of e.what) (calls_of h) (calls_of g)))
+
+call_of-silent : (w : What) → IsUncalling w → call_of w ≡ []
+call_of-silent (what.Call token asked given) silent = absurd silent
+call_of-silent (what.Command stack trav act plan rollback) silent = refl
+call_of-silent (what.Release token) silent = refl
+call_of-silent (what.Mark stack trav act cause) silent = refl
+call_of-silent (what.Rows writes) silent = refl
+call_of-silent (what.Mail writes) silent = refl
+call_of-silent (what.Engine change) silent = refl
+call_of-silent (what.Show it stack) silent = refl
+call_of-silent (what.Note line code path) silent = refl
+call_of-silent (what.Ran idle turns) silent = refl
+call_of-silent (what.Turned engine lost) silent = refl
+call_of-silent what.Closed silent = refl
+
+pub calls_of-silent : (es : List Entry) → AreUncalling es → calls_of es ≡ []
+calls_of-silent [] h = refl
+calls_of-silent (e ∷ es) h = rw (call_of-silent e.what h.0) (calls_of-silent es h.1)
+
+module _ (o : Opening) (h : List Entry) (c d : Cloud) (allows : Allows (first_of o) h c) where
+  -- entries without a call, and no token's state has changed
+  pub silence_allows : (es : List Entry) → AreUncalling es → ((t : Token) → state_of d t ≡ state_of c t)
+      → Allows (first_of o) (h ++ es) d
+  silence_allows es silent rests t = rw (could-silent o h es t silent, rests t) (allows t)
+
+  -- one call, whose answer the cloud gave
+  pub call_allows : (rest : List Entry) (actor : Actor) (token : Token) (asked : Request) (given : Answered) → AreUncalling rest
+      → Answers token asked given c d
+      → Allows (first_of o) (h ++ entry_of actor (what.Call token asked given) ∷ rest) d
+  call_allows rest actor token asked given silent answers t = elim (token_or_not t token) [
+    | inl is ↦ subst (λ (x : Token). Contains (could_of o (h ++ entry_of actor (what.Call token asked given) ∷ rest) x) (state_of d x)) (sym is)
+        (rw (could_here o h rest actor token asked given silent)
+        (fold-keeps c d token asked given (could_of o h token) answers (allows token)))
+    | inr ne ↦ rw (could_else o h rest actor t token asked given (λ is. ne (sym is)) silent, answers.others t ne) (allows t)
+  ]

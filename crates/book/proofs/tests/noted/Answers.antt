@@ -1,5 +1,0 @@
-use Rattle.core_state.specs.Steps.{shows}
-use Rattle.book.proofs.tests.noted.Goals as goal
-
-pub note-noted-requires : goal.note-noted-requires
-note-noted-requires c = shows _ _
