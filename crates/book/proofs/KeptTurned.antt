@@ -1,20 +1,26 @@
 -- What a book keeps, through a turn.
 use Rattle.std.proofs.Common.{List, [], refl, subst, sym, ℕ, ◌∙◌, ◌∷◌, ◌≡◌}
 use Rattle.heat_plan.specs.declared.calls.Answered.{Answered}
+use Rattle.heat_plan.specs.declared.calls.Request.{Request}
+use Rattle.heat_plan.specs.declared.token.Token.{Token}
 use Rattle.provider.specs.Changes.{IsAsBefore}
 use Rattle.provider.specs.Cloud.{Cloud}
 use Rattle.core_state.specs.State.{StateData}
 use Rattle.core_state.specs.declared.change.Change.{Change}
+use Rattle.core_state.specs.declared.entry.Actor.{Actor}
 use Rattle.core_state.specs.declared.entry.Actor.TheVariants.{Engine}
 use Rattle.core_state.specs.declared.entry.Entry.{Entry}
-use Rattle.step_relation.specs.Given.{Answer}
+use Rattle.step_relation.specs.Given.{Answer, Faulted, Given, Nothing, Prepared}
 use Rattle.step_relation.specs.Rows.{token_of}
 use Rattle.step_relation.specs.Runs as tied
+use Rattle.step_relation.specs.Runs.{IsTied, IsTiedStep}
 use Rattle.step_relation.specs.Steps as step
+use Rattle.step_relation.specs.Steps.{Step}
 use Rattle.step_relation.specs.Turns.{Turn}
-use Rattle.step_relation.specs.Writes.{call_entry}
+use Rattle.step_relation.specs.Writes.{call_entry, entry_of}
 use Rattle.tell_laws.proofs.Silence.{AreUncalling}
-use Rattle.book.specs.Kept.{IsKept}
+use Rattle.core_state.specs.declared.entry.What.TheVariants as what
+use Rattle.book.specs.Kept.{IsKept, unjudged}
 use Rattle.book.specs.Scenes.{Scene}
 use Rattle.book.specs.Turned.{Requests, Turned}
 use Rattle.book.specs.Turned as turned
@@ -32,6 +38,23 @@ rest_silent s e given cs es rest call t is =
     rests : (a b : Entry) (xs ys : List Entry) → a ∷ xs ≡ b ∷ ys → xs ≡ ys
     rests a b xs ys h = cc
 
+-- a step that tells of a call was given nothing that was prepared
+tied_alone : (s : StateData) (actor : Actor) (token : Token) (asked : Request) (given : Answered) (cs : List Change) (es : List Entry) → (it : Step s cs es)
+    → es ≡ entry_of actor (what.Call token asked given) ∷ [] → IsTiedStep unjudged s cs es it
+tied_alone s actor token asked given cs es (step.command it fits) is = tt
+tied_alone s actor token asked given cs es (step.turn e by it fits) is = tied_by by it where
+  tied_by : (by : Given) → Turn s e by cs es → IsTied unjudged s e by
+  tied_by Nothing t = tied.nothing
+  tied_by (Answer a) t = tied.answer a
+  tied_by (Prepared props effect) t = absurd (subst AreUncalling is (turn_silent s e (Prepared props effect) cs es (λ a i. cc) t)).0
+  tied_by (Faulted code path) t = absurd (subst AreUncalling is (turn_silent s e (Faulted code path) cs es (λ a i. cc) t)).0
+tied_alone s actor token asked given cs es (step.unstored e by lost all call it some fits first is_cs is_es) is = tt
+tied_alone s actor token asked given cs es (step.stop e live is_cs is_es) is = tt
+tied_alone s actor token asked given cs es (step.enlist few below is_cs is_es) is = tt
+tied_alone s actor token asked given cs es (step.restart count some few below is_cs is_es) is = tt
+tied_alone s actor token asked given cs es (step.note it noted is_cs is_es) is = tt
+tied_alone s actor token asked given cs es (step.close is_cs is_es) is = tt
+
 module _ (first : StateData) (origin : Cloud) where
   pub kept_turned : (e : ℕ) (old new : Scene) (result : Answer_of_turn) → IsKept first origin old.state old.entries old.cloud
       → Turned e old new result → IsKept first origin new.state new.entries new.cloud
@@ -43,11 +66,10 @@ module _ (first : StateData) (origin : Cloud) where
       (step.turn e (Answer given) t lasts) (tied.answer given) entries
       (rest_silent old.state e given cs es rest (call_entry e k.calls.row k.asked given) t entries)
       makes.state makes.entries told.answers told.trace
-  kept_turned e old new result kept (turned.unstored k given lost es rest is t some lasts entries makes told) =
+  kept_turned e old new result kept (turned.unstored k given is size alone makes told) =
       grows_by_call first origin _ _ _ _ (call_entry e k.calls.row k.asked given ∷ []) [] [] _ _ (Engine e) (token_of k.calls.row) k.asked given kept
-      (step.unstored e given lost es (call_entry e k.calls.row k.asked given) t some lasts
-      (record { rest = rest; entries = entries; is_call = (token_of k.calls.row, k.asked, given, refl) }) refl refl)
-      tt refl tt makes.state makes.entries told.answers told.trace
+      alone (tied_alone old.state (Engine e) (token_of k.calls.row) k.asked given [] _ alone refl)
+      refl tt makes.state makes.entries told.answers told.trace
   kept_turned e old new result kept (turned.unmade is same) = stays first origin _ _ _ _ _ _ kept same.state same.entries same.cloud
   kept_turned e old new result kept (turned.idle is none same) = stays first origin _ _ _ _ _ _ kept same.state same.entries same.cloud
   kept_turned e old new result kept (turned.lost is none same) = stays first origin _ _ _ _ _ _ kept same.state same.entries same.cloud

@@ -1,4 +1,4 @@
-pub mod Engines
+pub mod Numbers
 pub mod Listed
 pub mod Histories
 pub mod Growing
@@ -7,3 +7,8 @@ pub mod Conditions
 pub mod Telling
 pub mod Tolds
 pub mod KeptTurned
+pub mod QuietTurns
+pub mod Calling
+pub mod Engined
+pub mod Doing
+pub mod Beginnings

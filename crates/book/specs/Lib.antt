@@ -2,6 +2,10 @@ pub mod Kept
 pub mod Openings
 pub mod Quiet
 pub mod Scenes
+pub mod SoundOver
 pub mod Requests
 pub mod Turned
 pub mod Makings
+pub mod Outcomes
+pub mod Learning
+pub mod Commands

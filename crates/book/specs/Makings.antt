@@ -12,6 +12,8 @@ use Rattle.step_relation.specs.Turns.{Turn, WearsOut}
 use Rattle.book.specs.Kept.{unjudged}
 use Rattle.book.specs.Quiet.{Page, Writes}
 use Rattle.book.specs.Turned.{IsQuiet, IsWornBy}
+use Rattle.book.specs.declared.turning.Turn.TheVariants as turn
+use Rattle.book.specs.declared.turning.Turn.{Turn as Turn_answer}
 
 -- the step was made; or it was refused, or there was no memory for it, and nothing has changed
 pub data MadeAs (made : Result Made Refusal) (old new : Page) (result : Result (Unit {0}) Refusal) : Type 0 where
@@ -39,3 +41,10 @@ pub record IsQuietTurn (s : StateData) (e : ℕ) (made : Made) : Type 0 where
 pub data IsQuietRefusal (s : StateData) (e : ℕ) (r : Refusal) : Type 0 where
   memory : r ≡ refusal.Memory → IsQuietRefusal s e r
   worn : r ≡ refusal.Worn → IsWornBy s e → IsQuietRefusal s e r
+
+-- a step that asks nobody was made, or nothing was
+pub data MadeQuietly (made : Result Made Refusal) (old new : Page) (result : Turn_answer) : Type 0 where
+  stepped : (m : Made) → made ≡ Ok m → Writes m.changes m.entries old new → result ≡ turn.Stepped
+      → MadeQuietly made old new result
+  worn : made ≡ Err refusal.Worn → new ≡ old → result ≡ turn.Worn → MadeQuietly made old new result
+  unmade : new ≡ old → result ≡ turn.Memory → MadeQuietly made old new result

@@ -11,8 +11,10 @@ use Rattle.step_relation.specs.Given.{Answer, Given}
 use Rattle.step_relation.specs.Nexts.{IsIdle, IsLost}
 use Rattle.step_relation.specs.Rows.{token_of}
 use Rattle.step_relation.specs.Runs.{IsTied}
+use Rattle.step_relation.specs.Steps.{Step}
 use Rattle.step_relation.specs.Turns.{Turn, WearsOut}
 use Rattle.step_relation.specs.Writes.{call_entry}
+use Rattle.step_ends.specs.Lost.{IsOfUnknownSize}
 use Rattle.work_laws.specs.Found.{IsAskedAt}
 use Rattle.book.specs.Kept.{unjudged}
 use Rattle.book.specs.Scenes.{IsUnmade, Makes, Scene, Told}
@@ -48,9 +50,8 @@ pub data Turned (e : ℕ) (old new : Scene) (result : Answered_turn) : Type 0 wh
       → es ≡ call_entry e k.calls.row k.asked given ∷ rest
       → Makes cs es old new → Told (token_of k.calls.row) k.asked given old.cloud new.cloud → Turned e old new result
   -- what the answer would have stored found no memory: the call alone is told
-  unstored : (k : Requests old.state e) (given : Answered) (lost : List Change) (es rest : List Entry) → result ≡ turned.Memory
-      → Turn old.state e (Answer given) lost es → lost ≢ [] → ¬ WearsOut old.state e (Answer given)
-      → es ≡ call_entry e k.calls.row k.asked given ∷ rest
+  unstored : (k : Requests old.state e) (given : Answered) → result ≡ turned.Memory → IsOfUnknownSize given
+      → Step old.state [] (call_entry e k.calls.row k.asked given ∷ [])
       → Makes [] (call_entry e k.calls.row k.asked given ∷ []) old new
       → Told (token_of k.calls.row) k.asked given old.cloud new.cloud → Turned e old new result
   unmade : result ≡ turned.Memory → IsUnmade old new → Turned e old new result

@@ -1,17 +1,27 @@
 //! The book: what it shows, and its calls.
-ghost use Rattle.std.specs.Prelude.{◌≡◌, ◌++◌, ◌∷◌, ◌↔◌, ◌-◌, ◌^◌, ◌≤◌, [], min, IsTrue, OnOk, OnErr};
+ghost use Rattle.std.specs.Prelude.{◌≡◌, ◌++◌, ◌∷◌, ◌↔◌, ◌-◌, ◌^◌, ◌≤◌, ◌<◌, [], ℕ, Bool, List, min, IsTrue, OnOk, OnErr, Contains};
+ghost use Rattle.heat_plan.specs.Plans.{PlanData};
 ghost use Rattle.heat_plan.specs.declared.token.Token.{Token as token_type};
 ghost use Rattle.core_state.specs.declared.entry.Actor.TheVariants.{Main};
+ghost use Rattle.step_relation.specs.Refusals.{RefusesCancel, RefusesCreate, RefusesDelete, RefusesEnlist, RefusesStop, RefusesUpdate};
 ghost use Rattle.step_relation.specs.Steps.{IsNote};
+ghost use Rattle.command_steps.specs.Answers.{Cancels, Creates, Deletes, Updates};
+ghost use Rattle.takeover_steps.specs.Engines.{Enlists, Stops};
 ghost use Rattle.provider.specs.Calls.{ListsNone};
 ghost use Rattle.provider.specs.Changes.{IsAsBefore};
 ghost use Rattle.book.specs.Kept.{Shown, IsKept, IsSameBook, HasRun, HasHeadline};
 ghost use Rattle.book.specs.Openings.{HasOpened, HasStranger};
-ghost use Rattle.book.specs.Quiet.{IsIdle, number_of};
+ghost use Rattle.book.specs.Makings.{Does};
+ghost use Rattle.book.specs.Quiet.{IsIdle, number_of, page};
+ghost use Rattle.book.specs.Scenes.{scene_of};
+ghost use Rattle.book.specs.Turned.{Turned};
 
+use crate::commanding::{StackCommand, make_order};
+use crate::engines::{make_enlisting, make_stop};
 use crate::opening::{Opened, opening_of};
+use crate::turning::{Turn, turn_of};
 use core_state::{Actor, Entry, Next, Roomed, State, What};
-use heat_plan::{EngineNo, StackName, StackNo, WORN};
+use heat_plan::{EngineNo, Refusal, StackName, StackNo, TravNo, WORN};
 use heat_value::Seq;
 use provider::{Alive, Listed, Provider};
 use std::alloc::{AllocError, Global};
@@ -90,6 +100,68 @@ impl<P: Provider> Book<P> {
         }
     }
 
+    /// One turn of an engine whose number was drawn: at most one request is made.
+    pub fn turn(&mut self, e: EngineNo) -> Turn
+        requires { e < self.old.state.next.engine }
+        ensures turned { Turned e (scene_of P.cloud self.old) (scene_of P.cloud self.new) result }
+        ensures live { self.new.state.live ≡ self.old.state.live }
+        ensures same { IsSameBook self.old self.new }
+    {
+        turn_of(
+            self.alloc,
+            &mut self.state,
+            &mut self.entries,
+            &mut self.cloud,
+            e,
+        )
+    }
+
+    /// A command on a stack, by the reader of commands. Gives the traversal that was drawn.
+    pub fn command(&mut self, c: StackCommand) -> Result<TravNo, Refusal>
+        ensures created { (name : List ℕ) (plan : PlanData) (rollback : Bool) → c ≡ StackCommand.Create name plan rollback
+            → Does (Creates self.old.state name plan rollback) (RefusesCreate self.old.state name plan rollback)
+            self.old.state.next.trav
+            (page self.old.state self.old.entries) (page self.new.state self.new.entries) result }
+        ensures updated { (name : List ℕ) (plan : PlanData) (rollback : Bool) → c ≡ StackCommand.Update name plan rollback
+            → Does (Updates self.old.state name plan rollback) (RefusesUpdate self.old.state name plan rollback)
+            self.old.state.next.trav
+            (page self.old.state self.old.entries) (page self.new.state self.new.entries) result }
+        ensures deleted { (name : List ℕ) → c ≡ StackCommand.Delete name
+            → Does (Deletes self.old.state name) (RefusesDelete self.old.state name)
+            self.old.state.next.trav
+            (page self.old.state self.old.entries) (page self.new.state self.new.entries) result }
+        ensures cancelled { (name : List ℕ) → c ≡ StackCommand.Cancel name
+            → Does (Cancels self.old.state name) (RefusesCancel self.old.state name)
+            self.old.state.next.trav
+            (page self.old.state self.old.entries) (page self.new.state self.new.entries) result }
+        ensures live { self.new.state.live ≡ self.old.state.live }
+        ensures cloud { self.new.cloud ≡ self.old.cloud }
+        ensures same { IsSameBook self.old self.new }
+    {
+        make_order(self.alloc, &mut self.state, &mut self.entries, c)
+    }
+
+    /// Stops an engine; its job stays, for others to take over.
+    pub fn stop(&mut self, e: EngineNo) -> Result<(), Refusal>
+        ensures stopped { Does (Stops self.old.state e) (RefusesStop self.old.state e) tt
+            (page self.old.state self.old.entries) (page self.new.state self.new.entries) result }
+        ensures cloud { self.new.cloud ≡ self.old.cloud }
+        ensures same { IsSameBook self.old self.new }
+    {
+        make_stop(self.alloc, &mut self.state, &mut self.entries, e)
+    }
+
+    /// Enlists an engine. Gives its number.
+    pub fn enlist(&mut self) -> Result<EngineNo, Refusal>
+        ensures enlisted { Does (Enlists self.old.state) (RefusesEnlist self.old.state)
+            self.old.state.next.engine
+            (page self.old.state self.old.entries) (page self.new.state self.new.entries) result }
+        ensures cloud { self.new.cloud ≡ self.old.cloud }
+        ensures same { IsSameBook self.old self.new }
+    {
+        make_enlisting(self.alloc, &mut self.state, &mut self.entries)
+    }
+
     /// Adds what a line shows, a refusal, or how a run ended.
     pub fn note(&mut self, what: What) -> Result<(), AllocError>
         requires { IsNote what }
@@ -140,7 +212,8 @@ impl<P: Provider> Book<P> {
 
     /// The live engines, by rising number.
     pub fn live(&self) -> &[EngineNo]
-        ensures { result.now ≡ self.now.state.live }
+        ensures value { result.now ≡ self.now.state.live }
+        ensures drawn { (e : ℕ) → Contains result.now e → e < self.now.state.next.engine }
     {
         self.state.live()
     }

@@ -3,12 +3,23 @@
 //! run from an empty opening, and that the cloud is in a state which that history allows.
 #![tactic(auto)]
 
+mod answers;
+mod ask;
+mod beginning;
 mod book;
+mod called;
+mod commanding;
+mod engines;
+mod look;
 mod making;
 mod opening;
+mod poll;
 mod requests;
+#[cfg(test)]
+mod tests;
 mod turning;
 
 pub use book::Book;
+pub use commanding::StackCommand;
 pub use opening::Opened;
 pub use turning::Turn;

@@ -1,5 +1,5 @@
 use Rattle.std.proofs.Common.{arith}
-use Rattle.book.proofs.Engines.{enlisted}
+use Rattle.book.proofs.Numbers.{enlisted}
 use Rattle.book.proofs.opening.opening_of.Goals as goal
 
 pub loop-drawn-preserved : goal.loop-drawn-preserved

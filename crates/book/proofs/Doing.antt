@@ -1,0 +1,179 @@
+-- A command, a stop or an enlisting: what it makes, and what the book keeps through it.
+use Rattle.std.proofs.Common.{List, [], ap, arith, inl, inr, refl, subst, sym, ℕ, ◌∙◌, ◌∷◌, ◌≡◌, ◌⊎◌}
+use Rattle.std.specs.Prelude.{Contains, Err, IfErr, IfOk, Ok, Result, ◌+◌, ◌<◌, ◌^◌, ◌≤◌}
+use Rattle.heat_plan.specs.declared.refusal.Refusal.{Refusal}
+use Rattle.heat_plan.specs.declared.refusal.Refusal.TheVariants.{Memory}
+use Rattle.provider.proofs.Lists.{here}
+use Rattle.provider.specs.Cloud.{Cloud}
+use Rattle.core_state.specs.State.{StateData}
+use Rattle.core_state.specs.declared.change.Change.{Change}
+use Rattle.core_state.specs.declared.change.Change.TheVariants as change_to
+use Rattle.core_state.specs.declared.entry.Entry.{Entry}
+use Rattle.core_state.specs.declared.made.Made.{Made}
+use Rattle.core_state.specs.declared.numbers.Numbers.{Numbers}
+use Rattle.step_relation.specs.Orders.{Command}
+use Rattle.step_relation.specs.Orders as orders
+use Rattle.step_relation.specs.Runs.{IsTiedStep}
+use Rattle.step_relation.specs.Steps.{Step}
+use Rattle.step_relation.specs.Steps as step
+use Rattle.step_relation.specs.Turns.{IsWorn, trav}
+use Rattle.tell_laws.proofs.Silence.{AreUncalling}
+use Rattle.agree_laws.proofs.Laid.{laid_uncalling}
+use Rattle.takeover_steps.specs.Engines.{Enlists, Stops}
+use Rattle.book.specs.Commands.{IsOrder, Orders, RefusesOrder}
+use Rattle.book.specs.Kept.{IsKept, unjudged}
+use Rattle.book.specs.Makings.{Does, MadeAs, done, memory, refused}
+use Rattle.book.specs.Makings as made_as
+use Rattle.book.specs.Quiet.{Page, page}
+use Rattle.book.specs.declared.commanding.StackCommand.TheVariants.{Cancel, Create, Delete, Update}
+use Rattle.book.specs.declared.commanding.StackCommand.{StackCommand}
+use Rattle.book.proofs.Engined.{AreStill, applied-live, laid_still}
+use Rattle.book.proofs.Growing.{grows_silently, stays, unasked}
+
+-- a step that was thought out, as one that was made or refused
+pub does_of : {A : Type 0} (Is : List Change → List Entry → Type 0) (Refuses : Refusal → Type 0) (answer : A) (made : Result Made Refusal)
+    (old new : Page) (first : Result (Unit {0}) Refusal) (result : Result A Refusal)
+    → IfOk made (λ m. Is m.changes m.entries) → IfErr made (λ r. (r ≡ Memory) ⊎ Refuses r) → MadeAs made old new first
+    → (first ≡ Ok tt → result ≡ Ok answer) → ((r : Refusal) → first ≡ Err r → result ≡ Err r) → Does Is Refuses answer old new result
+does_of Is Refuses answer made old new first result ok err (made_as.done m is writes ends) yes_ no_ =
+    done m.changes m.entries (subst (λ (r : Result Made Refusal). IfOk r (λ m. Is m.changes m.entries)) is ok) writes (yes_ ends)
+does_of Is Refuses answer made old new first result ok err (made_as.refused r is same ends) yes_ no_ =
+    by (subst (λ (x : Result Made Refusal). IfErr x (λ r. (r ≡ Memory) ⊎ Refuses r)) is err)
+  where
+    by : (r ≡ Memory) ⊎ Refuses r → Does Is Refuses answer old new result
+    by (inl want) = memory same (no_ r ends ∙ ap Err want)
+    by (inr why) = refused r why same (no_ r ends)
+does_of Is Refuses answer made old new first result ok err (made_as.memory same ends) yes_ no_ = memory same (no_ Memory ends)
+
+-- a step that calls nobody
+pub record IsSilentStep (s : StateData) (cs : List Change) (es : List Entry) : Type 0 where
+  pub it : Step s cs es
+  pub tied : IsTiedStep unjudged s cs es it
+  pub silent : AreUncalling es
+
+pub stop_step : (s : StateData) (e : ℕ) (cs : List Change) (es : List Entry) → Stops s e cs es → IsSilentStep s cs es
+stop_step s e cs es k = record {
+  it = step.stop e k.live k.changes k.entries;
+  tied = tt;
+  silent = subst AreUncalling (sym k.entries) (tt, tt);
+}
+
+pub enlist_step : (s : StateData) (cs : List Change) (es : List Entry) → Enlists s cs es → IsSilentStep s cs es
+enlist_step s cs es k = record {
+  it = step.enlist k.few k.below k.changes k.entries;
+  tied = tt;
+  silent = subst AreUncalling (sym k.entries) (tt, tt);
+}
+
+command_silent : (s : StateData) (cs : List Change) (es : List Entry) → Command s cs es → AreUncalling es
+command_silent s cs es (orders.create name plan rollback k proper absent few room c d) = subst AreUncalling (sym d) (laid_uncalling s _ _ _ k)
+command_silent s cs es (orders.update st plan rollback k proper found kept room c d) = subst AreUncalling (sym d) (laid_uncalling s _ _ _ k)
+command_silent s cs es (orders.delete st k found c d) = subst AreUncalling (sym d) (laid_uncalling s _ _ _ k)
+command_silent s cs es (orders.cancel st k found forward running room c d) = subst AreUncalling (sym d) (laid_uncalling s _ _ _ k)
+
+pub order_step : (s : StateData) (c : StackCommand) (cs : List Change) (es : List Entry) → Orders s c cs es → IsSilentStep s cs es
+order_step s c cs es k = record {
+  it = step.command k.command k.lasts;
+  tied = tt;
+  silent = command_silent s cs es k.command;
+}
+
+module _ (first : StateData) (origin : Cloud) where
+  -- what a book keeps, through such a step or a refusal
+  pub kept_done : {A : Type 0} (s t : StateData) (h i : List Entry) (c : Cloud) (Is : List Change → List Entry → Type 0) (Refuses : Refusal → Type 0)
+      (answer : A) (result : Result A Refusal) → IsKept first origin s h c → ((cs : List Change) (es : List Entry) → Is cs es → IsSilentStep s cs es)
+      → Does Is Refuses answer (page s h) (page t i) result → IsKept first origin t i c
+  kept_done s t h i c Is Refuses answer result kept steps (done cs es is writes ends) =
+      let k = steps cs es is in
+      grows_silently first origin s t h i es cs c c kept k.it k.tied k.silent writes.state writes.entries (unasked c)
+  kept_done s t h i c Is Refuses answer result kept steps (refused r why same ends) =
+      stays first origin s t h i c c kept (ap (λ (p : Page). p.state) same) (ap (λ (p : Page). p.entries) same) (unasked c)
+  kept_done s t h i c Is Refuses answer result kept steps (memory same ends) =
+      stays first origin s t h i c c kept (ap (λ (p : Page). p.state) same) (ap (λ (p : Page). p.entries) same) (unasked c)
+
+-- the same said in other words
+pub does_weaker : {A : Type 0} (Is Other : List Change → List Entry → Type 0) (Refuses Why : Refusal → Type 0) (answer : A) (old new : Page) (result : Result A Refusal)
+    → ((cs : List Change) (es : List Entry) → Is cs es → Other cs es) → ((r : Refusal) → Refuses r → Why r)
+    → Does Is Refuses answer old new result → Does Other Why answer old new result
+does_weaker Is Other Refuses Why answer old new result step why (done cs es is writes ends) = done cs es (step cs es is) writes ends
+does_weaker Is Other Refuses Why answer old new result step why (refused r is same ends) = refused r (why r is) same ends
+does_weaker Is Other Refuses Why answer old new result step why (memory same ends) = memory same ends
+
+-- which case of a command it was
+pub ordered_as : (s : StateData) (c d : StackCommand) (answer : ℕ) (old new : Page) (result : Result ℕ Refusal) → c ≡ d
+    → Does (Orders s c) (RefusesOrder s c) answer old new result → Does (IsOrder s d) (RefusesOrder s d) answer old new result
+ordered_as s c d answer old new result is h =
+    does_weaker (Orders s d) (IsOrder s d) (RefusesOrder s d) (RefusesOrder s d) answer old new result (λ cs es k. k.its) (λ r k. k)
+    (subst (λ (x : StackCommand). Does (Orders s x) (RefusesOrder s x) answer old new result) is h)
+
+command_still : (s : StateData) (cs : List Change) (es : List Entry) → Command s cs es → AreStill cs
+command_still s cs es (orders.create name plan rollback k proper absent few room c d) = subst AreStill (sym c) (laid_still s _ _ _ k)
+command_still s cs es (orders.update st plan rollback k proper found kept room c d) = subst AreStill (sym c) (laid_still s _ _ _ k)
+command_still s cs es (orders.delete st k found c d) = subst AreStill (sym c) (laid_still s _ _ _ k)
+command_still s cs es (orders.cancel st k found forward running room c d) = subst AreStill (sym c) (laid_still s _ _ _ k)
+
+-- no command changes which engines are live
+pub ordered_live : (s t : StateData) (h i : List Entry) (c : StackCommand) (answer : ℕ) (result : Result ℕ Refusal)
+    → Does (Orders s c) (RefusesOrder s c) answer (page s h) (page t i) result → t.live ≡ s.live
+ordered_live s t h i c answer result (done cs es is writes ends) =
+    ap (λ (x : StateData). x.live) writes.state ∙ applied-live cs s (command_still s cs es is.command)
+ordered_live s t h i c answer result (refused r why same ends) = ap (λ (p : Page). p.state.live) same
+ordered_live s t h i c answer result (memory same ends) = ap (λ (p : Page). p.state.live) same
+
+-- what each command makes wears nothing out
+unworn_order : (s : StateData) (c : StackCommand) (cs : List Change) (es : List Entry) → IsOrder s c cs es → ¬ IsWorn cs
+unworn_order s (Create name plan rollback) cs es k = k.laying.unworn
+unworn_order s (Update name plan rollback) cs es k = k.laying.unworn
+unworn_order s (Delete name) cs es k = k.laying.unworn
+unworn_order s (Cancel name) cs es k = k.laying.unworn
+
+-- a command's case, as that of the command that was given
+pub ordered : (s : StateData) (c d : StackCommand) (made : Result Made Refusal) → c ≡ d → IfOk made (λ m. IsOrder s d m.changes m.entries)
+    → IfOk made (λ m. Command s m.changes m.entries) → IfOk made (λ m. Orders s c m.changes m.entries)
+ordered s c d (Ok m) is its command = record {
+  its = subst (λ (x : StackCommand). IsOrder s x m.changes m.entries) (sym is) its;
+  command = command;
+  lasts = unworn_order s d m.changes m.entries its;
+}
+ordered s c d (Err r) is its command = tt
+
+pub refuses : (s : StateData) (c d : StackCommand) (made : Result Made Refusal) → c ≡ d → IfErr made (λ r. (r ≡ Memory) ⊎ RefusesOrder s d r)
+    → IfErr made (λ r. (r ≡ Memory) ⊎ RefusesOrder s c r)
+refuses s c d made is err = subst (λ (x : StackCommand). IfErr made (λ r. (r ≡ Memory) ⊎ RefusesOrder s x r)) (sym is) err
+
+-- the traversal that it draws is below 2^62
+pub drawn_below : (s : StateData) (c : StackCommand) (cs : List Change) (es : List Entry) → Orders s c cs es → s.next.trav < 2 ^ 62
+drawn_below s c cs es k = by k.command where
+  first : (next : Numbers) (rest : List Change) → cs ≡ change_to.Numbers next ∷ rest → next.trav ≡ s.next.trav + 1 → s.next.trav < 2 ^ 62
+  first next rest is drawn = below s.next.trav next.trav drawn (λ over. k.lasts (record {
+    change = change_to.Numbers next;
+    among = subst (λ (xs : List Change). Contains xs (change_to.Numbers next)) (sym is) (here (change_to.Numbers next) (change_to.Numbers next) rest refl);
+    overflows = trav next over;
+  })) where
+    below : (a b : ℕ) → b ≡ a + 1 → ¬ (2 ^ 62 < b) → a < 2 ^ 62
+    below a b is_b most = omega (arith, is_b, most)
+
+  by : Command s cs es → s.next.trav < 2 ^ 62
+  by (orders.create name plan rollback q proper absent few room c_ d) = first _ _ c_ refl
+  by (orders.update st plan rollback q proper found kept room c_ d) = first _ _ c_ refl
+  by (orders.delete st q found c_ d) = first _ _ c_ refl
+  by (orders.cancel st q found forward running room c_ d) = first _ _ c_ refl
+
+-- a step that was made was one that could be
+pub made_below : (Is : List Change → List Entry → Type 0) (bound : Type 0) (made : Result Made Refusal) (old new : Page) (first : Result (Unit {0}) Refusal)
+    → ((cs : List Change) (es : List Entry) → Is cs es → bound) → IfOk made (λ m. Is m.changes m.entries) → MadeAs made old new first → first ≡ Ok tt → bound
+made_below Is bound made old new first low ok (made_as.done m is writes ends) yes_ =
+    low m.changes m.entries (subst (λ (r : Result Made Refusal). IfOk r (λ m. Is m.changes m.entries)) is ok)
+made_below Is bound made old new first low ok (made_as.refused r is same ends) yes_ = cc
+made_below Is bound made old new first low ok (made_as.memory same ends) yes_ = cc
+
+-- an answer is one of the two
+pub not_both : {A E : Type 0} (x : Result A E) (a : A) (r : E) → x ≡ Ok a → x ≡ Err r → ⊥
+not_both x a r yes_ no_ = cc
+
+pub same_refusal : {A : Type 0} (x : Result A Refusal) (a b : Refusal) → x ≡ Err a → x ≡ Err b → a ≡ b
+same_refusal x a b h i = cc
+
+-- a number in range is one
+pub no_number : (got next : ℕ) → got ≡ next → 0 < next → next < 2 ^ 62 → ((1 ≤ got) × (got < 2 ^ 62) → ⊥) → ⊥
+no_number got next is some below none = none (omega (arith, is, some), omega (arith, is, below))

@@ -1,0 +1,25 @@
+-- The history is that of a run, whose laws say that the turn finds what it needs.
+use Rattle.std.proofs.Common.{subst, sym}
+use Rattle.std.specs.Prelude.{◌<◌}
+use Rattle.soundness.specs.Laws.{opening_at}
+use Rattle.book.specs.Kept.{Shown}
+use Rattle.book.proofs.Engined.{turned_live}
+use Rattle.book.proofs.Headlines.{sound}
+use Rattle.book.proofs.KeptTurned.{kept_turned}
+use Rattle.book.proofs.book.Book.turn.Goals as goal
+
+pub turn_of-requires-clause-drawn : goal.turn_of-requires-clause-drawn
+turn_of-requires-clause-drawn g c = subst (λ (b : Shown g.row.P.Denot). c.args.e < b.state.next.engine) (sym c.self.view_is) c.requires
+
+pub turn_of-requires-clause-sound : goal.turn_of-requires-clause-sound
+turn_of-requires-clause-sound g c = record {
+  opening = opening_at c.self.inside.opening.state (g.P.Provider.cloud c.self.inside.origin.value);
+  sound = sound _ _ _ _ _ c.self.invariant;
+  shows = c.self.invariant.agrees;
+}
+
+pub invariant_of-self : goal.invariant_of-self
+invariant_of-self g c = kept_turned _ _ c.args.e _ _ _ c.self.invariant c.turn_of.ensures
+
+pub returns-clause-live : goal.returns-clause-live
+returns-clause-live g c = rw (← c.self.view_is) (turned_live c.args.e _ _ _ c.turn_of.ensures)

@@ -1,0 +1,193 @@
+//! An engine's poll. The steps of answers whose size is known are made before the cloud is asked. Where
+//! facts or a code come and there is no memory to store them, the call alone is told.
+ghost use Rattle.std.specs.Prelude.{◌≡◌, ◌≢◌, ◌<◌, ◌≤◌, OnErr, OnOk, IfOk, IfErr};
+ghost use Rattle.heat_plan.specs.declared.phase.Act.TheVariants.{Delete};
+ghost use Rattle.heat_plan.specs.declared.calls.Answered.TheVariants as answers;
+ghost use Rattle.mail_table.specs.declared.mail.Stage.TheVariants.{Polling};
+ghost use Rattle.core_state.specs.declared.made.Made.{Made as made_type};
+ghost use Rattle.step_relation.specs.Asks.{Calls};
+ghost use Rattle.step_relation.specs.Rows.{token_of};
+ghost use Rattle.step_ends.specs.Lost.{IsOfUnknownSize};
+ghost use Rattle.book.specs.Learning.{HasLearned, IsStored};
+ghost use Rattle.book.specs.Makings.{IsQuietRefusal};
+ghost use Rattle.book.specs.Outcomes.{PollIsMade, PollHasRoom, IsAnswered};
+ghost use Rattle.book.specs.Quiet.{page};
+ghost use Rattle.book.specs.Scenes.{scene};
+ghost use Rattle.book.specs.SoundOver.{IsSoundOver};
+ghost use Rattle.book.specs.Turned.{Turned};
+
+use crate::answers::poll_answered;
+use crate::called::{called_row, is_sent_away};
+use crate::look::look_for;
+use crate::making::{make, make_room, make_within};
+use crate::requests::poll;
+use crate::turning::Turn;
+use core_state::{Actor, Entry, Made, Roomed, State, What};
+use heat_plan::{Answered, EngineNo, Refusal, Request, Token};
+use provider::{Poll, Provider};
+use std::alloc::Global;
+use step_ends::a_lost_answer_is_a_step;
+use step_parts::token_of;
+
+/// The row's token, and the step for each answer whose size is known.
+#[derive(Debug, Drop)]
+pub(crate) struct PollOutcomes {
+    pub token: Token,
+    pub not_yet: Made,
+    pub failed: Made,
+}
+
+/// Polls the resource of an engine's job, or asks whether it is gone where it was sent away, and makes the
+/// step of the answer.
+pub(crate) fn poll_for<P: Provider>(
+    alloc: Global,
+    state: &mut State,
+    entries: &mut Roomed<Entry>,
+    cloud: &mut P,
+    e: EngineNo,
+) -> Turn
+    requires calls { Calls state.old.state e Polling }
+    requires sound { IsSoundOver state.old.state entries.old.items (P.cloud cloud.old) }
+    ensures { Turned e
+        (scene state.old.state entries.old.items (P.cloud cloud.old))
+        (scene state.new.state entries.new.items (P.cloud cloud.new)) result }
+{
+    if is_sent_away(called_row(state, e)) {
+        return look_for(alloc, state, entries, cloud, e);
+    }
+    match prepare(alloc, state, entries, e) {
+        Ok(outcomes) => poll_prepared(alloc, state, entries, cloud, e, outcomes),
+        Err(Refusal::Worn) => Turn::Worn,
+        Err(_) => Turn::Memory,
+    }
+}
+
+// The steps of the answers whose size is known, and room for each of them.
+fn prepare(
+    alloc: Global,
+    state: &mut State,
+    entries: &mut Roomed<Entry>,
+    e: EngineNo,
+) -> Result<PollOutcomes, Refusal>
+    requires calls { Calls state.old.state e Polling }
+    ensures state { state.new.state ≡ state.old.state }
+    ensures entries { entries.new.items ≡ entries.old.items }
+    ensures made { IfOk result (PollIsMade state.old.state e) }
+    ensures room { IfOk result (PollHasRoom state.new.spare entries.new.spare) }
+    ensures cause { IfErr result (IsQuietRefusal state.old.state e) }
+{
+    let outcomes = outcomes_of(alloc, state, e)?;
+    make_room(state, entries, &outcomes.not_yet)?;
+    make_room(state, entries, &outcomes.failed)?;
+    Ok(outcomes)
+}
+
+// The token, and the step of each answer whose size is known.
+fn outcomes_of(alloc: Global, state: &State, e: EngineNo) -> Result<PollOutcomes, Refusal>
+    requires calls { Calls state.now.state e Polling }
+    ensures made { IfOk result (PollIsMade state.now.state e) }
+    ensures cause { IfErr result (IsQuietRefusal state.now.state e) }
+{
+    Ok(PollOutcomes {
+        token: token_of(called_row(state, e))?,
+        not_yet: poll_answered(alloc, state, e, &Answered::NotYet)?,
+        failed: poll_answered(alloc, state, e, &Answered::Failed)?,
+    })
+}
+
+// Polls, and makes the step of the answer.
+fn poll_prepared<P: Provider>(
+    alloc: Global,
+    state: &mut State,
+    entries: &mut Roomed<Entry>,
+    cloud: &mut P,
+    e: EngineNo,
+    outcomes: PollOutcomes,
+) -> Turn
+    requires calls { Calls state.old.state e Polling }
+    requires stays { (k : Calls state.old.state e Polling) → k.row.act ≢ Delete }
+    requires sound { IsSoundOver state.old.state entries.old.items (P.cloud cloud.old) }
+    requires made { PollIsMade state.old.state e outcomes }
+    requires room { PollHasRoom state.old.spare entries.old.spare outcomes }
+    ensures { Turned e
+        (scene state.old.state entries.old.items (P.cloud cloud.old))
+        (scene state.new.state entries.new.items (P.cloud cloud.new)) result }
+{
+    match poll(cloud, &outcomes.token) {
+        Poll::NotYet => {
+            make_within(state, entries, outcomes.not_yet);
+            Turn::Stepped
+        }
+        Poll::Failed => {
+            make_within(state, entries, outcomes.failed);
+            Turn::Stepped
+        }
+        Poll::Ready(facts) => {
+            let answer = Answered::Ready(facts);
+            learn(alloc, state, entries, e, outcomes.token, answer)
+        }
+        Poll::Broken(code) => {
+            let answer = Answered::Broken(code);
+            learn(alloc, state, entries, e, outcomes.token, answer)
+        }
+        Poll::Memory => Turn::Memory,
+    }
+}
+
+// Stores what a poll told; where there is no memory for it, tells the call alone.
+fn learn(
+    alloc: Global,
+    state: &mut State,
+    entries: &mut Roomed<Entry>,
+    e: EngineNo,
+    token: Token,
+    answer: Answered,
+) -> Turn
+    requires calls { Calls state.old.state e Polling }
+    requires stays { (k : Calls state.old.state e Polling) → k.row.act ≢ Delete }
+    requires token { (k : Calls state.old.state e Polling) → token ≡ token_of k.row }
+    requires failed { (m : made_type) × IsAnswered state.old.state e answers.Failed m }
+    requires size { IsOfUnknownSize answer }
+    requires page { 0 < entries.old.spare }
+    ensures { HasLearned e answer
+        (page state.old.state entries.old.items) (page state.new.state entries.new.items) result }
+{
+    a_lost_answer_is_a_step();
+    match store(alloc, state, entries, e, &answer) {
+        Ok(()) => Turn::Stepped,
+        Err(_) => {
+            let what = What::Call {
+                token,
+                request: Request::Poll,
+                answer,
+            };
+            entries.push(Entry {
+                by: Actor::Engine(e),
+                what,
+            });
+            Turn::Memory
+        }
+    }
+}
+
+// Stores what a poll told; for want of memory all stays as it was.
+fn store(
+    alloc: Global,
+    state: &mut State,
+    entries: &mut Roomed<Entry>,
+    e: EngineNo,
+    answer: &Answered,
+) -> Result<(), Refusal>
+    requires calls { Calls state.old.state e Polling }
+    requires stays { (k : Calls state.old.state e Polling) → k.row.act ≢ Delete }
+    requires size { IsOfUnknownSize answer.now }
+    ensures stored { OnOk result (IsStored e answer.now
+        (page state.old.state entries.old.items) (page state.new.state entries.new.items)) }
+    ensures same { OnErr result (state.new.state ≡ state.old.state) }
+    ensures silent { OnErr result (entries.new.items ≡ entries.old.items) }
+    ensures page { OnErr result (entries.old.spare ≤ entries.new.spare) }
+{
+    let made = poll_answered(alloc, state, e, answer)?;
+    make(state, entries, made)?;
+    Ok(())
+}
