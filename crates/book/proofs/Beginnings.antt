@@ -26,8 +26,10 @@ pub quiet_prepared : (p : Prepared) → IsQuiet (given_of p)
 quiet_prepared (Props props effect) a is = cc
 quiet_prepared (Fault code path) a is = cc
 
-module _ (s : StateData) (x : Standing s) (e : ℕ) (j : Job) (works : Works s e j Taken) (stack : Stack) (graph : Graph) where
-  at_serves : (name : List ℕ) (chosen : ℕ) (row : Option Row) → Names s j.letter stack graph (U name chosen) → row_at s.rows j.row ≡ row
+module _ (s : StateData) (x : Standing s) (e : ℕ) (j : Job) (works : Works s e j Taken) (stack : Stack)
+    (graph : Graph) where
+  at_serves : (name : List ℕ) (chosen : ℕ) (row : Option Row) → Names s j.letter stack graph (U name chosen)
+      → row_at s.rows j.row ≡ row
       → Serves stack (U name chosen) row → AtUpdate s e j
   at_serves name chosen _ names found (updates _ _ item r asked kept) =
       let (point, there) = points_stand s j.letter stack graph (U name chosen) x names in record {

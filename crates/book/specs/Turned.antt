@@ -45,7 +45,8 @@ pub data Turned (e : ℕ) (old new : Scene) (result : Answered_turn) : Type 0 wh
       → Turn old.state e given cs es → ¬ WearsOut old.state e given → IsTied unjudged old.state e given
       → Makes cs es old new → new.cloud ≡ old.cloud → Turned e old new result
   -- one request, and the step of its answer
-  called : (k : Requests old.state e) (given : Answered) (cs : List Change) (es rest : List Entry) → result ≡ turned.Stepped
+  called : (k : Requests old.state e) (given : Answered) (cs : List Change) (es rest : List Entry)
+      → result ≡ turned.Stepped
       → Turn old.state e (Answer given) cs es → ¬ WearsOut old.state e (Answer given)
       → es ≡ call_entry e k.calls.row k.asked given ∷ rest
       → Makes cs es old new → Told (token_of k.calls.row) k.asked given old.cloud new.cloud → Turned e old new result

@@ -1,5 +1,5 @@
-//! An engine's poll. The steps of answers whose size is known are made before the cloud is asked. Where
-//! facts or a code come and there is no memory to store them, the call alone is told.
+//! An engine's poll. The steps of answers whose size is known are made before the cloud is asked.
+//! Where facts or a code come and there is no memory to store them, the call alone is told.
 ghost use Rattle.std.specs.Prelude.{◌≡◌, ◌≢◌, ◌<◌, ◌≤◌, OnErr, OnOk, IfOk, IfErr};
 ghost use Rattle.heat_plan.specs.declared.phase.Act.TheVariants.{Delete};
 ghost use Rattle.heat_plan.specs.declared.calls.Answered.TheVariants as answers;
@@ -37,8 +37,8 @@ pub(crate) struct PollOutcomes {
     pub failed: Made,
 }
 
-/// Polls the resource of an engine's job, or asks whether it is gone where it was sent away, and makes the
-/// step of the answer.
+/// Polls the resource of an engine's job, or asks whether it is gone where it was sent away, and
+/// makes the step of the answer.
 pub(crate) fn poll_for<P: Provider>(
     alloc: Global,
     state: &mut State,

@@ -11,7 +11,8 @@ pub returns-in-Err : goal.returns-in-Err
 returns-in-Err c =
     let k = c.requires.calls in
     let (made, turn) = c.requires.failed in
-    told k (c.a_lost_answer_is_a_step.ensures _ c.args.e k c.args.answer (c.requires.stays k) c.requires.size made.changes made.entries
+    told k (c.a_lost_answer_is_a_step.ensures _ c.args.e k c.args.answer
+    (c.requires.stays k) c.requires.size made.changes made.entries
     turn.turn (unworn _ c.args.e _ made turn))
     (record {
       state = c.in-Err.ensures.same;
