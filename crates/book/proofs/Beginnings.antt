@@ -1,8 +1,8 @@
 -- What a job at Taken begins at.
-use Rattle.std.proofs.Common.{refl, subst, ℕ, ◌≡◌}
-use Rattle.std.specs.Prelude.{Option, Some, List}
+use Rattle.std.proofs.Common.{subst, ℕ, ◌≡◌}
+use Rattle.std.specs.Prelude.{Option, List}
 use Rattle.traversal_graph.specs.declared.shape.Node.{Node}
-use Rattle.traversal_graph.specs.declared.shape.Node.TheVariants.{C, U}
+use Rattle.traversal_graph.specs.declared.shape.Node.TheVariants.{U}
 use Rattle.row_table.specs.Rows.{row_at}
 use Rattle.row_table.specs.declared.row.Row.{Row}
 use Rattle.mail_table.specs.declared.mail.Job.{Job}
@@ -10,7 +10,7 @@ use Rattle.mail_table.specs.declared.mail.Stage.TheVariants.{Taken}
 use Rattle.core_state.specs.State.{StateData}
 use Rattle.core_state.specs.declared.graph.Graph.{Graph}
 use Rattle.core_state.specs.declared.stack.Stack.{Stack}
-use Rattle.step_relation.specs.Freshness.{Names, Serves, cleans, updates}
+use Rattle.step_relation.specs.Freshness.{Names, Serves, updates}
 use Rattle.step_relation.specs.Nexts.{Works}
 use Rattle.soundness.specs.Sound.{Standing}
 use Rattle.work_laws.proofs.Finds.{points_stand}

@@ -30,7 +30,6 @@ use Rattle.next_laws.proofs.Parts.{AtJob, at_job, kind_one}
 use Rattle.work_laws.proofs.Finds.{calls_stand}
 use Rattle.work_laws.specs.Found.{CallStands, IsAskedAt}
 use Rattle.work_laws.specs.Found as asked_at
-use Rattle.step_parts.specs.Turns.{IsTurn}
 use Rattle.step_ends.specs.Answers.{AnswersPoll, IsAsking}
 use Rattle.step_ends.specs.Answers as asking
 use Rattle.heat_plan.specs.declared.calls.Request.TheVariants as request

@@ -1,5 +1,5 @@
 -- A command, a stop or an enlisting: what it makes, and what the book keeps through it.
-use Rattle.std.proofs.Common.{List, [], ap, arith, inl, inr, refl, subst, sym, ℕ, ◌∙◌, ◌∷◌, ◌≡◌, ◌⊎◌}
+use Rattle.std.proofs.Common.{List, ap, arith, inl, inr, refl, subst, sym, ℕ, ◌∙◌, ◌∷◌, ◌≡◌, ◌⊎◌}
 use Rattle.std.specs.Prelude.{Contains, Err, IfErr, IfOk, Ok, Result, ◌+◌, ◌<◌, ◌^◌, ◌≤◌}
 use Rattle.heat_plan.specs.declared.refusal.Refusal.{Refusal}
 use Rattle.heat_plan.specs.declared.refusal.Refusal.TheVariants.{Memory}

@@ -24,7 +24,7 @@ use Rattle.book.specs.Kept.{IsKept, unjudged}
 use Rattle.book.specs.Scenes.{Scene}
 use Rattle.book.specs.Turned.{Requests, Turned}
 use Rattle.book.specs.Turned as turned
-use Rattle.book.specs.declared.turning.Turn.{Turn as Answer_of_turn}
+use Rattle.book.specs.declared.turning.Turn.{Turn as Turn_answer}
 use Rattle.book.proofs.Growing.{grows_by_call, grows_silently, stays, unasked}
 use Rattle.book.proofs.Telling.{turn_calls, turn_silent}
 
@@ -60,7 +60,7 @@ tied_alone s actor token asked given cs es (step.note it noted is_cs is_es) is =
 tied_alone s actor token asked given cs es (step.close is_cs is_es) is = tt
 
 module _ (first : StateData) (origin : Cloud) where
-  pub kept_turned : (e : ℕ) (old new : Scene) (result : Answer_of_turn)
+  pub kept_turned : (e : ℕ) (old new : Scene) (result : Turn_answer)
       → IsKept first origin old.state old.entries old.cloud
       → Turned e old new result → IsKept first origin new.state new.entries new.cloud
   kept_turned e old new result kept (turned.quiet given cs es is quiet t lasts its makes same) =

@@ -26,7 +26,6 @@ use core_state::{Actor, Entry, Made, Roomed, State, What};
 use heat_plan::{Answered, EngineNo, Refusal, Request, Token};
 use provider::{Poll, Provider};
 use std::alloc::Global;
-use step_ends::a_lost_answer_is_a_step;
 use step_parts::token_of;
 
 /// The row's token, and the step for each answer whose size is known.
@@ -152,7 +151,6 @@ fn learn(
     ensures { HasLearned e answer
         (page state.old.state entries.old.items) (page state.new.state entries.new.items) result }
 {
-    a_lost_answer_is_a_step();
     match store(alloc, state, entries, e, &answer) {
         Ok(()) => Turn::Stepped,
         Err(_) => {
