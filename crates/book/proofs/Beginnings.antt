@@ -1,8 +1,8 @@
 -- What a job at Taken begins at.
-use Rattle.std.proofs.Common.{refl, subst, ℕ, ◌≡◌}
-use Rattle.std.specs.Prelude.{Option, Some, List}
+use Rattle.std.proofs.Common.{subst, ℕ, ◌≡◌}
+use Rattle.std.specs.Prelude.{Option, List}
 use Rattle.traversal_graph.specs.declared.shape.Node.{Node}
-use Rattle.traversal_graph.specs.declared.shape.Node.TheVariants.{C, U}
+use Rattle.traversal_graph.specs.declared.shape.Node.TheVariants.{U}
 use Rattle.row_table.specs.Rows.{row_at}
 use Rattle.row_table.specs.declared.row.Row.{Row}
 use Rattle.mail_table.specs.declared.mail.Job.{Job}
@@ -10,7 +10,7 @@ use Rattle.mail_table.specs.declared.mail.Stage.TheVariants.{Taken}
 use Rattle.core_state.specs.State.{StateData}
 use Rattle.core_state.specs.declared.graph.Graph.{Graph}
 use Rattle.core_state.specs.declared.stack.Stack.{Stack}
-use Rattle.step_relation.specs.Freshness.{Names, Serves, cleans, updates}
+use Rattle.step_relation.specs.Freshness.{Names, Serves, updates}
 use Rattle.step_relation.specs.Nexts.{Works}
 use Rattle.soundness.specs.Sound.{Standing}
 use Rattle.work_laws.proofs.Finds.{points_stand}
@@ -26,8 +26,10 @@ pub quiet_prepared : (p : Prepared) → IsQuiet (given_of p)
 quiet_prepared (Props props effect) a is = cc
 quiet_prepared (Fault code path) a is = cc
 
-module _ (s : StateData) (x : Standing s) (e : ℕ) (j : Job) (works : Works s e j Taken) (stack : Stack) (graph : Graph) where
-  at_serves : (name : List ℕ) (chosen : ℕ) (row : Option Row) → Names s j.letter stack graph (U name chosen) → row_at s.rows j.row ≡ row
+module _ (s : StateData) (x : Standing s) (e : ℕ) (j : Job) (works : Works s e j Taken) (stack : Stack)
+    (graph : Graph) where
+  at_serves : (name : List ℕ) (chosen : ℕ) (row : Option Row) → Names s j.letter stack graph (U name chosen)
+      → row_at s.rows j.row ≡ row
       → Serves stack (U name chosen) row → AtUpdate s e j
   at_serves name chosen _ names found (updates _ _ item r asked kept) =
       let (point, there) = points_stand s j.letter stack graph (U name chosen) x names in record {

@@ -30,7 +30,6 @@ use Rattle.next_laws.proofs.Parts.{AtJob, at_job, kind_one}
 use Rattle.work_laws.proofs.Finds.{calls_stand}
 use Rattle.work_laws.specs.Found.{CallStands, IsAskedAt}
 use Rattle.work_laws.specs.Found as asked_at
-use Rattle.step_parts.specs.Turns.{IsTurn}
 use Rattle.step_ends.specs.Answers.{AnswersPoll, IsAsking}
 use Rattle.step_ends.specs.Answers as asking
 use Rattle.heat_plan.specs.declared.calls.Request.TheVariants as request
@@ -52,14 +51,17 @@ use Rattle.book.proofs.Telling.{turn_calls}
 module _ (s : StateData) (e : ℕ) where
   -- a job that asks doesn't poll
   apart : Calls s e Asking → Calls s e Polling → ⊥
-  apart a b = let same = kind_one s e (AtJob Asking) (AtJob Polling) (at_job a.job Asking a.works) (at_job b.job Polling b.works) in cc
+  apart a b = let same = kind_one s e (AtJob Asking) (AtJob Polling) (at_job a.job Asking a.works)
+      (at_job b.job Polling b.works) in cc
 
   module _ (row : Row) (called : IsCalled s e row) where
-    asks_in : (stage : Stage) (k : Calls s e stage) (asked : Request) → Calls s e Asking → IsAskedAt k.row stage asked → Asks row asked
+    asks_in : (stage : Stage) (k : Calls s e stage) (asked : Request) → Calls s e Asking → IsAskedAt k.row stage asked
+        → Asks row asked
     asks_in _ k asked q (asked_at.asks _ is) = subst (λ (r : Row). Asks r asked) (called Asking k) is
     asks_in _ k asked q (asked_at.polls _ is) = absurd (apart q k)
 
-    polls_in : (stage : Stage) (k : Calls s e stage) (asked : Request) → Calls s e Polling → IsAskedAt k.row stage asked → Polls row asked
+    polls_in : (stage : Stage) (k : Calls s e stage) (asked : Request) → Calls s e Polling
+        → IsAskedAt k.row stage asked → Polls row asked
     polls_in _ k asked q (asked_at.asks _ is) = absurd (apart k q)
     polls_in _ k asked q (asked_at.polls _ is) = subst (λ (r : Row). Polls r asked) (called Polling k) is
 
@@ -85,7 +87,8 @@ module _ (s : StateData) (e : ℕ) where
       stage = Polling;
       calls = k;
       asked = request.Poll;
-      asks = asked_at.polls request.Poll (call.polls (λ d. stays (ap (λ (r : Row). r.act) (sym (called Polling k)) ∙ d)));
+      asks = asked_at.polls request.Poll (call.polls
+          (λ d. stays (ap (λ (r : Row). r.act) (sym (called Polling k)) ∙ d)));
     }
 
     abbrev pub look_of : (k : Calls s e Polling) → row.act ≡ Delete → Requests s e
@@ -97,7 +100,8 @@ module _ (s : StateData) (e : ℕ) where
     }
 
     -- the answer's step was made, and the call is told
-    pub answered : (t : StateData) (h i : List Entry) (c d : Cloud) (token : Token) (given : Answered) (made : Made) → token ≡ token_of row
+    pub answered : (t : StateData) (h i : List Entry) (c d : Cloud) (token : Token) (given : Answered) (made : Made)
+        → token ≡ token_of row
         → IsAnswered s e given made → t ≡ applied made.changes s → i ≡ h ++ made.entries
         → ((k : Requests s e) → Told token k.asked given c d) → Turned e (scene s h c) (scene t i d) Stepped
     answered t h i c d token given made its turn is_t is_i told =
@@ -131,7 +135,8 @@ module _ (s : StateData) (e : ℕ) where
     by (asking.deletes act) = (_, call.deletes act)
 
 -- the provider's conditions, of the row that is called
-module _ (s : StateData) (h : List Entry) (c : Cloud) (x : IsSoundOver s h c) (e : ℕ) (row : Row) (called : IsCalled s e row)
+module _ (s : StateData) (h : List Entry) (c : Cloud) (x : IsSoundOver s h c) (e : ℕ) (row : Row)
+    (called : IsCalled s e row)
     (token : Token) (its : token ≡ token_of row) where
   pub alive_to_update : (k : Calls s e Asking) → row.act ≡ Update → IsAlive c token
   alive_to_update k act =
@@ -149,14 +154,16 @@ module _ (s : StateData) (h : List Entry) (c : Cloud) (x : IsSoundOver s h c) (e
       (going_at_gone x.opening h s x.sound c x.shows e (look_of s e row called k goes) refl)
 
 -- a job that works at this stage
-pub calling : (s : StateData) → Standing s → (e : ℕ) (j : Job) (stage : Stage) → under.IsUnderWay stage → Works s e j j.stage → j.stage ≡ stage → Calls s e stage
+pub calling : (s : StateData) → Standing s → (e : ℕ) (j : Job) (stage : Stage) → under.IsUnderWay stage
+    → Works s e j j.stage → j.stage ≡ stage → Calls s e stage
 calling s x e j stage way works is =
     let own : Works s e j stage = record { live = works.live; its = works.its; stage_is = is } in
     let it = calls_stand s e j stage x way own in
     record { job = j; row = it.row; works = own; found = it.found }
 
 -- only a create is refused by a quota
-pub created_by : (r : Row) (asked : Request) (kind : List ℕ) (props : Members) → Asks r asked → asked ≡ request.Create kind props → r.act ≡ Create
+pub created_by : (r : Row) (asked : Request) (kind : List ℕ) (props : Members) → Asks r asked
+    → asked ≡ request.Create kind props → r.act ≡ Create
 created_by r _ kind props (call.creates act) is = act
 created_by r _ kind props (call.updates act) is = cc
 created_by r _ kind props (call.deletes act) is = cc
@@ -167,7 +174,8 @@ sized act _ (lost.ready facts) stays = asking.ready facts stays refl
 sized act _ (lost.broken code) stays = asking.broken code stays refl
 
 -- what wears nothing out under any answer, doesn't under this one
-pub unworn : (s : StateData) (e : ℕ) (given : Answered) (made : Made) → IsAnswered s e given made → ¬ IsWorn made.changes
+pub unworn : (s : StateData) (e : ℕ) (given : Answered) (made : Made) → IsAnswered s e given made
+    → ¬ IsWorn made.changes
 unworn s e given made t worn = t.lasts (record {
   other = Answer given;
   like = answers given given;
@@ -179,7 +187,8 @@ unworn s e given made t worn = t.lasts (record {
 
 module _ (s t : StateData) (h i : List Entry) (c d : Cloud) (e : ℕ) (row : Row) (called : IsCalled s e row) where
   -- what was learned from a poll, as a turn
-  pub learned : (token : Token) (given : Answered) (result : Turn_answer) → token ≡ token_of row → Calls s e Polling → row.act ≢ Delete → IsOfUnknownSize given
+  pub learned : (token : Token) (given : Answered) (result : Turn_answer) → token ≡ token_of row → Calls s e Polling
+      → row.act ≢ Delete → IsOfUnknownSize given
       → HasLearned e given (page s h) (page t i) result → Told token request.Poll given c d
       → Turned e (scene s h c) (scene t i d) result
   learned token given result its q stays size (stored k is) told =
@@ -187,11 +196,13 @@ module _ (s t : StateData) (h i : List Entry) (c d : Cloud) (e : ℕ) (row : Row
       (answered s e row called t h i c d token given k.made its k.turn k.writes.state k.writes.entries
       (λ r. subst (λ (a : Request). Told token a given c d) (sym (polls_now s e row called q stays r)) told))
   learned token given result its q stays size (told_alone k alone writes is) told =
-      turned.unstored (poll_of s e row called k stays) given is size alone (record { state = writes.state; entries = writes.entries })
+      turned.unstored (poll_of s e row called k stays) given is size alone
+      (record { state = writes.state; entries = writes.entries })
       (subst (λ (x : Token). Told x request.Poll given c d) (its ∙ ap token_of (sym (called Polling k))) told)
 
 -- a turn that was answered tells something
-pub tells_one : (s : StateData) (e : ℕ) (given : Answered) (made : Made) → IsAnswered s e given made → 1 ≤ length made.entries
+pub tells_one : (s : StateData) (e : ℕ) (given : Answered) (made : Made) → IsAnswered s e given made
+    → 1 ≤ length made.entries
 tells_one s e given made t = by made.entries (turn_calls s e given made.changes made.entries t.turn).entries where
   by : (es : List Entry) {x : Entry} {xs : List Entry} → es ≡ x ∷ xs → 1 ≤ length es
   by [] is = cc

@@ -31,10 +31,12 @@ lives c t h = by (entry_of c t) h where
 -- a token that is going may be asked whether it is gone
 goes : (c : Cloud) (t : Token) → IsGoing (state_of c t) → MayGo c t
 goes c t h alive = by (entry_of c t) alive (state_of c t) refl h where
-  by : (x : Option Alive) → IsSome x → (state : TokenState) → option_map (living_of (c.leaving t)) x ≡ state → IsGoing state → c.leaving t ≡ true
+  by : (x : Option Alive) → IsSome x → (state : TokenState) → option_map (living_of (c.leaving t)) x ≡ state
+      → IsGoing state → c.leaving t ≡ true
   by None i state is going = cc
   by (Some a) i _ is absent = cc
-  by (Some a) i _ is (leaves it left) = let same : living_of (c.leaving t) a ≡ it = cc in subst (λ (l : _). l.leaving ≡ true) (sym same) left
+  by (Some a) i _ is (leaves it left) = let same : living_of (c.leaving t) a ≡ it = cc in subst
+      (λ (l : _). l.leaving ≡ true) (sym same) left
 
 module _ (o : Opening) (h : List Entry) (s : StateData) (x : Sound o h s) (c : Cloud) (shows : Allows (first_of o) h c)
     (e : ℕ) (k : Requests s e) where
@@ -44,8 +46,10 @@ module _ (o : Opening) (h : List Entry) (s : StateData) (x : Sound o h s) (c : C
   -- a resource that is updated or polled is alive
   pub alive_at_update : (props : Members) → k.asked ≡ request.Update props → IsAlive c (token_of k.calls.row)
   alive_at_update props is = by k.asked may is where
-    by : (asked : Request) → MayBeAsked (could_of o h (token_of k.calls.row)) asked → asked ≡ request.Update props → IsAlive c (token_of k.calls.row)
-    by _ (update p all) i = lives c (token_of k.calls.row) (All-contains IsSome _ (state_of c (token_of k.calls.row)) all (shows (token_of k.calls.row)))
+    by : (asked : Request) → MayBeAsked (could_of o h (token_of k.calls.row)) asked → asked ≡ request.Update props
+        → IsAlive c (token_of k.calls.row)
+    by _ (update p all) i = lives c (token_of k.calls.row)
+        (All-contains IsSome _ (state_of c (token_of k.calls.row)) all (shows (token_of k.calls.row)))
     by _ (create kind p) i = cc
     by _ delete i = cc
     by _ (poll all) i = cc
@@ -53,8 +57,10 @@ module _ (o : Opening) (h : List Entry) (s : StateData) (x : Sound o h s) (c : C
 
   pub alive_at_poll : k.asked ≡ request.Poll → IsAlive c (token_of k.calls.row)
   alive_at_poll is = by k.asked may is where
-    by : (asked : Request) → MayBeAsked (could_of o h (token_of k.calls.row)) asked → asked ≡ request.Poll → IsAlive c (token_of k.calls.row)
-    by _ (poll all) i = lives c (token_of k.calls.row) (All-contains IsSome _ (state_of c (token_of k.calls.row)) all (shows (token_of k.calls.row)))
+    by : (asked : Request) → MayBeAsked (could_of o h (token_of k.calls.row)) asked → asked ≡ request.Poll → IsAlive c
+        (token_of k.calls.row)
+    by _ (poll all) i = lives c (token_of k.calls.row)
+        (All-contains IsSome _ (state_of c (token_of k.calls.row)) all (shows (token_of k.calls.row)))
     by _ (create kind p) i = cc
     by _ (update p all) i = cc
     by _ delete i = cc
@@ -63,8 +69,10 @@ module _ (o : Opening) (h : List Entry) (s : StateData) (x : Sound o h s) (c : C
   -- one that is asked after was sent away
   pub going_at_gone : k.asked ≡ request.Gone → MayGo c (token_of k.calls.row)
   going_at_gone is = by k.asked may is where
-    by : (asked : Request) → MayBeAsked (could_of o h (token_of k.calls.row)) asked → asked ≡ request.Gone → MayGo c (token_of k.calls.row)
-    by _ (gone all) i = goes c (token_of k.calls.row) (All-contains IsGoing _ (state_of c (token_of k.calls.row)) all (shows (token_of k.calls.row)))
+    by : (asked : Request) → MayBeAsked (could_of o h (token_of k.calls.row)) asked → asked ≡ request.Gone → MayGo c
+        (token_of k.calls.row)
+    by _ (gone all) i = goes c (token_of k.calls.row)
+        (All-contains IsGoing _ (state_of c (token_of k.calls.row)) all (shows (token_of k.calls.row)))
     by _ (create kind p) i = cc
     by _ (update p all) i = cc
     by _ delete i = cc

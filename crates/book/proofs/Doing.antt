@@ -1,5 +1,5 @@
 -- A command, a stop or an enlisting: what it makes, and what the book keeps through it.
-use Rattle.std.proofs.Common.{List, [], ap, arith, inl, inr, refl, subst, sym, ℕ, ◌∙◌, ◌∷◌, ◌≡◌, ◌⊎◌}
+use Rattle.std.proofs.Common.{List, ap, arith, inl, inr, refl, subst, sym, ℕ, ◌∙◌, ◌∷◌, ◌≡◌, ◌⊎◌}
 use Rattle.std.specs.Prelude.{Contains, Err, IfErr, IfOk, Ok, Result, ◌+◌, ◌<◌, ◌^◌, ◌≤◌}
 use Rattle.heat_plan.specs.declared.refusal.Refusal.{Refusal}
 use Rattle.heat_plan.specs.declared.refusal.Refusal.TheVariants.{Memory}
@@ -31,19 +31,23 @@ use Rattle.book.proofs.Engined.{AreStill, applied-live, laid_still}
 use Rattle.book.proofs.Growing.{grows_silently, stays, unasked}
 
 -- a step that was thought out, as one that was made or refused
-pub does_of : {A : Type 0} (Is : List Change → List Entry → Type 0) (Refuses : Refusal → Type 0) (answer : A) (made : Result Made Refusal)
+pub does_of : {A : Type 0} (Is : List Change → List Entry → Type 0) (Refuses : Refusal → Type 0) (answer : A)
+    (made : Result Made Refusal)
     (old new : Page) (first : Result (Unit {0}) Refusal) (result : Result A Refusal)
     → IfOk made (λ m. Is m.changes m.entries) → IfErr made (λ r. (r ≡ Memory) ⊎ Refuses r) → MadeAs made old new first
-    → (first ≡ Ok tt → result ≡ Ok answer) → ((r : Refusal) → first ≡ Err r → result ≡ Err r) → Does Is Refuses answer old new result
+    → (first ≡ Ok tt → result ≡ Ok answer) → ((r : Refusal) → first ≡ Err r → result ≡ Err r)
+    → Does Is Refuses answer old new result
 does_of Is Refuses answer made old new first result ok err (made_as.done m is writes ends) yes_ no_ =
-    done m.changes m.entries (subst (λ (r : Result Made Refusal). IfOk r (λ m. Is m.changes m.entries)) is ok) writes (yes_ ends)
+    done m.changes m.entries (subst (λ (r : Result Made Refusal). IfOk r (λ m. Is m.changes m.entries)) is ok) writes
+    (yes_ ends)
 does_of Is Refuses answer made old new first result ok err (made_as.refused r is same ends) yes_ no_ =
     by (subst (λ (x : Result Made Refusal). IfErr x (λ r. (r ≡ Memory) ⊎ Refuses r)) is err)
   where
     by : (r ≡ Memory) ⊎ Refuses r → Does Is Refuses answer old new result
     by (inl want) = memory same (no_ r ends ∙ ap Err want)
     by (inr why) = refused r why same (no_ r ends)
-does_of Is Refuses answer made old new first result ok err (made_as.memory same ends) yes_ no_ = memory same (no_ Memory ends)
+does_of Is Refuses answer made old new first result ok err (made_as.memory same ends) yes_ no_ = memory same
+    (no_ Memory ends)
 
 -- a step that calls nobody
 pub record IsSilentStep (s : StateData) (cs : List Change) (es : List Entry) : Type 0 where
@@ -66,12 +70,16 @@ enlist_step s cs es k = record {
 }
 
 command_silent : (s : StateData) (cs : List Change) (es : List Entry) → Command s cs es → AreUncalling es
-command_silent s cs es (orders.create name plan rollback k proper absent few room c d) = subst AreUncalling (sym d) (laid_uncalling s _ _ _ k)
-command_silent s cs es (orders.update st plan rollback k proper found kept room c d) = subst AreUncalling (sym d) (laid_uncalling s _ _ _ k)
+command_silent s cs es (orders.create name plan rollback k proper absent few room c d) = subst AreUncalling (sym d)
+    (laid_uncalling s _ _ _ k)
+command_silent s cs es (orders.update st plan rollback k proper found kept room c d) = subst AreUncalling (sym d)
+    (laid_uncalling s _ _ _ k)
 command_silent s cs es (orders.delete st k found c d) = subst AreUncalling (sym d) (laid_uncalling s _ _ _ k)
-command_silent s cs es (orders.cancel st k found forward running room c d) = subst AreUncalling (sym d) (laid_uncalling s _ _ _ k)
+command_silent s cs es (orders.cancel st k found forward running room c d) = subst AreUncalling (sym d)
+    (laid_uncalling s _ _ _ k)
 
-pub order_step : (s : StateData) (c : StackCommand) (cs : List Change) (es : List Entry) → Orders s c cs es → IsSilentStep s cs es
+pub order_step : (s : StateData) (c : StackCommand) (cs : List Change) (es : List Entry) → Orders s c cs es
+    → IsSilentStep s cs es
 order_step s c cs es k = record {
   it = step.command k.command k.lasts;
   tied = tt;
@@ -80,37 +88,49 @@ order_step s c cs es k = record {
 
 module _ (first : StateData) (origin : Cloud) where
   -- what a book keeps, through such a step or a refusal
-  pub kept_done : {A : Type 0} (s t : StateData) (h i : List Entry) (c : Cloud) (Is : List Change → List Entry → Type 0) (Refuses : Refusal → Type 0)
-      (answer : A) (result : Result A Refusal) → IsKept first origin s h c → ((cs : List Change) (es : List Entry) → Is cs es → IsSilentStep s cs es)
+  pub kept_done : {A : Type 0} (s t : StateData) (h i : List Entry) (c : Cloud)
+      (Is : List Change → List Entry → Type 0) (Refuses : Refusal → Type 0)
+      (answer : A) (result : Result A Refusal) → IsKept first origin s h c →
+      ((cs : List Change) (es : List Entry) → Is cs es → IsSilentStep s cs es)
       → Does Is Refuses answer (page s h) (page t i) result → IsKept first origin t i c
   kept_done s t h i c Is Refuses answer result kept steps (done cs es is writes ends) =
       let k = steps cs es is in
       grows_silently first origin s t h i es cs c c kept k.it k.tied k.silent writes.state writes.entries (unasked c)
   kept_done s t h i c Is Refuses answer result kept steps (refused r why same ends) =
-      stays first origin s t h i c c kept (ap (λ (p : Page). p.state) same) (ap (λ (p : Page). p.entries) same) (unasked c)
+      stays first origin s t h i c c kept (ap (λ (p : Page). p.state) same) (ap (λ (p : Page). p.entries) same)
+      (unasked c)
   kept_done s t h i c Is Refuses answer result kept steps (memory same ends) =
-      stays first origin s t h i c c kept (ap (λ (p : Page). p.state) same) (ap (λ (p : Page). p.entries) same) (unasked c)
+      stays first origin s t h i c c kept (ap (λ (p : Page). p.state) same) (ap (λ (p : Page). p.entries) same)
+      (unasked c)
 
 -- the same said in other words
-pub does_weaker : {A : Type 0} (Is Other : List Change → List Entry → Type 0) (Refuses Why : Refusal → Type 0) (answer : A) (old new : Page) (result : Result A Refusal)
+pub does_weaker : {A : Type 0} (Is Other : List Change → List Entry → Type 0) (Refuses Why : Refusal → Type 0)
+    (answer : A) (old new : Page) (result : Result A Refusal)
     → ((cs : List Change) (es : List Entry) → Is cs es → Other cs es) → ((r : Refusal) → Refuses r → Why r)
     → Does Is Refuses answer old new result → Does Other Why answer old new result
-does_weaker Is Other Refuses Why answer old new result step why (done cs es is writes ends) = done cs es (step cs es is) writes ends
-does_weaker Is Other Refuses Why answer old new result step why (refused r is same ends) = refused r (why r is) same ends
+does_weaker Is Other Refuses Why answer old new result step why (done cs es is writes ends) = done cs es
+    (step cs es is) writes ends
+does_weaker Is Other Refuses Why answer old new result step why (refused r is same ends) = refused r
+    (why r is) same ends
 does_weaker Is Other Refuses Why answer old new result step why (memory same ends) = memory same ends
 
 -- which case of a command it was
 pub ordered_as : (s : StateData) (c d : StackCommand) (answer : ℕ) (old new : Page) (result : Result ℕ Refusal) → c ≡ d
-    → Does (Orders s c) (RefusesOrder s c) answer old new result → Does (IsOrder s d) (RefusesOrder s d) answer old new result
+    → Does (Orders s c) (RefusesOrder s c) answer old new result → Does (IsOrder s d)
+    (RefusesOrder s d) answer old new result
 ordered_as s c d answer old new result is h =
-    does_weaker (Orders s d) (IsOrder s d) (RefusesOrder s d) (RefusesOrder s d) answer old new result (λ cs es k. k.its) (λ r k. k)
+    does_weaker (Orders s d) (IsOrder s d) (RefusesOrder s d) (RefusesOrder s d) answer old new result
+    (λ cs es k. k.its) (λ r k. k)
     (subst (λ (x : StackCommand). Does (Orders s x) (RefusesOrder s x) answer old new result) is h)
 
 command_still : (s : StateData) (cs : List Change) (es : List Entry) → Command s cs es → AreStill cs
-command_still s cs es (orders.create name plan rollback k proper absent few room c d) = subst AreStill (sym c) (laid_still s _ _ _ k)
-command_still s cs es (orders.update st plan rollback k proper found kept room c d) = subst AreStill (sym c) (laid_still s _ _ _ k)
+command_still s cs es (orders.create name plan rollback k proper absent few room c d) = subst AreStill (sym c)
+    (laid_still s _ _ _ k)
+command_still s cs es (orders.update st plan rollback k proper found kept room c d) = subst AreStill (sym c)
+    (laid_still s _ _ _ k)
 command_still s cs es (orders.delete st k found c d) = subst AreStill (sym c) (laid_still s _ _ _ k)
-command_still s cs es (orders.cancel st k found forward running room c d) = subst AreStill (sym c) (laid_still s _ _ _ k)
+command_still s cs es (orders.cancel st k found forward running room c d) = subst AreStill (sym c)
+    (laid_still s _ _ _ k)
 
 -- no command changes which engines are live
 pub ordered_live : (s t : StateData) (h i : List Entry) (c : StackCommand) (answer : ℕ) (result : Result ℕ Refusal)
@@ -128,7 +148,8 @@ unworn_order s (Delete name) cs es k = k.laying.unworn
 unworn_order s (Cancel name) cs es k = k.laying.unworn
 
 -- a command's case, as that of the command that was given
-pub ordered : (s : StateData) (c d : StackCommand) (made : Result Made Refusal) → c ≡ d → IfOk made (λ m. IsOrder s d m.changes m.entries)
+pub ordered : (s : StateData) (c d : StackCommand) (made : Result Made Refusal) → c ≡ d → IfOk made
+    (λ m. IsOrder s d m.changes m.entries)
     → IfOk made (λ m. Command s m.changes m.entries) → IfOk made (λ m. Orders s c m.changes m.entries)
 ordered s c d (Ok m) is its command = record {
   its = subst (λ (x : StackCommand). IsOrder s x m.changes m.entries) (sym is) its;
@@ -137,17 +158,22 @@ ordered s c d (Ok m) is its command = record {
 }
 ordered s c d (Err r) is its command = tt
 
-pub refuses : (s : StateData) (c d : StackCommand) (made : Result Made Refusal) → c ≡ d → IfErr made (λ r. (r ≡ Memory) ⊎ RefusesOrder s d r)
+pub refuses : (s : StateData) (c d : StackCommand) (made : Result Made Refusal) → c ≡ d → IfErr made
+    (λ r. (r ≡ Memory) ⊎ RefusesOrder s d r)
     → IfErr made (λ r. (r ≡ Memory) ⊎ RefusesOrder s c r)
-refuses s c d made is err = subst (λ (x : StackCommand). IfErr made (λ r. (r ≡ Memory) ⊎ RefusesOrder s x r)) (sym is) err
+refuses s c d made is err = subst (λ (x : StackCommand). IfErr made (λ r. (r ≡ Memory) ⊎ RefusesOrder s x r))
+    (sym is) err
 
 -- the traversal that it draws is below 2^62
-pub drawn_below : (s : StateData) (c : StackCommand) (cs : List Change) (es : List Entry) → Orders s c cs es → s.next.trav < 2 ^ 62
+pub drawn_below : (s : StateData) (c : StackCommand) (cs : List Change) (es : List Entry) → Orders s c cs es
+    → s.next.trav < 2 ^ 62
 drawn_below s c cs es k = by k.command where
-  first : (next : Numbers) (rest : List Change) → cs ≡ change_to.Numbers next ∷ rest → next.trav ≡ s.next.trav + 1 → s.next.trav < 2 ^ 62
+  first : (next : Numbers) (rest : List Change) → cs ≡ change_to.Numbers next ∷ rest → next.trav ≡ s.next.trav + 1
+      → s.next.trav < 2 ^ 62
   first next rest is drawn = below s.next.trav next.trav drawn (λ over. k.lasts (record {
     change = change_to.Numbers next;
-    among = subst (λ (xs : List Change). Contains xs (change_to.Numbers next)) (sym is) (here (change_to.Numbers next) (change_to.Numbers next) rest refl);
+    among = subst (λ (xs : List Change). Contains xs (change_to.Numbers next)) (sym is)
+        (here (change_to.Numbers next) (change_to.Numbers next) rest refl);
     overflows = trav next over;
   })) where
     below : (a b : ℕ) → b ≡ a + 1 → ¬ (2 ^ 62 < b) → a < 2 ^ 62
@@ -160,8 +186,10 @@ drawn_below s c cs es k = by k.command where
   by (orders.cancel st q found forward running room c_ d) = first _ _ c_ refl
 
 -- a step that was made was one that could be
-pub made_below : (Is : List Change → List Entry → Type 0) (bound : Type 0) (made : Result Made Refusal) (old new : Page) (first : Result (Unit {0}) Refusal)
-    → ((cs : List Change) (es : List Entry) → Is cs es → bound) → IfOk made (λ m. Is m.changes m.entries) → MadeAs made old new first → first ≡ Ok tt → bound
+pub made_below : (Is : List Change → List Entry → Type 0) (bound : Type 0) (made : Result Made Refusal)
+    (old new : Page) (first : Result (Unit {0}) Refusal)
+    → ((cs : List Change) (es : List Entry) → Is cs es → bound) → IfOk made (λ m. Is m.changes m.entries)
+    → MadeAs made old new first → first ≡ Ok tt → bound
 made_below Is bound made old new first low ok (made_as.done m is writes ends) yes_ =
     low m.changes m.entries (subst (λ (r : Result Made Refusal). IfOk r (λ m. Is m.changes m.entries)) is ok)
 made_below Is bound made old new first low ok (made_as.refused r is same ends) yes_ = cc

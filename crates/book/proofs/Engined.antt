@@ -100,7 +100,8 @@ still_unlock : (row : Option Row) (rest : List Change) → AreStill rest → Are
 still_unlock None rest h = h
 still_unlock (Some r) rest h = (tt, h)
 
-still_draw : (next : Numbers) (ls : List Letter) (rest : List Change) → AreStill rest → AreStill (draw_letters next ls rest)
+still_draw : (next : Numbers) (ls : List Letter) (rest : List Change) → AreStill rest → AreStill
+    (draw_letters next ls rest)
 still_draw next [] rest h = h
 still_draw next (l ∷ ls) rest h = (tt, h)
 
@@ -117,11 +118,13 @@ still_complete st = by st.act where
   by Delete = (tt, tt)
   by Rollback = (tt, tt)
 
-still_settled : (nodes : List Node) (s : StateData) (name : List ℕ) (it : Sets) → AreStill (settles_at_once nodes s name it)
+still_settled : (nodes : List Node) (s : StateData) (name : List ℕ) (it : Sets) → AreStill
+    (settles_at_once nodes s name it)
 still_settled [] s name it = still_complete (stack_set s name it InProgress)
 still_settled (node ∷ nodes) s name it = tt
 
-pub laid_still : (s : StateData) (name : List ℕ) (items : List _) (it : Sets) (k : Lays s name items) → AreStill (laid_changes s name items it k)
+pub laid_still : (s : StateData) (name : List ℕ) (items : List _) (it : Sets) (k : Lays s name items) → AreStill
+    (laid_changes s name items it k)
 laid_still s name items it k = (
   tt,
   (
@@ -168,10 +171,12 @@ module _ (s : StateData) (e : ℕ) where
         (still-both (map Send (ready_letters s e k)) mark (still_sends (ready_letters s e k)) h),
   ))
 
-  part_still : (kind : Kind) (given : Given) (f : Option Stack) (cs : List Change) (es : List Entry) → Part s e kind given f cs es → AreStill cs
+  part_still : (kind : Kind) (given : Given) (f : Option Stack) (cs : List Change) (es : List Entry)
+      → Part s e kind given f cs es → AreStill cs
   part_still _ _ _ cs es (drops l _ _ t i c d) = still_as cs _ c (tt, tt)
   part_still _ _ _ cs es (takes k _ _ free c d) = still_as cs _ c (still_lock k.meant.fresh.row e _ (tt, (tt, tt)))
-  part_still _ _ _ cs es (steals k f j _ _ h n c d) = still_as cs _ c (still_lock k.meant.fresh.row e _ (tt, (tt, (tt, tt))))
+  part_still _ _ _ cs es (steals k f j _ _ h n c d) = still_as cs _ c
+      (still_lock k.meant.fresh.row e _ (tt, (tt, (tt, tt))))
   part_still _ _ _ cs es (overruns j stage _ _ w k c d) = still_as cs _ c (still_released e k.row k.letters)
   part_still _ _ _ cs es (faults k code path failed _ _ falls c d) = still_as cs _ c (tt, (tt, still_failed failed))
   part_still _ _ _ cs es (prepares k props effect fate _ _ x c d) = still_as cs _ c (still_fate k props fate)
@@ -181,11 +186,20 @@ module _ (s : StateData) (e : ℕ) where
   part_still _ _ _ cs es (readies k facts _ _ a c d) = still_as cs _ c (tt, (tt, tt))
   part_still _ _ _ cs es (goes k _ _ a c d) = still_as cs _ c (tt, (tt, tt))
   part_still _ _ _ cs es (refuses stage k asked g reason letters failed _ _ a x falls c d) = still_as cs _ c
-      (still_draw s.next letters _ (tt, (tt, still-both (map Send letters) (mark_failed failed) (still_sends letters) (still_failed failed))))
+      (still_draw s.next letters _ (
+        tt,
+        (
+          tt,
+          still-both (map Send letters) (mark_failed failed) (still_sends letters)
+              (still_failed failed),
+        ),
+      ))
   part_still _ _ _ cs es (ends k _ _ n c d) = still_as cs _ c (still_finished k [] tt)
-  part_still _ _ _ cs es (settles k _ _ y c d) = still_as cs _ c (still_finished k (mark_complete k.fresh.stack) (still_complete k.fresh.stack))
+  part_still _ _ _ cs es (settles k _ _ y c d) = still_as cs _ c
+      (still_finished k (mark_complete k.fresh.stack) (still_complete k.fresh.stack))
   part_still _ _ _ cs es (relieves f j _ _ t k c d) = still_as cs _ c (still_released f k.row k.letters)
-  part_still _ _ _ cs es (relays f k _ _ c d) = still_as cs _ c (still_released f k.fresh.row (relayed_letter s e f k ∷ []))
+  part_still _ _ _ cs es (relays f k _ _ c d) = still_as cs _ c
+      (still_released f k.fresh.row (relayed_letter s e f k ∷ []))
 
   -- no turn changes which engines are live
   pub turn_still : (given : Given) (cs : List Change) (es : List Entry) → Turn s e given cs es → AreStill cs
@@ -194,21 +208,26 @@ module _ (s : StateData) (e : ℕ) where
     a = by_move s e given cs es t
 
     first : AreStill a.first
-    first = let p = placed s e given a.failed a.first a.firsts a.move in part_still p.kind given a.failed a.first a.firsts p.part
+    first = let p = placed s e given a.failed a.first a.firsts a.move in
+        part_still p.kind given a.failed a.first a.firsts p.part
 
-    behind : (u : StateData) (st : Stack) (last : List Change) (lasts : List Entry) → FollowsFailure u e st last lasts → AreStill last
+    behind : (u : StateData) (st : Stack) (last : List Change) (lasts : List Entry) → FollowsFailure u e st last lasts
+        → AreStill last
     behind u st last lasts k = still_as last _ k.changes (laid_still u k.failed.name _ _ k.lays)
 
     by : Whole s e a.failed a.first a.firsts cs es → AreStill cs
     by (stops p c d) = still_as cs _ c first
     by (follows st last lasts is due k c d) = still_as cs _ c (still-both a.first last first (behind _ st last lasts k))
 
-pub turned_live : (e : ℕ) (old new : Scene) (result : Turn_answer) → Turned e old new result → new.state.live ≡ old.state.live
+pub turned_live : (e : ℕ) (old new : Scene) (result : Turn_answer) → Turned e old new result
+    → new.state.live ≡ old.state.live
 turned_live e old new result (turned.quiet given cs es is quiet t lasts its makes same) =
     ap (λ (x : StateData). x.live) makes.state ∙ applied-live cs old.state (turn_still old.state e given cs es t)
 turned_live e old new result (turned.called k given cs es rest is t lasts entries makes told) =
-    ap (λ (x : StateData). x.live) makes.state ∙ applied-live cs old.state (turn_still old.state e (Answer given) cs es t)
-turned_live e old new result (turned.unstored k given is size alone makes told) = ap (λ (x : StateData). x.live) makes.state
+    ap (λ (x : StateData). x.live) makes.state ∙ applied-live cs old.state
+    (turn_still old.state e (Answer given) cs es t)
+turned_live e old new result (turned.unstored k given is size alone makes told) = ap
+    (λ (x : StateData). x.live) makes.state
 turned_live e old new result (turned.unmade is same) = ap (λ (x : StateData). x.live) same.state
 turned_live e old new result (turned.idle is none same) = ap (λ (x : StateData). x.live) same.state
 turned_live e old new result (turned.lost is none same) = ap (λ (x : StateData). x.live) same.state

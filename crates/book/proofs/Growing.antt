@@ -47,7 +47,8 @@ uncalled_note _ (turned e lost) = tt
 
 module _ (first : StateData) (origin : Cloud) where
   -- a step that tells of no call
-  pub grows_silently : (s t : StateData) (h i es : List Entry) (cs : List Change) (c d : Cloud) → IsKept first origin s h c
+  pub grows_silently : (s t : StateData) (h i es : List Entry) (cs : List Change) (c d : Cloud)
+      → IsKept first origin s h c
       → (step : Step s cs es) → IsTiedStep unjudged s cs es step → AreUncalling es → t ≡ applied cs s → i ≡ h ++ es
       → IsAsBefore c d → IsKept first origin t i d
   grows_silently s t h i es cs c d kept step tied silent is_t is_i same = record {
@@ -56,7 +57,8 @@ module _ (first : StateData) (origin : Cloud) where
     none = kept.none;
     run = goes_on unjudged s t cs h es i kept.run step (here unjudged unjudged [] refl) tied is_t is_i;
     agrees = subst (λ (k : List Entry). Allows (state_of origin) k d) (sym is_i)
-        (silence_allows (opening_at first origin) h c d kept.agrees es silent (λ token. state-stays token c d same.stays));
+        (silence_allows (opening_at first origin) h c d kept.agrees es silent
+        (λ token. state-stays token c d same.stays));
     trace = same.trace ∙ kept.trace
         ∙ ap (λ (xs : List Traced). origin.trace ++ xs)
         (sym (ap calls_of is_i ∙ calls_of-append h es
@@ -64,28 +66,31 @@ module _ (first : StateData) (origin : Cloud) where
   }
 
   -- a step that tells of one call, first
-  pub grows_by_call : (s t : StateData) (h i es rest : List Entry) (cs : List Change) (c d : Cloud) (actor : Actor) (token : Token)
-      (asked : Request) (given : Answered) → IsKept first origin s h c → (step : Step s cs es) → IsTiedStep unjudged s cs es step
+  pub grows_by_call : (s t : StateData) (h i es rest : List Entry) (cs : List Change) (c d : Cloud) (actor : Actor)
+      (token : Token)
+      (asked : Request) (given : Answered) → IsKept first origin s h c → (step : Step s cs es)
+      → IsTiedStep unjudged s cs es step
       → es ≡ entry_of actor (what.Call token asked given) ∷ rest → AreUncalling rest → t ≡ applied cs s → i ≡ h ++ es
       → Answers token asked given c d → d.trace ≡ c.trace ++ Called token asked given ∷ []
       → IsKept first origin t i d
-  grows_by_call s t h i es rest cs c d actor token asked given kept step tied is_es silent is_t is_i answers trace = record {
-    engines = kept.engines;
-    opens = kept.opens;
-    none = kept.none;
-    run = goes_on unjudged s t cs h es i kept.run step (here unjudged unjudged [] refl) tied is_t is_i;
-    agrees = subst (λ (k : List Entry). Allows (state_of origin) k d) (sym told_is)
-        (call_allows (opening_at first origin) h c d kept.agrees rest actor token asked given silent answers);
-    trace = trace ∙ ap (λ (xs : List Traced). xs ++ Called token asked given ∷ []) kept.trace
-        ∙ append_assoc origin.trace (calls_of h) (Called token asked given ∷ [])
-        ∙ ap (λ (xs : List Traced). origin.trace ++ xs) (sym calls_are);
-  } where
-    told_is : i ≡ h ++ entry_of actor (what.Call token asked given) ∷ rest
-    told_is = is_i ∙ ap (λ (xs : List Entry). h ++ xs) is_es
+  grows_by_call s t h i es rest cs c d actor token asked given kept step tied is_es silent is_t is_i answers trace =
+      record {
+        engines = kept.engines;
+        opens = kept.opens;
+        none = kept.none;
+        run = goes_on unjudged s t cs h es i kept.run step (here unjudged unjudged [] refl) tied is_t is_i;
+        agrees = subst (λ (k : List Entry). Allows (state_of origin) k d) (sym told_is)
+            (call_allows (opening_at first origin) h c d kept.agrees rest actor token asked given silent answers);
+        trace = trace ∙ ap (λ (xs : List Traced). xs ++ Called token asked given ∷ []) kept.trace
+            ∙ append_assoc origin.trace (calls_of h) (Called token asked given ∷ [])
+            ∙ ap (λ (xs : List Traced). origin.trace ++ xs) (sym calls_are);
+      } where
+        told_is : i ≡ h ++ entry_of actor (what.Call token asked given) ∷ rest
+        told_is = is_i ∙ ap (λ (xs : List Entry). h ++ xs) is_es
 
-    calls_are : calls_of i ≡ calls_of h ++ Called token asked given ∷ []
-    calls_are = ap calls_of told_is ∙ calls_of-append h (entry_of actor (what.Call token asked given) ∷ rest)
-        ∙ ap (λ (xs : List Traced). calls_of h ++ Called token asked given ∷ xs) (calls_of-silent rest silent)
+        calls_are : calls_of i ≡ calls_of h ++ Called token asked given ∷ []
+        calls_are = ap calls_of told_is ∙ calls_of-append h (entry_of actor (what.Call token asked given) ∷ rest)
+            ∙ ap (λ (xs : List Traced). calls_of h ++ Called token asked given ∷ xs) (calls_of-silent rest silent)
 
   -- nothing has changed
   pub stays : (s t : StateData) (h i : List Entry) (c d : Cloud) → IsKept first origin s h c
@@ -97,7 +102,8 @@ module _ (first : StateData) (origin : Cloud) where
     run = subst (λ (x : StateData). Run registries first x i) (sym is_t)
         (subst (λ (k : List Entry). Run registries first s k) (sym is_i) kept.run);
     agrees = subst (λ (k : List Entry). Allows (state_of origin) k d) (sym is_i)
-        (λ token. subst (λ (x : TokenState). Contains (could (state_of origin) h token) x) (sym (state-stays token c d same.stays)) (kept.agrees token));
+        (λ token. subst (λ (x : TokenState). Contains (could (state_of origin) h token) x)
+        (sym (state-stays token c d same.stays)) (kept.agrees token));
     trace = same.trace ∙ kept.trace ∙ ap (λ (k : List Entry). origin.trace ++ calls_of k) (sym is_i);
   }
 
@@ -109,7 +115,8 @@ module _ (first : StateData) (origin : Cloud) where
       (uncalled_note it noted, tt) refl is_i (unasked c)
 
   -- an opened book
-  pub kept_at_first : (n : _) (s : StateData) (h : List Entry) (c : Cloud) → first ≡ opened n → HasNone origin → s ≡ first → h ≡ [] → origin ≡ c
+  pub kept_at_first : (n : _) (s : StateData) (h : List Entry) (c : Cloud) → first ≡ opened n → HasNone origin
+      → s ≡ first → h ≡ [] → origin ≡ c
       → IsKept first origin s h c
   kept_at_first n s h c opens none is_s is_h same = record {
     engines = n;

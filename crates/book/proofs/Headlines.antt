@@ -16,14 +16,17 @@ use Rattle.book.specs.Kept.{HasHeadline, IsKept, Shown, registries}
 filled : {A : Type 0} (xs : List A) (x : A) → Contains xs x → xs ≢ []
 filled xs x among is = let c = subst (λ (ys : List _). Contains ys x) is among in absurd (omega (arith, c.1))
 
-module _ (first : StateData) (origin : Cloud) (s : StateData) (h : List Entry) (c : Cloud) (kept : IsKept first origin s h c) where
+module _ (first : StateData) (origin : Cloud) (s : StateData) (h : List Entry) (c : Cloud)
+    (kept : IsKept first origin s h c) where
   -- each token is in one of its states
   pub possible : IsPossible (opening_at first origin) h
   possible t = filled (could_of (opening_at first origin) h t) (state_of c t) (kept.agrees t)
 
   first_sound : Sound (opening_at first origin) [] first
-  first_sound = subst (λ (all : List Alive). Sound (record { state = first; alive = all; leaving = origin.leaving }) [] first) (sym kept.none)
-      (subst (λ (x : StateData). Sound (record { state = x; alive = []; leaving = origin.leaving }) [] x) (sym kept.opens)
+  first_sound = subst (λ (all : List Alive). Sound
+      (record { state = first; alive = all; leaving = origin.leaving }) [] first) (sym kept.none)
+      (subst (λ (x : StateData). Sound (record { state = x; alive = []; leaving = origin.leaving }) [] x)
+      (sym kept.opens)
       (empty_is_sound kept.engines origin.leaving))
 
   pub sound : Sound (opening_at first origin) h s

@@ -48,12 +48,15 @@ module _ (o : Opening) (h : List Entry) (c d : Cloud) (allows : Allows (first_of
   silence_allows es silent rests t = rw (could-silent o h es t silent, rests t) (allows t)
 
   -- one call, whose answer the cloud gave
-  pub call_allows : (rest : List Entry) (actor : Actor) (token : Token) (asked : Request) (given : Answered) → AreUncalling rest
+  pub call_allows : (rest : List Entry) (actor : Actor) (token : Token) (asked : Request) (given : Answered)
+      → AreUncalling rest
       → Answers token asked given c d
       → Allows (first_of o) (h ++ entry_of actor (what.Call token asked given) ∷ rest) d
   call_allows rest actor token asked given silent answers t = elim (token_or_not t token) [
-    | inl is ↦ subst (λ (x : Token). Contains (could_of o (h ++ entry_of actor (what.Call token asked given) ∷ rest) x) (state_of d x)) (sym is)
+    | inl is ↦ subst (λ (x : Token). Contains
+        (could_of o (h ++ entry_of actor (what.Call token asked given) ∷ rest) x) (state_of d x)) (sym is)
         (rw (could_here o h rest actor token asked given silent)
         (fold-keeps c d token asked given (could_of o h token) answers (allows token)))
-    | inr ne ↦ rw (could_else o h rest actor t token asked given (λ is. ne (sym is)) silent, answers.others t ne) (allows t)
+    | inr ne ↦ rw (could_else o h rest actor t token asked given (λ is. ne (sym is)) silent, answers.others t ne)
+        (allows t)
   ]

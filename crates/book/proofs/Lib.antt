@@ -12,3 +12,4 @@ pub mod Calling
 pub mod Engined
 pub mod Doing
 pub mod Beginnings
+pub mod LostAlone

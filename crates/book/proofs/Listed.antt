@@ -10,7 +10,8 @@ use Rattle.book.specs.Openings.{HasStranger}
 use Rattle.book.specs.declared.opening.Opened.TheVariants as answered
 
 -- the first of a list is a stranger
-pub stranger_at : (all : List Alive) (a : Alive) (old new : Cloud) → Lists all old new → slice_get all 0 ≡ Some a → HasStranger a.token old new
+pub stranger_at : (all : List Alive) (a : Alive) (old new : Cloud) → Lists all old new → slice_get all 0 ≡ Some a
+    → HasStranger a.token old new
 stranger_at [] a old new lists at = cc
 stranger_at (x ∷ xs) a old new lists at =
     let same : x ≡ a = cc in record { first = x; rest = xs; listed = lists; its_token = ap-token same }
@@ -27,10 +28,12 @@ pub none_listed : (all : List Alive) (old new : Cloud) → Lists all old new →
 none_listed all old new lists is = lists.stays.alive ∙ (sym lists.all_of_them ∙ is)
 
 -- an opening's answer has its parts
-pub same_cloud : {P : Type 0} (p q : P) (t u : Token) → ◌≡◌ {A = answered.the_data P} (answered.Disagree p t) (answered.Disagree q u) → p ≡ q
+pub same_cloud : {P : Type 0} (p q : P) (t u : Token) → ◌≡◌ {A = answered.the_data P} (answered.Disagree p t)
+    (answered.Disagree q u) → p ≡ q
 same_cloud p q t u is = cc
 
-pub same_stranger : {P : Type 0} (p q : P) (t u : Token) → ◌≡◌ {A = answered.the_data P} (answered.Disagree p t) (answered.Disagree q u) → t ≡ u
+pub same_stranger : {P : Type 0} (p q : P) (t u : Token) → ◌≡◌ {A = answered.the_data P} (answered.Disagree p t)
+    (answered.Disagree q u) → t ≡ u
 same_stranger p q t u is = cc
 
 pub same_book : {P : Type 0} (a b : Shown P) → ◌≡◌ {A = answered.the_data P} (answered.Book a) (answered.Book b) → a ≡ b

@@ -46,7 +46,8 @@ uncalling_mark actor (Some st) cause = (tt, tt)
 -- rows, and then mail
 uncalling_writes : (e : ℕ) (ws : List RowWrite) (m : MailWrite) (ms : List MailWrite)
     → AreUncalling (rows_entry (Engine e) ws ++ mail_entry (Engine e) (m ∷ ms))
-uncalling_writes e ws m ms = uncalling-both (rows_entry (Engine e) ws) (mail_entry (Engine e) (m ∷ ms)) (uncalling_rows (Engine e) ws) (tt, tt)
+uncalling_writes e ws m ms = uncalling-both (rows_entry (Engine e) ws) (mail_entry (Engine e) (m ∷ ms))
+    (uncalling_rows (Engine e) ws) (tt, tt)
 
 module _ (s : StateData) (e : ℕ) where
   uncalling_fate : (k : Begins s e) (props : _) (fate : Fate) → AreUncalling (part.fate_entries s e k props fate)
@@ -64,16 +65,21 @@ module _ (s : StateData) (e : ℕ) where
   uncalling_lot j trav (Retained r) = (tt, (tt, (tt, tt)))
   uncalling_lot j trav (Deleted r) = (tt, (tt, tt))
 
-  finish_silent : (k : Finishes s e) (mark : List Entry) → AreUncalling mark → AreUncalling (finished_entries s e k mark)
+  finish_silent : (k : Finishes s e) (mark : List Entry) → AreUncalling mark → AreUncalling
+      (finished_entries s e k mark)
   finish_silent k mark h =
-      uncalling-both (rows_entry (Engine e) (unlock_writes k.fresh.row)) (mail_entry (Engine e) (Ended e ∷ map Sent (ready_letters s e k)) ++ mark)
+      uncalling-both (rows_entry (Engine e) (unlock_writes k.fresh.row))
+      (mail_entry (Engine e) (Ended e ∷ map Sent (ready_letters s e k)) ++ mark)
       (uncalling_rows (Engine e) (unlock_writes k.fresh.row))
       (uncalling-both (mail_entry (Engine e) (Ended e ∷ map Sent (ready_letters s e k))) mark (tt, tt) h)
 
-  fail_silent : (r : Row) (letters : List Letter) (failed : Option Stack) (reason : Why) → AreUncalling (failed_entries e r letters failed reason)
+  fail_silent : (r : Row) (letters : List Letter) (failed : Option Stack) (reason : Why) → AreUncalling
+      (failed_entries e r letters failed reason)
   fail_silent r letters failed reason =
-      uncalling-both (rows_entry (Engine e) (Set (failed_row r) ∷ [])) (mail_entry (Engine e) (Ended e ∷ map Sent letters) ++ failed_mark (Engine e) failed (cause_at r reason))
-      (tt, tt) (uncalling-both (mail_entry (Engine e) (Ended e ∷ map Sent letters)) (failed_mark (Engine e) failed (cause_at r reason))
+      uncalling-both (rows_entry (Engine e) (Set (failed_row r) ∷ []))
+      (mail_entry (Engine e) (Ended e ∷ map Sent letters) ++ failed_mark (Engine e) failed (cause_at r reason))
+      (tt, tt) (uncalling-both (mail_entry (Engine e) (Ended e ∷ map Sent letters))
+      (failed_mark (Engine e) failed (cause_at r reason))
       (tt, tt) (uncalling_mark (Engine e) failed (cause_at r reason)))
 
   told : (es fs : List Entry) → es ≡ fs → AreUncalling fs → AreUncalling es
@@ -84,12 +90,16 @@ module _ (s : StateData) (e : ℕ) where
       → Part s e kind given f cs es → AreUncalling es
   part_silent _ _ _ cs es quiet (drops l _ _ t i c d) = told es _ d (tt, tt)
   part_silent _ _ _ cs es quiet (takes k _ _ free c d) =
-      told es _ d (uncalling_writes e (lock_writes k.meant.fresh.row e) (Dropped k.letter.no) (Held (taken_job s e k) ∷ []))
+      told es _ d (uncalling_writes e (lock_writes k.meant.fresh.row e) (Dropped k.letter.no)
+      (Held (taken_job s e k) ∷ []))
   part_silent _ _ _ cs es quiet (steals k f j _ _ h n c d) =
-      told es _ d (uncalling_writes e (lock_writes k.meant.fresh.row e) (Dropped k.letter.no) (Ended f ∷ Held (taken_job s e k) ∷ []))
-  part_silent _ _ _ cs es quiet (overruns j stage _ _ w k c d) = told es _ d (uncalling_writes e (unlock_writes k.row) (Ended e) (map Sent k.letters))
+      told es _ d (uncalling_writes e (lock_writes k.meant.fresh.row e) (Dropped k.letter.no)
+      (Ended f ∷ Held (taken_job s e k) ∷ []))
+  part_silent _ _ _ cs es quiet (overruns j stage _ _ w k c d) = told es _ d
+      (uncalling_writes e (unlock_writes k.row) (Ended e) (map Sent k.letters))
   part_silent _ _ _ cs es quiet (faults k code path failed _ _ falls c d) =
-      told es _ d (uncalling-both (left_entries e k.row) (failed_mark (Engine e) failed (fault_of k.item.name k.row.no code path))
+      told es _ d (uncalling-both (left_entries e k.row)
+      (failed_mark (Engine e) failed (fault_of k.item.name k.row.no code path))
       (tt, (tt, tt)) (uncalling_mark (Engine e) failed (fault_of k.item.name k.row.no code path)))
   part_silent _ _ _ cs es quiet (prepares k props effect fate _ _ x c d) = told es _ d (uncalling_fate k props fate)
   part_silent _ _ _ cs es quiet (clears k row lot _ _ at x c d) = told es _ d (uncalling_lot k.job k.stack.trav lot)
@@ -97,12 +107,14 @@ module _ (s : StateData) (e : ℕ) where
   part_silent _ _ _ cs es quiet (waits k asked _ _ a c d) = absurd (quiet _ refl)
   part_silent _ _ _ cs es quiet (readies k facts _ _ a c d) = absurd (quiet _ refl)
   part_silent _ _ _ cs es quiet (goes k _ _ a c d) = absurd (quiet _ refl)
-  part_silent _ _ _ cs es quiet (refuses stage k asked g reason letters failed _ _ a x falls c d) = absurd (quiet _ refl)
+  part_silent _ _ _ cs es quiet (refuses stage k asked g reason letters failed _ _ a x falls c d) = absurd
+      (quiet _ refl)
   part_silent _ _ _ cs es quiet (ends k _ _ n c d) =
       told es _ d (finish_silent k [] tt)
   part_silent _ _ _ cs es quiet (settles k _ _ y c d) =
       told es _ d (finish_silent k (complete_mark (Engine e) k.fresh.stack ∷ []) (tt, tt))
-  part_silent _ _ _ cs es quiet (relieves f j _ _ t k c d) = told es _ d (uncalling_writes e (unlock_writes k.row) (Ended f) (map Sent k.letters))
+  part_silent _ _ _ cs es quiet (relieves f j _ _ t k c d) = told es _ d
+      (uncalling_writes e (unlock_writes k.row) (Ended f) (map Sent k.letters))
   part_silent _ _ _ cs es quiet (relays f k _ _ c d) =
       told es _ d (uncalling_writes e (unlock_writes k.fresh.row) (Ended f) (map Sent (relayed_letter s e f k ∷ [])))
 
@@ -123,13 +135,49 @@ module _ (s : StateData) (e : ℕ) where
   part_calls : (kind : Kind) (given : Answered) (f : Option Stack) (cs : List Change) (es : List Entry)
       → Part s e kind (Answer given) f cs es → FirstCall given es
   part_calls _ _ _ cs es (begins k asked _ _ a c d) =
-      record { stage = Asking; calls = k; asked = asked; asks = asked_at.asks asked a; rest = onward_entries e k.job Polling; entries = d; silent = (tt, tt) }
+      record {
+        stage = Asking;
+        calls = k;
+        asked = asked;
+        asks = asked_at.asks asked a;
+        rest =
+            onward_entries e k.job Polling;
+        entries = d;
+        silent = (tt, tt);
+      }
   part_calls _ _ _ cs es (waits k asked _ _ a c d) =
-      record { stage = Polling; calls = k; asked = asked; asks = asked_at.polls asked a; rest = []; entries = d; silent = tt }
+      record {
+        stage = Polling;
+        calls = k;
+        asked = asked;
+        asks = asked_at.polls asked a;
+        rest = [];
+        entries =
+            d;
+        silent = tt;
+      }
   part_calls _ _ _ cs es (readies k facts _ _ a c d) =
-      record { stage = Polling; calls = k; asked = request.Poll; asks = asked_at.polls request.Poll (polls a); rest = begun_entries e k.job Ending (ready_row k.row facts); entries = d; silent = (tt, (tt, tt)) }
+      record {
+        stage = Polling;
+        calls = k;
+        asked = request.Poll;
+        asks = asked_at.polls request.Poll (polls a);
+        rest =
+            begun_entries e k.job Ending (ready_row k.row facts);
+        entries = d;
+        silent = (tt, (tt, tt));
+      }
   part_calls _ _ _ cs es (goes k _ _ a c d) =
-      record { stage = Polling; calls = k; asked = request.Gone; asks = asked_at.polls request.Gone (looks a); rest = purged_entries e k.job k.row; entries = d; silent = (tt, (tt, tt)) }
+      record {
+        stage = Polling;
+        calls = k;
+        asked = request.Gone;
+        asks = asked_at.polls request.Gone (looks a);
+        rest =
+            purged_entries e k.job k.row;
+        entries = d;
+        silent = (tt, (tt, tt));
+      }
   part_calls _ _ _ cs es (refuses stage k asked g reason letters failed _ _ a x falls c d) = record {
     stage = stage;
     calls = k;
@@ -140,30 +188,36 @@ module _ (s : StateData) (e : ℕ) where
     silent = fail_silent k.row letters failed reason;
   }
 
-  laid_silent : (t : StateData) (st : Stack) (cs : List Change) (es : List Entry) → FollowsFailure t e st cs es → AreUncalling es
+  laid_silent : (t : StateData) (st : Stack) (cs : List Change) (es : List Entry) → FollowsFailure t e st cs es
+      → AreUncalling es
   laid_silent t st cs es k = told es _ k.entries (laid_uncalling t k.failed.name _ _ k.lays)
 
   -- a turn that nobody answered tells of no call
-  pub turn_silent : (given : Given) (cs : List Change) (es : List Entry) → IsQuiet given → Turn s e given cs es → AreUncalling es
+  pub turn_silent : (given : Given) (cs : List Change) (es : List Entry) → IsQuiet given → Turn s e given cs es
+      → AreUncalling es
   turn_silent given cs es quiet t = by a.whole where
     a : ByMove s e given cs es
     a = by_move s e given cs es t
 
     first : AreUncalling a.firsts
-    first = let p = placed s e given a.failed a.first a.firsts a.move in part_silent p.kind given a.failed a.first a.firsts quiet p.part
+    first = let p = placed s e given a.failed a.first a.firsts a.move in
+        part_silent p.kind given a.failed a.first a.firsts quiet p.part
 
     by : Whole s e a.failed a.first a.firsts cs es → AreUncalling es
     by (stops p c d) = told es _ d first
-    by (follows st last lasts is due k c d) = told es _ d (uncalling-both a.firsts lasts first (laid_silent _ st last lasts k))
+    by (follows st last lasts is due k c d) = told es _ d
+        (uncalling-both a.firsts lasts first (laid_silent _ st last lasts k))
 
   -- one that was answered tells of its call first
-  pub turn_calls : (given : Answered) (cs : List Change) (es : List Entry) → Turn s e (Answer given) cs es → FirstCall given es
+  pub turn_calls : (given : Answered) (cs : List Change) (es : List Entry) → Turn s e (Answer given) cs es
+      → FirstCall given es
   turn_calls given cs es t = by a.whole where
     a : ByMove s e (Answer given) cs es
     a = by_move s e (Answer given) cs es t
 
     first : FirstCall given a.firsts
-    first = let p = placed s e (Answer given) a.failed a.first a.firsts a.move in part_calls p.kind given a.failed a.first a.firsts p.part
+    first = let p = placed s e (Answer given) a.failed a.first a.firsts a.move in
+        part_calls p.kind given a.failed a.first a.firsts p.part
 
     by : Whole s e a.failed a.first a.firsts cs es → FirstCall given es
     by (stops p c d) = subst (FirstCall given) (sym d) first

@@ -56,10 +56,12 @@ asks_by r _ (deletes is) P a b c = c is
 
 -- and so it isn't at INIT or ROLLBACK
 pub never_init : (r : Row) (asked : Request) → Asks r asked → r.act ≢ Init
-never_init r asked asks is = asks_by r asked asks (λ a. ⊥) (λ i. let e = sym is ∙ i in cc) (λ i. let e = sym is ∙ i in cc) (λ i. let e = sym is ∙ i in cc)
+never_init r asked asks is = asks_by r asked asks (λ a. ⊥) (λ i. let e = sym is ∙ i in cc)
+    (λ i. let e = sym is ∙ i in cc) (λ i. let e = sym is ∙ i in cc)
 
 pub never_rollback : (r : Row) (asked : Request) → Asks r asked → r.act ≢ Rollback
-never_rollback r asked asks is = asks_by r asked asks (λ a. ⊥) (λ i. let e = sym is ∙ i in cc) (λ i. let e = sym is ∙ i in cc) (λ i. let e = sym is ∙ i in cc)
+never_rollback r asked asks is = asks_by r asked asks (λ a. ⊥) (λ i. let e = sym is ∙ i in cc)
+    (λ i. let e = sym is ∙ i in cc) (λ i. let e = sym is ∙ i in cc)
 
 module _ (token : Token) (r : Row) (old new : Cloud) (result : Answer) where
   pub created_says : r.act ≡ Create
@@ -70,9 +72,17 @@ module _ (token : Token) (r : Row) (old new : Cloud) (result : Answer) where
       → (asked : Request) → Asks r asked → HasAsked token asked old new result
   created_says act begun quota failed memory asked asks = asks_by r asked asks (λ a. HasAsked token a old new result)
       (λ is. record {
-        begun = λ e. by_notes token _ answer.Begun old new (λ i. cc) ((calls-move old new token).create r.kind.name r.props (begun e)) (begun e).noted;
-        quota = λ e. (r.kind.name, r.props, refl, by_notes token _ answer.Quota old new (λ i. cc) ((calls-move old new token).quota r.kind.name r.props (quota e)) (quota e).noted);
-        failed = λ e. by_failure token _ old new ((calls-move old new token).create_failed r.kind.name r.props (failed e)) (failed e);
+        begun = λ e. by_notes token _ answer.Begun old new (λ i. cc)
+            ((calls-move old new token).create r.kind.name r.props (begun e)) (begun e).noted;
+        quota = λ e. (
+          r.kind.name,
+          r.props,
+          refl,
+          by_notes token _ answer.Quota old new (λ i. cc)
+              ((calls-move old new token).quota r.kind.name r.props (quota e)) (quota e).noted,
+        );
+        failed = λ e. by_failure token _ old new
+            ((calls-move old new token).create_failed r.kind.name r.props (failed e)) (failed e);
         memory = memory;
       })
       (λ is. let e = sym act ∙ is in cc) (λ is. let e = sym act ∙ is in cc)
@@ -83,12 +93,15 @@ module _ (token : Token) (r : Row) (old new : Cloud) (result : Answer) where
       → (result ≡ asked_for.Failed → HasFailed token (request.Update props) old new)
       → (result ≡ asked_for.Memory → IsAsBefore old new)
       → (asked : Request) → Asks r asked → HasAsked token asked old new result
-  updated_says act props props_are alive begun quota failed memory asked asks = asks_by r asked asks (λ a. HasAsked token a old new result)
+  updated_says act props props_are alive begun quota failed memory asked asks = asks_by r asked asks
+      (λ a. HasAsked token a old new result)
       (λ is. let e = sym act ∙ is in cc)
       (λ is. subst (λ (p : Members). HasAsked token (request.Update p) old new result) (sym props_are) (record {
-        begun = λ e. by_notes token _ answer.Begun old new (λ i. cc) ((calls-move old new token).update props (begun e)) (begun e).noted;
+        begun = λ e. by_notes token _ answer.Begun old new (λ i. cc)
+            ((calls-move old new token).update props (begun e)) (begun e).noted;
         quota = λ e. absurd (quota e);
-        failed = λ e. by_failure token _ old new ((calls-move old new token).update_failed props alive (failed e)) (failed e);
+        failed = λ e. by_failure token _ old new ((calls-move old new token).update_failed props alive (failed e))
+            (failed e);
         memory = memory;
       }))
       (λ is. let e = sym act ∙ is in cc)
@@ -102,7 +115,8 @@ module _ (token : Token) (r : Row) (old new : Cloud) (result : Answer) where
   deleted_says act begun quota failed memory asked asks = asks_by r asked asks (λ a. HasAsked token a old new result)
       (λ is. let e = sym act ∙ is in cc) (λ is. let e = sym act ∙ is in cc)
       (λ is. record {
-        begun = λ e. by_notes token _ answer.Begun old new (λ i. cc) ((calls-move old new token).delete (begun e)) (begun e).noted;
+        begun = λ e. by_notes token _ answer.Begun old new (λ i. cc) ((calls-move old new token).delete (begun e))
+            (begun e).noted;
         quota = λ e. absurd (quota e);
         failed = λ e. by_failure token _ old new ((calls-move old new token).delete_failed (failed e)) (failed e);
         memory = memory;
@@ -116,9 +130,12 @@ module _ (token : Token) (old new : Cloud) where
       → (result ≡ polled.Failed → HasFailed token request.Poll old new)
       → (result ≡ polled.Memory → IsAsBefore old new) → HasPolled token old new result
   poll_says result alive waits ready broken failed memory = record {
-    not_yet = λ e. by_notes token _ answer.NotYet old new (λ i. cc) ((calls-move old new token).not_yet alive (waits e)) (waits e).noted;
-    ready = λ facts e. by_notes token _ (answer.Ready facts) old new (λ i. cc) ((calls-move old new token).ready facts (ready facts e)) (ready facts e).noted;
-    broken = λ code e. by_notes token _ (answer.Broken code) old new (λ i. cc) ((calls-move old new token).broken code alive (broken code e)) (broken code e).noted;
+    not_yet = λ e. by_notes token _ answer.NotYet old new (λ i. cc)
+        ((calls-move old new token).not_yet alive (waits e)) (waits e).noted;
+    ready = λ facts e. by_notes token _ (answer.Ready facts) old new (λ i. cc)
+        ((calls-move old new token).ready facts (ready facts e)) (ready facts e).noted;
+    broken = λ code e. by_notes token _ (answer.Broken code) old new (λ i. cc)
+        ((calls-move old new token).broken code alive (broken code e)) (broken code e).noted;
     failed = λ e. by_failure token _ old new ((calls-move old new token).poll_failed alive (failed e)) (failed e);
     memory = memory;
   }
@@ -128,8 +145,10 @@ module _ (token : Token) (old new : Cloud) where
       → (result ≡ looked.Failed → HasFailed token request.Gone old new)
       → (result ≡ looked.Memory → IsAsBefore old new) → HasLooked token old new result
   look_says result gone lingers failed memory = record {
-    gone = λ e. by_notes token _ answer.Gone old new (λ i. cc) ((calls-move old new token).gone (gone e)) (gone e).noted;
-    not_yet = λ e. by_notes token _ answer.NotYet old new (λ i. cc) ((calls-move old new token).lingers (lingers e)) (lingers e).noted;
+    gone = λ e. by_notes token _ answer.Gone old new (λ i. cc) ((calls-move old new token).gone (gone e))
+        (gone e).noted;
+    not_yet = λ e. by_notes token _ answer.NotYet old new (λ i. cc) ((calls-move old new token).lingers (lingers e))
+        (lingers e).noted;
     failed = λ e. by_failure token _ old new ((calls-move old new token).gone_failed (failed e)) (failed e);
     memory = memory;
   }

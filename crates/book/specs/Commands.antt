@@ -1,5 +1,5 @@
 -- What a command makes of a book.
-use Rattle.std.specs.Prelude.{List, ℕ, ◌⊎◌, ◌≡◌}
+use Rattle.std.specs.Prelude.{List}
 use Rattle.heat_plan.specs.declared.refusal.Refusal.{Refusal}
 use Rattle.core_state.specs.State.{StateData}
 use Rattle.core_state.specs.declared.change.Change.{Change}

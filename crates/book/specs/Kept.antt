@@ -56,7 +56,8 @@ calls_of (e ∷ es) = call_of e.what ++ calls_of es
 
 -- The history is that of a run from an empty opening over an empty cloud; the cloud is in a state that the history
 -- allows, and its trace is the opening's, and then the history's calls.
-pub record IsKept (first : StateData) (origin : Cloud) (state : StateData) (entries : List Entry) (cloud : Cloud) : Type 0 where
+pub record IsKept (first : StateData) (origin : Cloud) (state : StateData) (entries : List Entry)
+    (cloud : Cloud) : Type 0 where
   pub engines : ℕ
   pub opens : first ≡ opened engines
   pub none : HasNone origin

@@ -2,7 +2,6 @@
 use Rattle.std.specs.Prelude.{length, ℕ, ◌≡◌, ◌≤◌}
 use Rattle.heat_plan.specs.declared.calls.Answered.{Answered}
 use Rattle.heat_plan.specs.declared.phase.Act.TheVariants.{Create}
-use Rattle.heat_plan.specs.declared.token.Token.{Token}
 use Rattle.row_table.specs.declared.row.Row.{Row}
 use Rattle.mail_table.specs.declared.mail.Stage.{Stage}
 use Rattle.core_state.specs.State.{StateData}

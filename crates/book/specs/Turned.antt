@@ -19,7 +19,7 @@ use Rattle.work_laws.specs.Found.{IsAskedAt}
 use Rattle.book.specs.Kept.{unjudged}
 use Rattle.book.specs.Scenes.{IsUnmade, Makes, Scene, Told}
 use Rattle.book.specs.declared.turning.Turn.TheVariants as turned
-use Rattle.book.specs.declared.turning.Turn.{Turn as Answered_turn}
+use Rattle.book.specs.declared.turning.Turn.{Turn as Turn_answer}
 
 -- nobody answered it
 abbrev pub IsQuiet : Given → Type 0
@@ -39,13 +39,14 @@ pub record IsWornBy (s : StateData) (e : ℕ) : Type 0 where
   pub wears : WearsOut s e given
 
 -- one turn of the engine e
-pub data Turned (e : ℕ) (old new : Scene) (result : Answered_turn) : Type 0 where
+pub data Turned (e : ℕ) (old new : Scene) (result : Turn_answer) : Type 0 where
   -- a step that asks nobody
   quiet : (given : Given) (cs : List Change) (es : List Entry) → result ≡ turned.Stepped → IsQuiet given
       → Turn old.state e given cs es → ¬ WearsOut old.state e given → IsTied unjudged old.state e given
       → Makes cs es old new → new.cloud ≡ old.cloud → Turned e old new result
   -- one request, and the step of its answer
-  called : (k : Requests old.state e) (given : Answered) (cs : List Change) (es rest : List Entry) → result ≡ turned.Stepped
+  called : (k : Requests old.state e) (given : Answered) (cs : List Change) (es rest : List Entry)
+      → result ≡ turned.Stepped
       → Turn old.state e (Answer given) cs es → ¬ WearsOut old.state e (Answer given)
       → es ≡ call_entry e k.calls.row k.asked given ∷ rest
       → Makes cs es old new → Told (token_of k.calls.row) k.asked given old.cloud new.cloud → Turned e old new result

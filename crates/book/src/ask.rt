@@ -1,5 +1,5 @@
-//! An engine's ask. All that any answer changes is made before the cloud is asked, so that no answer is
-//! lost for want of memory.
+//! An engine's ask. All that any answer changes is made before the cloud is asked, so that no
+//! answer is lost for want of memory.
 ghost use Rattle.std.specs.Prelude.{◌≡◌, IfOk, IfErr};
 ghost use Rattle.heat_plan.specs.declared.calls.Answered.TheVariants as answers;
 ghost use Rattle.heat_plan.specs.declared.phase.Act.TheVariants.{Create};
@@ -95,7 +95,8 @@ fn outcomes_of(alloc: Global, state: &State, e: EngineNo) -> Result<AskOutcomes,
 fn refused(alloc: Global, state: &State, e: EngineNo, row: &Row) -> Result<Made, Refusal>
     requires calls { Calls state.now.state e Asking }
     requires row { IsCalled state.now.state e row.now }
-    ensures made { IfOk result (λ m. row.now.act ≡ Create → IsAnswered state.now.state e answers.Quota m) }
+    ensures made { IfOk result (λ m. row.now.act ≡ Create
+        → IsAnswered state.now.state e answers.Quota m) }
     ensures cause { IfErr result (IsQuietRefusal state.now.state e) }
 {
     match row.act {

@@ -1,9 +1,11 @@
 //! The book: what it shows, and its calls.
-ghost use Rattle.std.specs.Prelude.{◌≡◌, ◌++◌, ◌∷◌, ◌↔◌, ◌-◌, ◌^◌, ◌≤◌, ◌<◌, [], ℕ, Bool, List, min, IsTrue, OnOk, OnErr, Contains};
+ghost use Rattle.std.specs.Prelude.{◌≡◌, ◌++◌, ◌∷◌, ◌↔◌, ◌-◌, ◌^◌, ◌≤◌, ◌<◌, [], ℕ, Bool, List};
+ghost use Rattle.std.specs.Prelude.{min, IsTrue, OnOk, OnErr, Contains};
 ghost use Rattle.heat_plan.specs.Plans.{PlanData};
 ghost use Rattle.heat_plan.specs.declared.token.Token.{Token as token_type};
 ghost use Rattle.core_state.specs.declared.entry.Actor.TheVariants.{Main};
-ghost use Rattle.step_relation.specs.Refusals.{RefusesCancel, RefusesCreate, RefusesDelete, RefusesEnlist, RefusesStop, RefusesUpdate};
+ghost use Rattle.step_relation.specs.Refusals.{RefusesCancel, RefusesCreate, RefusesDelete};
+ghost use Rattle.step_relation.specs.Refusals.{RefusesEnlist, RefusesStop, RefusesUpdate};
 ghost use Rattle.step_relation.specs.Steps.{IsNote};
 ghost use Rattle.command_steps.specs.Answers.{Cancels, Creates, Deletes, Updates};
 ghost use Rattle.takeover_steps.specs.Engines.{Enlists, Stops};
@@ -28,8 +30,8 @@ use std::alloc::{AllocError, Global};
 use std::marker::Model;
 use std::snapshot::Snapshot;
 
-/// The engine's state, its history since the opening, and the cloud. `origin` is the cloud as it stood
-/// when the opening had asked it, which contracts alone see.
+/// The engine's state, its history since the opening, and the cloud. `origin` is the cloud as it
+/// stood when the opening had asked it, which contracts alone see.
 pub struct Book<P: Provider> {
     alloc: Global,
     opening: State,
@@ -61,16 +63,18 @@ impl<P: Provider> Model for Book<P> {
 }
 
 impl<P: Provider> Book<P> {
-    /// Opens a book over a cloud that has nothing, with so many engines. The cloud is asked for its list,
-    /// once.
+    /// Opens a book over a cloud that has nothing, with so many engines. The cloud is asked for its
+    /// list, once.
     pub fn recover(alloc: Global, cloud: P, workers: u8) -> Opened<P>
         requires some { 1 ≤ workers }
         requires few { workers ≤ 64 }
         ensures book { (b : Shown P) → result ≡ Opened.Book b → HasOpened P.cloud workers cloud b }
         ensures disagree { (p : P) (token : token_type) → result ≡ Opened.Disagree p token
             → HasStranger token (P.cloud cloud) (P.cloud p) }
-        ensures fault { (p : P) → result ≡ Opened.CloudFault p → ListsNone (P.cloud cloud) (P.cloud p) }
-        ensures memory { (p : P) → result ≡ Opened.Memory p → IsAsBefore (P.cloud cloud) (P.cloud p) }
+        ensures fault { (p : P) → result ≡ Opened.CloudFault p
+            → ListsNone (P.cloud cloud) (P.cloud p) }
+        ensures memory { (p : P) → result ≡ Opened.Memory p
+            → IsAsBefore (P.cloud cloud) (P.cloud p) }
     {
         let Ok(opening) = opening_of(alloc, workers) else {
             return Opened::Memory(cloud);
@@ -118,13 +122,15 @@ impl<P: Provider> Book<P> {
 
     /// A command on a stack, by the reader of commands. Gives the traversal that was drawn.
     pub fn command(&mut self, c: StackCommand) -> Result<TravNo, Refusal>
-        ensures created { (name : List ℕ) (plan : PlanData) (rollback : Bool) → c ≡ StackCommand.Create name plan rollback
-            → Does (Creates self.old.state name plan rollback) (RefusesCreate self.old.state name plan rollback)
-            self.old.state.next.trav
+        ensures created { (name : List ℕ) (plan : PlanData) (rollback : Bool)
+            → c ≡ StackCommand.Create name plan rollback
+            → Does (Creates self.old.state name plan rollback)
+            (RefusesCreate self.old.state name plan rollback) self.old.state.next.trav
             (page self.old.state self.old.entries) (page self.new.state self.new.entries) result }
-        ensures updated { (name : List ℕ) (plan : PlanData) (rollback : Bool) → c ≡ StackCommand.Update name plan rollback
-            → Does (Updates self.old.state name plan rollback) (RefusesUpdate self.old.state name plan rollback)
-            self.old.state.next.trav
+        ensures updated { (name : List ℕ) (plan : PlanData) (rollback : Bool)
+            → c ≡ StackCommand.Update name plan rollback
+            → Does (Updates self.old.state name plan rollback)
+            (RefusesUpdate self.old.state name plan rollback) self.old.state.next.trav
             (page self.old.state self.old.entries) (page self.new.state self.new.entries) result }
         ensures deleted { (name : List ℕ) → c ≡ StackCommand.Delete name
             → Does (Deletes self.old.state name) (RefusesDelete self.old.state name)
@@ -180,8 +186,8 @@ impl<P: Provider> Book<P> {
         Ok(())
     }
 
-    /// What every book keeps: its history is that of a run, which the cloud has followed, and the main
-    /// theorem holds of it. It does nothing.
+    /// What every book keeps: its history is that of a run, which the cloud has followed, and the
+    /// main theorem holds of it. It does nothing.
     pub fn promises(&self)
         ensures run { HasRun P.cloud self.now }
         ensures headline { HasHeadline P.cloud self.now }

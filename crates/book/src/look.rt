@@ -1,5 +1,5 @@
-//! An engine's question whether a resource that was sent away is gone. The steps of all answers are made
-//! before the cloud is asked.
+//! An engine's question whether a resource that was sent away is gone. The steps of all answers are
+//! made before the cloud is asked.
 ghost use Rattle.std.specs.Prelude.{◌≡◌, IfOk, IfErr};
 ghost use Rattle.heat_plan.specs.declared.phase.Act.TheVariants.{Delete};
 ghost use Rattle.mail_table.specs.declared.mail.Stage.TheVariants.{Polling};

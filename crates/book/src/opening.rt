@@ -11,8 +11,8 @@ use heat_plan::{EngineNo, Token};
 use provider::Provider;
 use std::alloc::{AllocError, Global};
 
-/// A book; or the cloud, where its list has a resource, whose token is told, where it didn't answer, or
-/// where there was no memory.
+/// A book; or the cloud, where its list has a resource, whose token is told, where it didn't
+/// answer, or where there was no memory.
 pub enum Opened<P: Provider> {
     Book(Book<P>),
     Disagree(P, Token),
@@ -33,7 +33,8 @@ pub(crate) fn opening_of(alloc: Global, workers: u8) -> Result<State, AllocError
 
 // No stack and no engine, where the numbers of so many are drawn.
 fn numbered(alloc: Global, workers: u8) -> Result<State, AllocError>
-    ensures { IfOk result (λ s. s.state ≡ record bare { next = past_engines bare.next workers }) }
+    ensures { IfOk result (λ s.
+        s.state ≡ record bare { next = past_engines bare.next workers }) }
 {
     let mut state = State::new(alloc);
     state.reserve(1)?;

@@ -1,5 +1,5 @@
-//! An engine's poll. The steps of answers whose size is known are made before the cloud is asked. Where
-//! facts or a code come and there is no memory to store them, the call alone is told.
+//! An engine's poll. The steps of answers whose size is known are made before the cloud is asked.
+//! Where facts or a code come and there is no memory to store them, the call alone is told.
 ghost use Rattle.std.specs.Prelude.{◌≡◌, ◌≢◌, ◌<◌, ◌≤◌, OnErr, OnOk, IfOk, IfErr};
 ghost use Rattle.heat_plan.specs.declared.phase.Act.TheVariants.{Delete};
 ghost use Rattle.heat_plan.specs.declared.calls.Answered.TheVariants as answers;
@@ -26,7 +26,6 @@ use core_state::{Actor, Entry, Made, Roomed, State, What};
 use heat_plan::{Answered, EngineNo, Refusal, Request, Token};
 use provider::{Poll, Provider};
 use std::alloc::Global;
-use step_ends::a_lost_answer_is_a_step;
 use step_parts::token_of;
 
 /// The row's token, and the step for each answer whose size is known.
@@ -37,8 +36,8 @@ pub(crate) struct PollOutcomes {
     pub failed: Made,
 }
 
-/// Polls the resource of an engine's job, or asks whether it is gone where it was sent away, and makes the
-/// step of the answer.
+/// Polls the resource of an engine's job, or asks whether it is gone where it was sent away, and
+/// makes the step of the answer.
 pub(crate) fn poll_for<P: Provider>(
     alloc: Global,
     state: &mut State,
@@ -152,7 +151,6 @@ fn learn(
     ensures { HasLearned e answer
         (page state.old.state entries.old.items) (page state.new.state entries.new.items) result }
 {
-    a_lost_answer_is_a_step();
     match store(alloc, state, entries, e, &answer) {
         Ok(()) => Turn::Stepped,
         Err(_) => {

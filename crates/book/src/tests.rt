@@ -1,6 +1,6 @@
-//! Each answer of a create, a delete and a poll once, over a scripted cloud: how many turns are made, and
-//! which entries tell of them. Each call of a book succeeds with ample memory, and so does each of the
-//! steps that it makes.
+//! Each answer of a create, a delete and a poll once, over a scripted cloud: how many turns are
+//! made, and which entries tell of them. Each call of a book succeeds with ample memory, and so
+//! does each of the steps that it makes.
 ghost use Rattle.std.specs.Prelude.{◌≡◌, [], IfOk};
 
 use crate::{Book, Opened, StackCommand, Turn};
@@ -183,8 +183,8 @@ fn seen_over(alloc: Global, cloud: ScriptedCloud, commands: Vec<StackCommand>) -
     }
 }
 
-/// A name, the commands, the quota, the cloud's answers behind that to its list; how many turns are made,
-/// and what they tell.
+/// A name, the commands, the quota, the cloud's answers behind that to its list; how many turns are
+/// made, and what they tell.
 const CASES: &[(&str, &[u8], u32, &[u8], usize, &[u8])] = &[
     ("begun, ready", b"c", 1, b"000", 5, b"crmrmrm?m?rmrm+"),
     (

@@ -1,5 +1,5 @@
-//! A turn of an engine: the next step of its job, the taking of the lowest letter, or the take-over of a
-//! stopped engine's job.
+//! A turn of an engine: the next step of its job, the taking of the lowest letter, or the
+//! take-over of a stopped engine's job.
 ghost use Rattle.std.specs.Prelude.{◌≡◌, ◌<◌};
 ghost use Rattle.book.specs.Makings.{MadeQuietly};
 ghost use Rattle.book.specs.Quiet.{page};
@@ -19,9 +19,9 @@ use std::alloc::Global;
 use step_reads::{Task, next_of};
 use takeover_steps::takeover;
 
-/// What a turn came to. `Idle`: nothing was there to do. `Lost`: the engine isn't live. `Worn`: a number
-/// or a key would have come to 2^62. `Memory`: nothing has changed, but that a poll's answer may be told
-/// alone.
+/// What a turn came to. `Idle`: nothing was there to do. `Lost`: the engine isn't live. `Worn`: a
+/// number or a key would have come to 2^62. `Memory`: nothing has changed, but that a poll's
+/// answer may be told alone.
 #[derive(Clone, Copy, Debug, PartialEq, Eq)]
 pub enum Turn {
     Stepped,

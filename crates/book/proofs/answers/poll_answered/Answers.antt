@@ -6,4 +6,5 @@ use Rattle.book.proofs.answers.poll_answered.Goals as goal
 
 pub returns-clause-cause : goal.returns-clause-cause
 returns-clause-cause c = IfErr-weaker c.polled.result _ _
-    (λ r k. refusal_of c.args.state.now.state c.args.e (Answer c.args.answer.now) (answer c.args.answer.now) r k) c.polled.ensures.cause
+    (λ r k. refusal_of c.args.state.now.state c.args.e (Answer c.args.answer.now)
+    (answer c.args.answer.now) r k) c.polled.ensures.cause

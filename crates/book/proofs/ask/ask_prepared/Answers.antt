@@ -41,7 +41,8 @@ returns-in-Quota g c =
     answered _ c.args.e _ c.called_row.ensures _ _ _ _ _ _ answer.Quota _ (p.token ∙ ap token_of same)
     (p.quota (ap (λ (r : Row). r.act) same ∙ act))
     c.make_within-in-Quota.ensures.state c.make_within-in-Quota.ensures.entries
-    (λ r. let (kind_, props_, create_, told_) = (c.ask.ensures r.asked (asks_now _ c.args.e _ c.called_row.ensures k r)).quota c.in-Quota.is in told_)
+    (λ r. let (kind_, props_, create_, told_) =
+    (c.ask.ensures r.asked (asks_now _ c.args.e _ c.called_row.ensures k r)).quota c.in-Quota.is in told_)
 
 pub returns-in-Failed : goal.returns-in-Failed
 returns-in-Failed g c =

@@ -5,4 +5,5 @@ use Rattle.step_ends.specs.Answers.{quota}
 use Rattle.book.proofs.ask.refused.Goals as goal
 
 pub ask_answered-requires-clause-answer : goal.ask_answered-requires-clause-answer
-ask_answered-requires-clause-answer c k = quota (ap (λ (r : Row). r.act) (c.requires.row Asking k) ∙ c.in-Create.is) refl
+ask_answered-requires-clause-answer c k = quota
+    (ap (λ (r : Row). r.act) (c.requires.row Asking k) ∙ c.in-Create.is) refl

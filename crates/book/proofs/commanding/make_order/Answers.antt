@@ -7,18 +7,21 @@ use Rattle.book.proofs.commanding.make_order.Goals as goal
 
 pub unreachable-requires : goal.unreachable-requires
 unreachable-requires c =
-    let below = made_below _ _ c.order_of-made.result _ _ c.make_step.result (λ cs es k. drawn_below c.args.state.now.state c.args.command cs es k)
+    let below = made_below _ _ c.order_of-made.result _ _ c.make_step.result
+    (λ cs es k. drawn_below c.args.state.now.state c.args.command cs es k)
     c.order_of-made.ensures.made c.make_step.ensures c.in-Ok.is in
     no_number c.get.result c.args.state.now.state.next.trav
     (c.get.ensures.value ∙ ap (λ (n : Numbers). n.trav) c.next.ensures)
     (rw (← c.next.ensures) c.get.ensures.range.0) below c.in-None.ensures
 
 pub returns-in-Some : goal.returns-in-Some
-returns-in-Some c = does_of _ _ _ c.order_of-made.result _ _ c.make_step.result _ c.order_of-made.ensures.made c.order_of-made.ensures.cause
+returns-in-Some c = does_of _ _ _ c.order_of-made.result _ _ c.make_step.result _ c.order_of-made.ensures.made
+    c.order_of-made.ensures.cause
     c.make_step.ensures (λ is. rw (← c.next.ensures, ← c.get.ensures.value) (ap Ok c.in-Some.ensures.1))
     (λ r no_. absurd (not_both c.make_step.result _ r c.in-Ok.is no_))
 
 pub returns-in-Err : goal.returns-in-Err
-returns-in-Err c = does_of _ _ _ c.order_of-made.result _ _ c.make_step.result _ c.order_of-made.ensures.made c.order_of-made.ensures.cause
+returns-in-Err c = does_of _ _ _ c.order_of-made.result _ _ c.make_step.result _ c.order_of-made.ensures.made
+    c.order_of-made.ensures.cause
     c.make_step.ensures (λ yes_. absurd (not_both c.make_step.result _ _ yes_ c.in-Err.is))
     (λ r is. ap Err (same_refusal c.make_step.result _ r c.in-Err.is is))

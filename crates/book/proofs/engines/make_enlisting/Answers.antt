@@ -5,11 +5,13 @@ use Rattle.book.proofs.Doing.{does_of, not_both, same_refusal}
 use Rattle.book.proofs.engines.make_enlisting.Goals as goal
 
 pub returns-in-Some : goal.returns-in-Some
-returns-in-Some c = does_of _ _ _ c.enlist-made.result _ _ c.make_step.result _ c.enlist-made.ensures.made c.enlist-made.ensures.cause
+returns-in-Some c = does_of _ _ _ c.enlist-made.result _ _ c.make_step.result _ c.enlist-made.ensures.made
+    c.enlist-made.ensures.cause
     c.make_step.ensures (λ is. rw (← c.next.ensures, ← c.get.ensures.value) (ap Ok c.in-Some.ensures.1))
     (λ r no_. absurd (not_both c.make_step.result _ r c.in-Ok.is no_))
 
 pub returns-in-Err : goal.returns-in-Err
-returns-in-Err c = does_of _ _ _ c.enlist-made.result _ _ c.make_step.result _ c.enlist-made.ensures.made c.enlist-made.ensures.cause
+returns-in-Err c = does_of _ _ _ c.enlist-made.result _ _ c.make_step.result _ c.enlist-made.ensures.made
+    c.enlist-made.ensures.cause
     c.make_step.ensures (λ yes_. absurd (not_both c.make_step.result _ _ yes_ c.in-Err.is))
     (λ r is. ap Err (same_refusal c.make_step.result _ r c.in-Err.is is))

@@ -8,4 +8,5 @@ use Rattle.book.proofs.look.look_for.Goals as goal
 
 pub look_prepared-requires-clause-goes : goal.look_prepared-requires-clause-goes
 look_prepared-requires-clause-goes g c =
-    subst (λ (s : StateData). (k : Calls s c.args.e Polling) → k.row.act ≡ Delete) (sym c.prepare.ensures.state) c.requires.goes
+    subst (λ (s : StateData). (k : Calls s c.args.e Polling) → k.row.act ≡ Delete)
+    (sym c.prepare.ensures.state) c.requires.goes

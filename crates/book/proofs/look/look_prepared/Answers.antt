@@ -22,8 +22,10 @@ returns-in-Gone g c =
     let k = c.requires.calls in
     let p = c.requires.made in
     let goes : p.row.act ≡ Delete = ap (λ (r : Row). r.act) (sym (p.called Polling k)) ∙ c.requires.goes k in
-    answered _ c.args.e p.row p.called _ _ _ _ _ _ answer.Gone _ p.token p.gone c.make_within.ensures.state c.make_within.ensures.entries
-    (λ r. subst (λ (a : Request). Told c.args.outcomes.token a answer.Gone (g.P.Provider.cloud c.args.cloud.now) (g.P.Provider.cloud c.look.new.cloud))
+    answered _ c.args.e p.row p.called _ _ _ _ _ _ answer.Gone _ p.token p.gone c.make_within.ensures.state
+    c.make_within.ensures.entries
+    (λ r. subst (λ (a : Request). Told c.args.outcomes.token a answer.Gone (g.P.Provider.cloud c.args.cloud.now)
+    (g.P.Provider.cloud c.look.new.cloud))
     (sym (looks_now _ c.args.e p.row p.called k goes r)) (c.look.ensures.gone c.in-Gone.is))
 
 pub returns-in-NotYet : goal.returns-in-NotYet
@@ -33,7 +35,8 @@ returns-in-NotYet g c =
     let goes : p.row.act ≡ Delete = ap (λ (r : Row). r.act) (sym (p.called Polling k)) ∙ c.requires.goes k in
     answered _ c.args.e p.row p.called _ _ _ _ _ _ answer.NotYet _ p.token p.not_yet
     c.make_within-in-NotYet.ensures.state c.make_within-in-NotYet.ensures.entries
-    (λ r. subst (λ (a : Request). Told c.args.outcomes.token a answer.NotYet (g.P.Provider.cloud c.args.cloud.now) (g.P.Provider.cloud c.look.new.cloud))
+    (λ r. subst (λ (a : Request). Told c.args.outcomes.token a answer.NotYet (g.P.Provider.cloud c.args.cloud.now)
+    (g.P.Provider.cloud c.look.new.cloud))
     (sym (looks_now _ c.args.e p.row p.called k goes r)) (c.look.ensures.not_yet c.in-NotYet.is))
 
 pub returns-in-Failed : goal.returns-in-Failed
@@ -43,5 +46,6 @@ returns-in-Failed g c =
     let goes : p.row.act ≡ Delete = ap (λ (r : Row). r.act) (sym (p.called Polling k)) ∙ c.requires.goes k in
     answered _ c.args.e p.row p.called _ _ _ _ _ _ answer.Failed _ p.token p.failed
     c.make_within-in-Failed.ensures.state c.make_within-in-Failed.ensures.entries
-    (λ r. subst (λ (a : Request). Told c.args.outcomes.token a answer.Failed (g.P.Provider.cloud c.args.cloud.now) (g.P.Provider.cloud c.look.new.cloud))
+    (λ r. subst (λ (a : Request). Told c.args.outcomes.token a answer.Failed (g.P.Provider.cloud c.args.cloud.now)
+    (g.P.Provider.cloud c.look.new.cloud))
     (sym (looks_now _ c.args.e p.row p.called k goes r)) (c.look.ensures.failed c.in-Failed.is))

@@ -1,7 +1,8 @@
 -- The answer was stored, or the call alone is told.
-use Rattle.std.proofs.Common.{[], refl, ◌∙◌, ◌∷◌}
+use Rattle.std.proofs.Common.{refl, ◌∙◌}
 use Rattle.book.specs.Learning.{stored, told}
 use Rattle.book.proofs.Calling.{unworn}
+use Rattle.book.proofs.LostAlone.{lost_alone}
 use Rattle.book.proofs.poll.learn.Goals as goal
 
 pub returns-in-Ok : goal.returns-in-Ok
@@ -11,7 +12,8 @@ pub returns-in-Err : goal.returns-in-Err
 returns-in-Err c =
     let k = c.requires.calls in
     let (made, turn) = c.requires.failed in
-    told k (c.a_lost_answer_is_a_step.ensures _ c.args.e k c.args.answer (c.requires.stays k) c.requires.size made.changes made.entries
+    told k
+    (lost_alone _ c.args.e k c.args.answer (c.requires.stays k) c.requires.size made.changes made.entries
     turn.turn (unworn _ c.args.e _ made turn))
     (record {
       state = c.in-Err.ensures.same;

@@ -9,7 +9,8 @@ use Rattle.step_relation.specs.Asks.{Calls}
 use Rattle.book.proofs.poll.poll_for.Goals as goal
 
 pub look_for-requires-clause-goes : goal.look_for-requires-clause-goes
-look_for-requires-clause-goes g c k = ap (λ (r : Row). r.act) (c.called_row.ensures Polling k) ∙ c.if-is_sent_away.ensures.yes
+look_for-requires-clause-goes g c k = ap (λ (r : Row). r.act) (c.called_row.ensures Polling k)
+    ∙ c.if-is_sent_away.ensures.yes
 
 pub poll_prepared-requires-clause-stays : goal.poll_prepared-requires-clause-stays
 poll_prepared-requires-clause-stays g c =

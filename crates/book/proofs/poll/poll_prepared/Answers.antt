@@ -1,6 +1,6 @@
 -- The step of the answer is made, and the call is told.
-use Rattle.std.proofs.Common.{ap, arith, refl, subst, sym, ◌∙◌}
-use Rattle.std.specs.Prelude.{◌≡◌, ◌≢◌}
+use Rattle.std.proofs.Common.{ap, arith, subst, sym, ◌∙◌}
+use Rattle.std.specs.Prelude.{◌≢◌}
 use Rattle.heat_plan.specs.declared.calls.Answered.TheVariants as answer
 use Rattle.heat_plan.specs.declared.calls.Request.{Request}
 use Rattle.heat_plan.specs.declared.phase.Act.TheVariants.{Delete}
@@ -29,7 +29,8 @@ pub learn-requires-clause-size : goal.learn-requires-clause-size
 learn-requires-clause-size g c = lost.ready c.in-Ready.facts
 
 pub learn-requires-in-Broken-clause-token : goal.learn-requires-in-Broken-clause-token
-learn-requires-in-Broken-clause-token g c k = c.requires.made.token ∙ ap token_of (sym (c.requires.made.called Polling k))
+learn-requires-in-Broken-clause-token g c k = c.requires.made.token ∙ ap token_of
+    (sym (c.requires.made.called Polling k))
 
 pub learn-requires-in-Broken-clause-failed : goal.learn-requires-in-Broken-clause-failed
 learn-requires-in-Broken-clause-failed g c = (c.args.outcomes.failed, c.requires.made.failed)
@@ -42,8 +43,10 @@ returns-in-NotYet g c =
     let k = c.requires.calls in
     let p = c.requires.made in
     let stays : p.row.act ≢ Delete = λ d. c.requires.stays k (ap (λ (r : Row). r.act) (p.called Polling k) ∙ d) in
-    answered _ c.args.e p.row p.called _ _ _ _ _ _ answer.NotYet _ p.token p.not_yet c.make_within.ensures.state c.make_within.ensures.entries
-    (λ r. subst (λ (a : Request). Told c.args.outcomes.token a answer.NotYet (g.P.Provider.cloud c.args.cloud.now) (g.P.Provider.cloud c.poll.new.cloud))
+    answered _ c.args.e p.row p.called _ _ _ _ _ _ answer.NotYet _ p.token p.not_yet c.make_within.ensures.state
+    c.make_within.ensures.entries
+    (λ r. subst (λ (a : Request). Told c.args.outcomes.token a answer.NotYet (g.P.Provider.cloud c.args.cloud.now)
+    (g.P.Provider.cloud c.poll.new.cloud))
     (sym (polls_now _ c.args.e p.row p.called k stays r)) (c.poll.ensures.not_yet c.in-NotYet.is))
 
 pub returns-in-Failed : goal.returns-in-Failed
@@ -53,7 +56,8 @@ returns-in-Failed g c =
     let stays : p.row.act ≢ Delete = λ d. c.requires.stays k (ap (λ (r : Row). r.act) (p.called Polling k) ∙ d) in
     answered _ c.args.e p.row p.called _ _ _ _ _ _ answer.Failed _ p.token p.failed
     c.make_within-in-Failed.ensures.state c.make_within-in-Failed.ensures.entries
-    (λ r. subst (λ (a : Request). Told c.args.outcomes.token a answer.Failed (g.P.Provider.cloud c.args.cloud.now) (g.P.Provider.cloud c.poll.new.cloud))
+    (λ r. subst (λ (a : Request). Told c.args.outcomes.token a answer.Failed (g.P.Provider.cloud c.args.cloud.now)
+    (g.P.Provider.cloud c.poll.new.cloud))
     (sym (polls_now _ c.args.e p.row p.called k stays r)) (c.poll.ensures.failed c.in-Failed.is))
 
 pub returns-in-Ready : goal.returns-in-Ready
@@ -69,7 +73,8 @@ returns-in-Broken g c =
     let k = c.requires.calls in
     let p = c.requires.made in
     let stays : p.row.act ≢ Delete = λ d. c.requires.stays k (ap (λ (r : Row). r.act) (p.called Polling k) ∙ d) in
-    learned _ _ _ _ _ _ c.args.e p.row p.called _ _ _ p.token k stays (lost.broken c.in-Broken.code) c.learn-in-Broken.ensures
+    learned _ _ _ _ _ _ c.args.e p.row p.called _ _ _ p.token k stays
+    (lost.broken c.in-Broken.code) c.learn-in-Broken.ensures
     (c.poll.ensures.broken _ c.in-Broken.is)
 
 pub learn-requires-clause-page : goal.learn-requires-clause-page

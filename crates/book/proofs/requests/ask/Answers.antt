@@ -17,7 +17,8 @@ returns-in-Some g c = updated_says c.args.token.now c.args.row.now _ _ c.update.
 pub returns-in-None : goal.returns-in-None
 returns-in-None g c = updated_says c.args.token.now c.args.row.now _ _ c.update-in-None.result c.in-Update.is _
     (ap (λ (x : Option Members). unwrap_or x c.args.row.now.props) c.in-None.is) (c.requires.alive c.in-Update.is)
-    c.update-in-None.ensures.begun c.update-in-None.ensures.quota c.update-in-None.ensures.failed c.update-in-None.ensures.memory
+    c.update-in-None.ensures.begun c.update-in-None.ensures.quota c.update-in-None.ensures.failed
+    c.update-in-None.ensures.memory
 
 pub returns-in-Delete : goal.returns-in-Delete
 returns-in-Delete g c = deleted_says c.args.token.now c.args.row.now _ _ c.delete.result c.in-Delete.is

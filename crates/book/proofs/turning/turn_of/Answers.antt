@@ -6,14 +6,17 @@ use Rattle.book.proofs.QuietTurns.{nothing_made, nothing_refused, quietly}
 use Rattle.book.proofs.turning.turn_of.Goals as goal
 
 pub ask_for-requires-clause-calls : goal.ask_for-requires-clause-calls
-ask_for-requires-clause-calls g c = calling _ c.requires.sound.sound.standing c.args.e _ Asking asks c.in-Work.ensures c.in-Asking.is
+ask_for-requires-clause-calls g c = calling _ c.requires.sound.sound.standing c.args.e _ Asking asks c.in-Work.ensures
+    c.in-Asking.is
 
 pub poll_for-requires-clause-calls : goal.poll_for-requires-clause-calls
-poll_for-requires-clause-calls g c = calling _ c.requires.sound.sound.standing c.args.e _ Polling polls c.in-Work.ensures c.in-Polling.is
+poll_for-requires-clause-calls g c = calling _ c.requires.sound.sound.standing c.args.e _ Polling polls
+    c.in-Work.ensures c.in-Polling.is
 
 pub returns-in-Take : goal.returns-in-Take
 returns-in-Take g c = quietly c.args.e c.take-made.result _ _ _ _ _ _ c.make_quietly.ensures
-    (nothing_made _ _ c.take-made.result c.take-made.ensures.made) (nothing_refused _ _ c.take-made.result c.take-made.ensures.cause)
+    (nothing_made _ _ c.take-made.result c.take-made.ensures.made)
+    (nothing_refused _ _ c.take-made.result c.take-made.ensures.cause)
 
 pub returns-in-TakeOver : goal.returns-in-TakeOver
 returns-in-TakeOver g c = quietly c.args.e c.takeover-made.result _ _ _ _ _ _ c.make_quietly-in-TakeOver.ensures

@@ -7,4 +7,5 @@ use Rattle.book.proofs.book.Book.live.Goals as goal
 
 pub returns-clause-drawn : goal.returns-clause-drawn
 returns-clause-drawn g c e among = subst (λ (b : Shown g.row.P.Denot). e < b.state.next.engine) c.self.view_is
-    ((sound _ _ _ _ _ c.self.invariant).standing.links.numbered.live e (subst (λ (es : List ℕ). Contains es e) c.live.ensures among))
+    ((sound _ _ _ _ _ c.self.invariant).standing.links.numbered.live e
+    (subst (λ (es : List ℕ). Contains es e) c.live.ensures among))

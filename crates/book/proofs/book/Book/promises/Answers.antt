@@ -3,7 +3,8 @@ use Rattle.book.proofs.Headlines.{headline_of}
 use Rattle.book.proofs.book.Book.promises.Goals as goal
 
 pub returns-clause-run : goal.returns-clause-run
-returns-clause-run g c = rw (← c.self.view_is) (record { run = c.self.invariant.run; agrees = c.self.invariant.agrees; trace = c.self.invariant.trace })
+returns-clause-run g c = rw (← c.self.view_is)
+    (record { run = c.self.invariant.run; agrees = c.self.invariant.agrees; trace = c.self.invariant.trace })
 
 pub returns-clause-headline : goal.returns-clause-headline
 returns-clause-headline g c = rw (← c.self.view_is) (headline_of g.P.Provider.cloud _ c.self.invariant)

@@ -16,7 +16,8 @@ returns-then-not-is_empty-clause-disagree g c p token is =
     let cloud_is : c.list.new.self ≡ p = same_cloud _ _ _ _ is in
     subst (λ (x : g.row.P.Denot). HasStranger token (g.P.Provider.cloud c.args.cloud) (g.P.Provider.cloud x)) cloud_is
     (subst (λ (t : Token). HasStranger t (g.P.Provider.cloud c.args.cloud) (g.P.Provider.cloud c.list.new.self)) its
-    (stranger_at c.in-Got.all c.remove-first.result _ _ (c.list.ensures.got c.in-Got.all c.in-Got.is) c.remove-first.ensures.item))
+    (stranger_at c.in-Got.all c.remove-first.result _ _
+    (c.list.ensures.got c.in-Got.all c.in-Got.is) c.remove-first.ensures.item))
 
 pub invariant_of-result : goal.invariant_of-result
 invariant_of-result g c =
@@ -29,12 +30,15 @@ invariant_of-result g c =
 pub returns-else-not-is_empty-clause-book : goal.returns-else-not-is_empty-clause-book
 returns-else-not-is_empty-clause-book g c b is =
     let zero : length c.in-Got.all ≡ 0 = grind (arith, c.is_empty.ensures, c.if-not-is_empty.false) in
-    let lists = subst (λ (all : _). Lists all (g.P.Provider.cloud c.args.cloud) (g.P.Provider.cloud c.list.new.self)) (empty_by c.in-Got.all zero)
+    let lists = subst (λ (all : _). Lists all (g.P.Provider.cloud c.args.cloud) (g.P.Provider.cloud c.list.new.self))
+    (empty_by c.in-Got.all zero)
     (c.list.ensures.got c.in-Got.all c.in-Got.is) in
-    subst (λ (x : Shown g.row.P.Denot). HasOpened g.P.Provider.cloud c.args.workers c.args.cloud x) (same_book _ _ is) (record {
+    subst (λ (x : Shown g.row.P.Denot). HasOpened g.P.Provider.cloud c.args.workers c.args.cloud x) (same_book _ _ is)
+    (record {
       opening = c.in-Ok.ensures;
       state = c.in-Ok-copy.ensures ∙ c.in-Ok.ensures;
       entries = c.new.ensures;
       cloud_is = sym c.of-origin.ensures;
-      listed = subst (λ (x : Cloud). Lists [] (g.P.Provider.cloud c.args.cloud) x) (ap g.P.Provider.cloud (sym c.of-origin.ensures)) lists;
+      listed = subst (λ (x : Cloud). Lists [] (g.P.Provider.cloud c.args.cloud) x)
+          (ap g.P.Provider.cloud (sym c.of-origin.ensures)) lists;
     })

@@ -9,7 +9,8 @@ use Rattle.book.proofs.KeptTurned.{kept_turned}
 use Rattle.book.proofs.book.Book.turn.Goals as goal
 
 pub turn_of-requires-clause-drawn : goal.turn_of-requires-clause-drawn
-turn_of-requires-clause-drawn g c = subst (λ (b : Shown g.row.P.Denot). c.args.e < b.state.next.engine) (sym c.self.view_is) c.requires
+turn_of-requires-clause-drawn g c = subst (λ (b : Shown g.row.P.Denot). c.args.e < b.state.next.engine)
+    (sym c.self.view_is) c.requires
 
 pub turn_of-requires-clause-sound : goal.turn_of-requires-clause-sound
 turn_of-requires-clause-sound g c = record {
