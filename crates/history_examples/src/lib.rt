@@ -4,6 +4,7 @@
 
 ghost use Rattle.history_examples.specs.Completed.{IsCompleted, complete_before_clean_up};
 ghost use Rattle.history_examples.specs.Created.{IsCreated};
+ghost use Rattle.history_examples.specs.Deleted.{IsDeleted, marked_while_a_row_stands};
 ghost use Rattle.history_examples.specs.DeletedHalfway.{IsDeletedHalfway, marked_while_alive};
 ghost use Rattle.history_examples.specs.FailedFirst.{IsUpdatedAfterFailure, asked_of_what_may_be_absent};
 ghost use Rattle.history_examples.specs.Overtaken.{IsOvertaken, marked_though_overtaken};
@@ -95,6 +96,16 @@ pub fn a_stack_is_deleted_halfway()
 /// No run marks the delete complete while a resource is alive.
 pub fn no_delete_is_marked_at_once()
     ensures { IsNoRun marked_while_alive }
+{}
+
+/// The delete goes on: the overtaken job's late resource goes, then the one that it was to replace, then the stack.
+pub fn a_delete_is_completed()
+    ensures { IsDeleted }
+{}
+
+/// No run marks the delete complete while a row stands, whose resource is alive.
+pub fn no_delete_is_marked_while_a_row_stands()
+    ensures { IsNoRun marked_while_a_row_stands }
 {}
 
 /// A create fails and is rolled back to nothing, in one step.
