@@ -12,14 +12,16 @@ use Rattle.core_state.specs.Changes.{put_point}
 use Rattle.core_state.specs.Reads.{IsReady}
 use Rattle.core_state.specs.State.{StateData}
 use Rattle.core_state.specs.declared.change.Change.{Change}
-use Rattle.core_state.specs.declared.change.Change.TheVariants.{Drop, DropRow, DropStack, EndJob, PutJob, PutPoint, PutRow, PutStack, Send}
+use Rattle.core_state.specs.declared.change.Change.TheVariants.{Drop, DropRow, DropStack, EndJob, PutJob, PutPoint}
+use Rattle.core_state.specs.declared.change.Change.TheVariants.{PutRow, PutStack, Send}
 use Rattle.step_relation.specs.Asks.{Calls, by_failure, deletes, looks, marks}
 use Rattle.step_relation.specs.Cleanups.{Cleans}
 use Rattle.step_relation.specs.Finishes.{Finishes, Settles}
 use Rattle.step_relation.specs.Freshness.{IsFresh, IsMeant, plan_of}
 use Rattle.step_relation.specs.Given.{Nothing}
 use Rattle.step_relation.specs.Inputs.{AllDone}
-use Rattle.step_relation.specs.Moves.{ask_begun, ask_failed, clean_deleted, finish, finish_last, poll_failed, poll_gone, take_dropped, take_free}
+use Rattle.step_relation.specs.Moves.{ask_begun, ask_failed, clean_deleted, finish, finish_last, poll_failed, poll_gone}
+use Rattle.step_relation.specs.Moves.{take_dropped, take_free}
 use Rattle.step_relation.specs.Nexts.{TakesNext}
 use Rattle.step_relation.specs.Rows.{failed_row}
 use Rattle.step_relation.specs.Runs.{Judges, Run, nothing}
@@ -32,13 +34,19 @@ use Rattle.edge_laws.proofs.Keeping.{last_is, only_one}
 use Rattle.table_laws.proofs.Puts.{contains_head, contains_none}
 use Rattle.table_laws.proofs.Rows.{letter-key}
 use Rattle.history_examples.specs.Completed.{row_old}
-use Rattle.history_examples.specs.Deleted.{IsDeleted, between, complete_tells, deleted, drop_tells, dropped, first, first_asks, first_begins, first_cleaning, first_done, first_goes, first_going, first_gone, first_held, first_leaves, first_leaving, first_ready, first_takes, given, graph, history, marked_while_a_row_stands, second, second_done, second_ends, second_gone, until_dropped, until_first_gone, until_second_gone}
+use Rattle.history_examples.specs.Deleted.{IsDeleted, between, complete_tells, deleted, drop_tells, dropped, first}
+use Rattle.history_examples.specs.Deleted.{first_asks, first_begins, first_cleaning, first_done, first_goes}
+use Rattle.history_examples.specs.Deleted.{first_going, first_gone, first_held, first_leaves, first_leaving}
+use Rattle.history_examples.specs.Deleted.{first_ready, first_takes, given, graph, history, marked_while_a_row_stands}
+use Rattle.history_examples.specs.Deleted.{second, second_done, second_ends, second_gone, until_dropped}
+use Rattle.history_examples.specs.Deleted.{until_first_gone, until_second_gone}
 use Rattle.history_examples.specs.DeletedHalfway.{graph_three, stack_three}
 use Rattle.history_examples.specs.Setting.{facts, letter, living, opening, registries, stack_name, token}
 use Rattle.history_examples.specs.Spoiled.{IsNoRun}
 use Rattle.history_examples.proofs.Finds.{each_job, each_letter}
 use Rattle.history_examples.proofs.Lists.{lists_none, lists_one, not_done}
-use Rattle.history_examples.proofs.Possible.{begun_states, cleared_states, deleted_states, made_states, ready_states, some_cleared, some_deleted}
+use Rattle.history_examples.proofs.Possible.{begun_states, cleared_states, deleted_states, made_states, ready_states}
+use Rattle.history_examples.proofs.Possible.{some_cleared, some_deleted}
 use Rattle.history_examples.proofs.SecondGone.{second_leaves_cloud}
 use Rattle.history_examples.proofs.Spoiled.{no_run, runs_have_headline}
 use Rattle.history_examples.proofs.Steps.{by_call, by_turn}
@@ -227,7 +235,8 @@ first_asked = by_call first_leaving first_going (PutJob (first Polling) ∷ [])
 first_leaves_cloud : Run registries opening.state first_gone until_first_gone
 unfolding at put cut first_calls first_fresh
 first_leaves_cloud = by_call first_going first_gone (DropRow 1 ∷ PutJob (first Ending) ∷ [])
-    (((until_dropped ++ first_takes) ++ first_begins) ++ first_asks) first_goes first_asked refl 1 reply.Gone first_fails _
+    (((until_dropped ++ first_takes) ++ first_begins) ++ first_asks) first_goes first_asked refl 1 reply.Gone
+    first_fails _
     (plain None (poll_gone (first_calls Polling) _ _ refl refl refl) unfailed)
     (plain (Some stack_three) (poll_failed (first_calls Polling) request.Gone reply.Failed (why.Failed Delete) []
     (Some stack_three) _ _ (looks refl) (by_failure _) (marks (first_fresh Polling) refl) refl refl)
@@ -261,7 +270,8 @@ all_done (suc (suc i)) node is = cc
 
 run_deleted : Run registries opening.state deleted history
 unfolding at put cut put_point last_finishes
-run_deleted = by_turn first_gone deleted (EndJob 1 ∷ PutPoint first_done ∷ DropStack stack_name ∷ []) until_first_gone complete_tells
+run_deleted = by_turn first_gone deleted (EndJob 1 ∷ PutPoint first_done ∷ DropStack stack_name ∷ []) until_first_gone
+    complete_tells
     first_leaves_cloud refl 1 Nothing (λ a is. cc)
     (plain None (finish_last last_finishes _ _
     (record { all = all_done; unmarked = refl }) refl refl) unfailed) refl nothing

@@ -24,7 +24,8 @@ use Rattle.edge_laws.proofs.Keeping.{last_is}
 use Rattle.table_laws.proofs.Puts.{contains_head}
 use Rattle.table_laws.proofs.Rows.{same_some}
 use Rattle.history_examples.specs.Completed.{facts_two, row_made, row_old, row_ready}
-use Rattle.history_examples.specs.Deleted.{ask_tells, asked, freed, late, ready, ready_tells, release_tells, until_asked, until_freed, until_ready}
+use Rattle.history_examples.specs.Deleted.{ask_tells, asked, freed, late, ready, ready_tells, release_tells}
+use Rattle.history_examples.specs.Deleted.{until_asked, until_freed, until_ready}
 use Rattle.history_examples.specs.DeletedHalfway.{deleting, graph_three, history, stack_three}
 use Rattle.history_examples.specs.Setting.{letter, opening, registries, sized, stack_name}
 use Rattle.history_examples.specs.Updates.{open_point, row_two}

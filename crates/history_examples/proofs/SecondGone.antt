@@ -22,7 +22,9 @@ use Rattle.step_relation.specs.Turns.{plain, stays, unfailed}
 use Rattle.table_laws.proofs.Puts.{contains_head, contains_none}
 use Rattle.table_laws.proofs.Rows.{letter-key}
 use Rattle.history_examples.specs.Completed.{row_made}
-use Rattle.history_examples.specs.Deleted.{freed, second, second_asks, second_begins, second_cleaning, second_goes, second_going, second_gone, second_held, second_leaves, second_leaving, second_takes, until_freed, until_second_gone}
+use Rattle.history_examples.specs.Deleted.{freed, second, second_asks, second_begins, second_cleaning, second_goes}
+use Rattle.history_examples.specs.Deleted.{second_going, second_gone, second_held, second_leaves, second_leaving}
+use Rattle.history_examples.specs.Deleted.{second_takes, until_freed, until_second_gone}
 use Rattle.history_examples.specs.DeletedHalfway.{graph_three, stack_three}
 use Rattle.history_examples.specs.Setting.{letter, opening, registries}
 use Rattle.history_examples.specs.Updates.{open_point}
@@ -134,7 +136,8 @@ second_asked = by_call second_leaving second_going (PutJob (second Polling) ∷ 
 pub second_leaves_cloud : Run registries opening.state second_gone until_second_gone
 unfolding at put cut second_calls second_fresh
 second_leaves_cloud = by_call second_going second_gone (DropRow 2 ∷ PutJob (second Ending) ∷ [])
-    (((until_freed ++ second_takes) ++ second_begins) ++ second_asks) second_goes second_asked refl 1 reply.Gone second_fails _
+    (((until_freed ++ second_takes) ++ second_begins) ++ second_asks) second_goes second_asked refl 1 reply.Gone
+    second_fails _
     (plain None (poll_gone (second_calls Polling) _ _ refl refl refl) unfailed)
     (plain (Some stack_three) (poll_failed (second_calls Polling) request.Gone reply.Failed (why.Failed Delete) []
     (Some stack_three) _ _ (looks refl) (by_failure _) (marks (second_fresh Polling) refl) refl refl)

@@ -1,4 +1,5 @@
--- The delete goes on to its end: the overtaken job's late resource goes, then the one that it was to replace, then the stack.
+-- The delete goes on to its end: the overtaken job's late resource goes, then the one that it was to replace, then the
+-- stack.
 use Rattle.std.specs.Prelude.{List, None, Some, [], codes, true, ◌++◌, ◌∷◌, ◌≡◌}
 use Rattle.heat_plan.specs.declared.phase.Act.TheVariants.{Delete}
 use Rattle.heat_plan.specs.declared.phase.Status.TheVariants.{InProgress}
@@ -23,7 +24,8 @@ use Rattle.history.specs.Stored.{stored}
 use Rattle.soundness.specs.Headline.{Headline}
 use Rattle.history_examples.specs.Completed.{facts_two, row_made, row_old, row_ready}
 use Rattle.history_examples.specs.DeletedHalfway.{deleting, two_rows}
-use Rattle.history_examples.specs.Setting.{job, letter, mail_writes, opening, registries, row_writes, says, sized, stack_name, token}
+use Rattle.history_examples.specs.Setting.{job, letter, mail_writes, opening, registries, row_writes, says, sized}
+use Rattle.history_examples.specs.Setting.{stack_name, token}
 use Rattle.history_examples.specs.Updates.{open_point}
 use Rattle.heat_plan.specs.declared.calls.Answered.TheVariants as answer
 use Rattle.heat_plan.specs.declared.calls.Request.TheVariants as request
