@@ -1,5 +1,5 @@
 -- A candidate that is no edge would have closed a cycle: `only_cycles_are_left_out`.
-use Rattle.std.proofs.Common.{List, [], inl, inr, subst, sym, ℕ, ◌++◌, ◌∷◌, ◌≡◌, ◌⊎◌}
+use Rattle.std.proofs.Common.{List, [], inl, inr, subst, sym, ℕ, ◌∷◌, ◌≡◌, ◌⊎◌}
 use Rattle.std.specs.Prelude.{Contains}
 use Rattle.std.proofs.lemmas.List.Elements.{Contains-append_cases, Contains-append_left, Contains-append_right}
 use Rattle.dep_graph.specs.Paths.{HasPath}

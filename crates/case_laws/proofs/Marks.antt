@@ -1,10 +1,9 @@
 -- The case of `specs/Marks.antt`, by the law of moves through its constructor.
-use Rattle.std.proofs.Common.{None, refl, ℕ, ◌≡◌}
+use Rattle.std.proofs.Common.{None, refl, ℕ}
 use Rattle.traversal_graph.specs.declared.shape.Node.{Node}
 use Rattle.traversal_graph.specs.declared.shape.Node.TheVariants.{C, U}
 use Rattle.core_state.specs.Reads.{IsDone}
-use Rattle.core_state.specs.State.{StateData}
-use Rattle.step_relation.specs.Finishes.{Finishes, graph_then}
+use Rattle.step_relation.specs.Finishes.{graph_then}
 use Rattle.step_relation.specs.Given.{Nothing}
 use Rattle.step_relation.specs.Moves.{finish_last}
 use Rattle.step_relation.specs.Runs.{Judges, nothing}

@@ -1,5 +1,5 @@
 -- Single moves with their changes and entries written out: behind each what may be alive fits the rows.
-use Rattle.std.specs.Prelude.{List, Some, [], ℕ, ◌++◌, ◌∷◌, ◌≡◌, ◌≢◌}
+use Rattle.std.specs.Prelude.{List, Some, ℕ, ◌++◌, ◌∷◌, ◌≡◌, ◌≢◌}
 use Rattle.heat_value.specs.Data.{Members}
 use Rattle.heat_plan.specs.declared.item.Policy.TheVariants.{Retain}
 use Rattle.heat_plan.specs.declared.phase.Act.TheVariants.{Delete, Init, Update}

@@ -6,7 +6,8 @@ ghost use Rattle.case_laws.specs.Covers.{StaleEndTells, StaleTakeOverTells};
 ghost use Rattle.case_laws.specs.Edges.{OnlyCyclesAreLeftOut};
 ghost use Rattle.case_laws.specs.Graphs.{FinishFits, GivenUpFits, OverrunFits, ReplacementFits};
 ghost use Rattle.case_laws.specs.Jobs.{DeletedFits, ResumedFits};
-ghost use Rattle.case_laws.specs.Links.{DeleteIsLinked, LeavingIsLinked, ReleaseIsLinked, ReplacementIsLinked, StealIsLinked, TakenIsLinked};
+ghost use Rattle.case_laws.specs.Links.{DeleteIsLinked, LeavingIsLinked, ReleaseIsLinked};
+ghost use Rattle.case_laws.specs.Links.{ReplacementIsLinked, StealIsLinked, TakenIsLinked};
 ghost use Rattle.case_laws.specs.Marks.{CleanedIsMarked};
 ghost use Rattle.case_laws.specs.Rows.{BegunFits};
 ghost use Rattle.case_laws.specs.Tells.{GivenUpIsRetained, InPlaceAgrees, PurgeAgrees};
@@ -16,7 +17,8 @@ pub fn taken_is_linked()
     ensures { TakenIsLinked }
 {}
 
-/// Where a letter is taken whose row a stopped engine's job has, that job ends and the links are right.
+/// Where a letter is taken whose row a stopped engine's job has, that job ends and the links are
+/// right.
 pub fn steal_is_linked()
     ensures { StealIsLinked }
 {}

@@ -121,7 +121,7 @@ deletes : Command halfway delete_changes delete_tells
 unfolding at lays
 deletes = delete (stack_two 2 InProgress) lays refl refl refl
 
-run_deleting : Run registries opening.state deleting history
+pub run_deleting : Run registries opening.state deleting history
 unfolding at put
 run_deleting = by_command halfway deleting delete_changes until_halfway delete_tells run_halfway refl deletes refl
 

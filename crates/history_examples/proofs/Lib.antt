@@ -16,3 +16,6 @@ pub mod RolledBack
 pub mod Replaced
 pub mod Completed
 pub mod Undone
+pub mod Released
+pub mod SecondGone
+pub mod Deleted

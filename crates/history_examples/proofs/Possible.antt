@@ -99,3 +99,30 @@ pub some_undone : (called : Bool) → undone_states called ≢ []
 unfolding undone_states failed_states
 some_undone true is = cc
 some_undone false is = cc
+
+-- the second row's delete began, and it is gone
+unfoldable pub cleared_states : Bool → Bool → List TokenState
+cleared_states first second = if second then after_each request.Gone reply.Gone
+    (if second then after_each request.Delete reply.Begun (made_states first second) else made_states first second) else
+    (if second then after_each request.Delete reply.Begun (made_states first second) else made_states first second)
+
+pub some_cleared : (first second : Bool) → cleared_states first second ≢ []
+unfolding cleared_states made_states ready_states begun_states
+some_cleared true true is = cc
+some_cleared true false is = cc
+some_cleared false true is = cc
+some_cleared false false is = cc
+
+-- and so is the first one
+unfoldable pub deleted_states : Bool → Bool → List TokenState
+deleted_states first second = if first then after_each request.Gone reply.Gone
+    (if first then after_each request.Delete reply.Begun
+    (cleared_states first second) else cleared_states first second) else
+    (if first then after_each request.Delete reply.Begun (cleared_states first second) else cleared_states first second)
+
+pub some_deleted : (first second : Bool) → deleted_states first second ≢ []
+unfolding deleted_states cleared_states made_states ready_states begun_states
+some_deleted true true is = cc
+some_deleted true false is = cc
+some_deleted false true is = cc
+some_deleted false false is = cc

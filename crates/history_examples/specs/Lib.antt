@@ -10,3 +10,4 @@ pub mod DeletedHalfway
 pub mod RolledBack
 pub mod Completed
 pub mod Undone
+pub mod Deleted

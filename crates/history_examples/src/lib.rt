@@ -4,11 +4,15 @@
 
 ghost use Rattle.history_examples.specs.Completed.{IsCompleted, complete_before_clean_up};
 ghost use Rattle.history_examples.specs.Created.{IsCreated};
+ghost use Rattle.history_examples.specs.Deleted.{IsDeleted, marked_while_a_row_stands};
 ghost use Rattle.history_examples.specs.DeletedHalfway.{IsDeletedHalfway, marked_while_alive};
-ghost use Rattle.history_examples.specs.FailedFirst.{IsUpdatedAfterFailure, asked_of_what_may_be_absent};
+ghost use Rattle.history_examples.specs.FailedFirst.{IsUpdatedAfterFailure};
+ghost use Rattle.history_examples.specs.FailedFirst.{asked_of_what_may_be_absent};
 ghost use Rattle.history_examples.specs.Overtaken.{IsOvertaken, marked_though_overtaken};
 ghost use Rattle.history_examples.specs.RolledBack.{IsRolledBack, updated_by_an_engine};
-ghost use Rattle.history_examples.specs.Spoiled.{IsNoRun, RunsHaveHeadline, called_when_complete, marked_before_ready, marked_twice, purged_while_alive, released_without_retain};
+ghost use Rattle.history_examples.specs.Spoiled.{IsNoRun, RunsHaveHeadline, called_when_complete};
+ghost use Rattle.history_examples.specs.Spoiled.{marked_before_ready, marked_twice};
+ghost use Rattle.history_examples.specs.Spoiled.{purged_while_alive, released_without_retain};
 ghost use Rattle.history_examples.specs.TakenOver.{IsTakenOver, purged_at_the_take_over};
 ghost use Rattle.history_examples.specs.Undone.{IsUndone, marked_in_doubt};
 
@@ -47,7 +51,8 @@ pub fn none_is_released_without_retain()
     ensures { IsNoRun released_without_retain }
 {}
 
-/// An update overtakes the create between ask and poll: the old job ends, and the new traversal is told.
+/// An update overtakes the create between ask and poll: the old job ends, and the new traversal is
+/// told.
 pub fn an_update_overtakes()
     ensures { IsOvertaken }
 {}
@@ -57,7 +62,8 @@ pub fn no_overtaken_traversal_is_marked()
     ensures { IsNoRun marked_though_overtaken }
 {}
 
-/// The update that overtook goes on: the row is replaced, the old one cleaned up, and then the mark comes.
+/// The update that overtook goes on: the row is replaced, the old one cleaned up, and then the mark
+/// comes.
 pub fn an_overtaking_update_is_completed()
     ensures { IsCompleted }
 {}
@@ -87,7 +93,8 @@ pub fn no_failed_row_is_updated()
     ensures { IsNoRun asked_of_what_may_be_absent }
 {}
 
-/// A stack is deleted over a half-made replacement: the new row is to go before the one that it replaces.
+/// A stack is deleted over a half-made replacement: the new row is to go before the one that it
+/// replaces.
 pub fn a_stack_is_deleted_halfway()
     ensures { IsDeletedHalfway }
 {}
@@ -95,6 +102,17 @@ pub fn a_stack_is_deleted_halfway()
 /// No run marks the delete complete while a resource is alive.
 pub fn no_delete_is_marked_at_once()
     ensures { IsNoRun marked_while_alive }
+{}
+
+/// The delete goes on: the overtaken job's late resource goes, then the one that it was to replace,
+/// then the stack.
+pub fn a_delete_is_completed()
+    ensures { IsDeleted }
+{}
+
+/// No run marks the delete complete while a row stands, whose resource is alive.
+pub fn no_delete_is_marked_while_a_row_stands()
+    ensures { IsNoRun marked_while_a_row_stands }
 {}
 
 /// A create fails and is rolled back to nothing, in one step.
