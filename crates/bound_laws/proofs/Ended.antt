@@ -1,12 +1,11 @@
 -- What the end of a job leaves, with no mark, with the mark of a stack, and with a stack that goes.
-use Rattle.std.proofs.Common.{◌≡◌, ◌≢◌, ◌⊎◌, inl, inr, ◌<◌, ◌≤◌, ℕ, List, [], ◌∷◌, Option, Some, None, refl, sym, ap, subst, ◌∙◌, arith}
-use Rattle.std.specs.Prelude.{Contains, slice_get}
+use Rattle.std.proofs.Common.{◌≡◌, ◌≢◌, inl, inr, ℕ, List, ◌∷◌, Option, Some, None, refl, sym, ap, subst, ◌∙◌}
+use Rattle.std.specs.Prelude.{slice_get}
 use Rattle.heat_plan.specs.declared.phase.Act.{Act}
 use Rattle.heat_plan.specs.declared.phase.Act.TheVariants.{Create, Delete, Init, Rollback, Update}
 use Rattle.heat_plan.specs.declared.phase.Status.TheVariants.{Complete, InProgress}
 use Rattle.traversal_graph.specs.declared.shape.Node.{Node}
 use Rattle.traversal_graph.specs.declared.shape.TravGraph.{TravGraph}
-use Rattle.row_table.specs.Chains.{IsCurrent}
 use Rattle.row_table.specs.Rows.{row_at}
 use Rattle.row_table.specs.declared.row.Row.{Row}
 use Rattle.mail_table.specs.Mails.{cut_job, job_at}
@@ -14,7 +13,7 @@ use Rattle.mail_table.specs.declared.mail.Job.{Job}
 use Rattle.mail_table.specs.declared.mail.Letter.{Letter}
 use Rattle.core_state.specs.Changes.{applied}
 use Rattle.core_state.specs.Reads.{IsDone}
-use Rattle.core_state.specs.State.{StateData, cut_stack, graph_at, past_at, put_stack, stack_at}
+use Rattle.core_state.specs.State.{StateData, cut_stack, graph_at, put_stack, stack_at}
 use Rattle.core_state.specs.declared.graph.Graph.{Graph}
 use Rattle.core_state.specs.declared.stack.Stack.{Stack}
 use Rattle.step_relation.specs.Finishes.{Finishes, Settles, given_input, graph_then}
@@ -24,9 +23,8 @@ use Rattle.step_relation.specs.Writes.{mark_complete}
 use Rattle.soundness.specs.MailFits.{IsStale}
 use Rattle.soundness.specs.Sound.{Standing}
 use Rattle.table_laws.proofs.Facts.{job_fits}
-use Rattle.table_laws.proofs.Rows.{graph_cut, job_cut, past_kept, row-key, row_self, same_some, stack-key, stack_cut, stack_else, stack_here, stack_kept, stack_put, text_or_not}
+use Rattle.table_laws.proofs.Rows.{graph_cut, job_cut, past_kept, row_self, same_some, stack-key, stack_cut, stack_else, stack_here, stack_kept, stack_put, text_or_not}
 use Rattle.table_laws.proofs.Targets.{target_once}
-use Rattle.next_laws.proofs.Readings.{names_one}
 use Rattle.graph_laws.proofs.Finished.{between, its_stack, rows_then, v, written_else, written_here}
 use Rattle.graph_laws.proofs.Passed.{passed_is}
 use Rattle.link_laws.proofs.Points.{passed_done}

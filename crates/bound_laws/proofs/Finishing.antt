@@ -1,57 +1,44 @@
 -- The end of a job: its node is done, and for each letter that is sent a node is ready that wasn't.
-use Rattle.std.proofs.Common.{◌≡◌, ◌≢◌, ◌⊎◌, inl, inr, ◌<◌, ◌≤◌, ℕ, ◌+◌, ◌*◌, suc, Bool, true, false, ◌||◌, ◌==◌, List, [], ◌∷◌, length, map, Option, Some, None, refl, sym, ap, subst, ◌∙◌, arith}
+use Rattle.std.proofs.Common.{◌≡◌, ◌≢◌, ◌⊎◌, inl, inr, ◌<◌, ◌≤◌, ℕ, ◌+◌, suc, Bool, true, false, ◌||◌, ◌==◌, List, [], ◌∷◌, length, map, Option, Some, refl, sym, ap, subst, ◌∙◌, arith}
 use Rattle.std.specs.Prelude.{Contains, slice_get}
 use Rattle.heat_plan.specs.Plans.{PlanData}
-use Rattle.heat_plan.specs.declared.phase.Act.{Act}
-use Rattle.heat_plan.specs.declared.phase.Act.TheVariants.{Create, Delete, Init, Rollback, Update}
-use Rattle.heat_plan.specs.declared.phase.Status.TheVariants.{Complete, InProgress}
+use Rattle.heat_plan.specs.declared.phase.Status.TheVariants.{InProgress}
 use Rattle.heat_plan.specs.declared.token.Token.{Token}
 use Rattle.dep_graph.specs.Lists.{IsRising}
-use Rattle.traversal_graph.specs.declared.shape.Node.{Node}
 use Rattle.traversal_graph.specs.declared.shape.TravGraph.{TravGraph}
-use Rattle.row_table.specs.Chains.{IsCurrent}
-use Rattle.row_table.specs.Rows.{put_row, row_at}
-use Rattle.row_table.specs.declared.row.Row.{Row}
 use Rattle.sync_points.specs.declared.point.Input.{Input}
-use Rattle.sync_points.specs.declared.point.Point.{Point}
 use Rattle.mail_table.specs.Mails.{cut_job, job_at, letter_at}
 use Rattle.mail_table.specs.declared.mail.Job.{Job}
 use Rattle.mail_table.specs.declared.mail.Letter.{Letter}
 use Rattle.mail_table.specs.declared.mail.Stage.{Stage}
 use Rattle.mail_table.specs.declared.mail.Stage.TheVariants.{Asking, Ending, Polling, Taken}
-use Rattle.core_state.specs.Changes.{applied}
 use Rattle.core_state.specs.Reads.{IsDone, IsReady}
-use Rattle.core_state.specs.State.{StateData, cut_graph, cut_stack, graph_at, past_at, stack_at}
+use Rattle.core_state.specs.State.{StateData, graph_at, past_at, stack_at}
 use Rattle.core_state.specs.declared.graph.Graph.{Graph}
 use Rattle.core_state.specs.declared.past.Past.{Past}
 use Rattle.core_state.specs.declared.stack.Stack.{Stack}
-use Rattle.step_relation.specs.Finishes.{Finishes, Settles, finished_changes, given_input, graph_then, ready_letters}
+use Rattle.step_relation.specs.Finishes.{Finishes, given_input, graph_then, ready_letters}
 use Rattle.step_relation.specs.Freshness.{plan_of}
 use Rattle.step_relation.specs.Given.{Given}
 use Rattle.step_relation.specs.Inputs.{passed}
-use Rattle.step_relation.specs.Orders.{back_after, past_of, past_or, plan_back}
-use Rattle.step_relation.specs.Rows.{token_of, unlocked}
-use Rattle.step_relation.specs.Writes.{letter_to, letters_to, mark_complete}
-use Rattle.soundness.specs.GraphFits.{GraphFits, graph_of}
+use Rattle.step_relation.specs.Orders.{back_after, past_or}
+use Rattle.step_relation.specs.Writes.{letter_to, letters_to}
+use Rattle.soundness.specs.GraphFits.{GraphFits}
 use Rattle.soundness.specs.MailFits.{IsStale}
 use Rattle.soundness.specs.Sound.{Standing}
 use Rattle.table_laws.proofs.Facts.{job_fits, named_fits}
-use Rattle.table_laws.proofs.Rows.{graph_cut, job_cut, letter-key, past_kept, row-key, same_or_not, same_some, stack-key, stack_cut, stack_else, stack_here, stack_kept, stack_put, text_or_not}
-use Rattle.table_laws.proofs.Targets.{target_once}
+use Rattle.table_laws.proofs.Rows.{letter-key, stack-key, text_or_not}
 use Rattle.next_laws.proofs.Listings.{cons_cases, in_head, in_tail, no_member}
-use Rattle.next_laws.proofs.Readings.{names_one}
-use Rattle.graph_laws.proofs.Finished.{between, comes, its_stack, rows_then, v, written_else, written_here}
 use Rattle.graph_laws.proofs.Gathers.{node_at}
 use Rattle.graph_laws.proofs.Kept.{sent}
-use Rattle.graph_laws.proofs.Passed.{After, after_is, passed_is}
+use Rattle.graph_laws.proofs.Passed.{after_is, passed_is}
 use Rattle.letter_laws.proofs.Finished.{ready_still}
 use Rattle.letter_laws.proofs.Onward.{sent_found}
-use Rattle.link_laws.proofs.Points.{passed_done}
 use Rattle.bound_laws.specs.Bound.{IsWork, PollsFall}
 use Rattle.bound_laws.specs.Counts.{AreOnce}
-use Rattle.bound_laws.specs.Rolls.{MayRoll, RollItem, RollLetter, RollNode}
-use Rattle.bound_laws.specs.Work.{IsLetter, IsUnready}
-use Rattle.bound_laws.proofs.Forms.{RowForm, all_work, form_put, form_same, form_were, is_all, jobs_cut, may_or_not, own_gone}
+use Rattle.bound_laws.specs.Rolls.{MayRoll, RollLetter, RollNode}
+use Rattle.bound_laws.specs.Work.{IsUnready}
+use Rattle.bound_laws.proofs.Forms.{RowForm, form_were, is_all, jobs_cut, may_or_not, own_gone}
 use Rattle.bound_laws.proofs.Own.{ends_late, ends_left, ends_roll, ends_sum, other_polls, stage_sum}
 use Rattle.bound_laws.proofs.Rows.{far_falls, rows_fall}
 use Rattle.bound_laws.proofs.Sets.{at_most, some_fewer, some_more}
@@ -129,7 +116,14 @@ module _ (before after : Token → ℕ) (s : StateData) (e : ℕ) (given : Given
       undone = λ d. u.undone (subst (λ (y : Graph). IsDone y x.1) same (done_still g i (given_input s e k) k.succs x.1 d));
     })
     | inr ne ↦ record {
-      stack = o; graph = u.graph; node = u.node; in_table = at; its_graph = end.others x.0 u.graph ne u.its_graph; its_node = u.its_node; unready = u.unready; undone = u.undone;
+      stack = o;
+      graph = u.graph;
+      node = u.node;
+      in_table = at;
+      its_graph = end.others x.0 u.graph ne u.its_graph;
+      its_node = u.its_node;
+      unready = u.unready;
+      undone = u.undone;
     }
   ]
 
@@ -162,7 +156,7 @@ module _ (before after : Token → ℕ) (s : StateData) (e : ℕ) (given : Given
       let (node, at) = node_at g.graph.nodes y (fits.nodes.ends i y edge).1 in
       let undone_i = (job_fits s hs e k.job k.fresh.stack g k.fresh.node k.works.its k.fresh.names).undone in
       let unready_y : ¬ IsReady g y = λ r. let d = r i edge in
-          let stands = fits.inputs.stand y d.point d.input d.there d.among in undone_i (subst (IsDone g) d.from stands.done) in record {
+      let stands = fits.inputs.stand y d.point d.input d.there d.among in undone_i (subst (IsDone g) d.from stands.done) in record {
         stack = k.fresh.stack;
         graph = g;
         node = node;
@@ -234,19 +228,20 @@ module _ (before after : Token → ℕ) (s : StateData) (e : ℕ) (given : Given
   rolls_sum : b.rolls_are.letters + b.rolls_are.nodes ≤ a.rolls_are.letters + a.rolls_are.nodes
   rolls_sum = elim (may_or_not t own) [
     | inl rolls ↦ (let l = some_more b.rolls_are.letters_are a.rolls_are.letters_are numbers (λ x y. elim (found_then x y.letter y.at) [
-          | inl old ↦ inl (roll_was x y old)
-          | inr new ↦ inr (subst (Contains numbers) (letter-key t.letters x y.letter y.at) (in_numbers (ready_letters s e k) y.letter new))
-        ]) in
+      | inl old ↦ inl (roll_was x y old)
+      | inr new ↦ inr (subst (Contains numbers) (letter-key t.letters x y.letter y.at) (in_numbers (ready_letters s e k) y.letter new))
+    ]) in
         let r = some_fewer b.rolls_are.nodes_are a.rolls_are.nodes_are (places k.ready) (once_rising k.ready k.ready_are.rising) roll_node_was
-            (λ x c. let (y, at, is) = place_was k.ready x c in
-            (subst (RollNode s) (sym is) (record { stack = rolls.0; may = may own rolls.0 rolls.1; node = was_unready y at }),
-              λ u. isnt_unready y at (subst (IsUnready t) is u.node))) in
+        (λ x c. let (y, at, is) = place_was k.ready x c in (
+          subst (RollNode s) (sym is) (record { stack = rolls.0; may = may own rolls.0 rolls.1; node = was_unready y at }),
+          λ u. isnt_unready y at (subst (IsUnready t) is u.node),
+        )) in
         let c = count_is in let d = places_length k.ready in omega (arith, l, r, c, d))
     | inr never ↦ (let l = at_most b.rolls_are.letters_are a.rolls_are.letters_are (λ x y. elim (found_then x y.letter y.at) [
-          | inl old ↦ roll_was x y old
-          | inr new ↦ absurd (never y.stack (subst (λ (name : List ℕ). MayRoll t name y.stack)
-              (to_own k.fresh.stack s.next.letter k.ready y.letter new ∙ stack-key s.stacks own k.fresh.stack k.fresh.names.in_table) y.may))
-        ]) in
+      | inl old ↦ roll_was x y old
+      | inr new ↦ absurd (never y.stack (subst (λ (name : List ℕ). MayRoll t name y.stack)
+          (to_own k.fresh.stack s.next.letter k.ready y.letter new ∙ stack-key s.stacks own k.fresh.stack k.fresh.names.in_table) y.may))
+    ]) in
         let r = at_most b.rolls_are.nodes_are a.rolls_are.nodes_are roll_node_was in omega (arith, l, r))
   ]
 
@@ -263,7 +258,7 @@ module _ (before after : Token → ℕ) (s : StateData) (e : ℕ) (given : Given
       let others = other_polls before after s e given hs falls in
       let gone = own_gone s t e end.jobs in
       let rows = form_were s t end.rows in
-      let x0 = ends_sum before after s t hs ease e were rows others n m a b k.job k.works.its k.works.live gone k.job.stage refl in
+      let x0 = ends_sum before after s t hs e were rows others n m a b k.job k.works.its k.works.live gone k.job.stage refl in
       let x1 = ends_left before after s t hs ease e were rows others n m a b k.job k.works.its k.works.live gone in
       let x2 = ends_late before after s t hs ease e were rows others n m a b k.job k.works.its k.works.live gone in
       let x3 = ends_roll before after s t hs ease e were rows others n m a b k.job k.works.its gone in

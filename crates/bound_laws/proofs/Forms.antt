@@ -1,5 +1,5 @@
 -- How jobs and rows are written, as the counts see it.
-use Rattle.std.proofs.Common.{◌≡◌, ◌≢◌, ◌⊎◌, inl, inr, ◌<◌, ◌≤◌, ℕ, ◌+◌, ◌*◌, List, Bool, true, Option, Some, None, refl, sym, ap, subst, ◌∙◌, arith}
+use Rattle.std.proofs.Common.{◌≡◌, ◌⊎◌, inl, inr, ℕ, ◌+◌, ◌*◌, List, Option, Some, None, refl, sym, ap, subst, ◌∙◌, arith}
 use Rattle.std.specs.Prelude.{Contains}
 use Rattle.heat_plan.specs.declared.phase.Status.TheVariants.{InProgress}
 use Rattle.heat_plan.specs.declared.token.Token.{Token}

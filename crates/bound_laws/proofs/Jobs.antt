@@ -1,25 +1,21 @@
 -- What stands for jobs, where one engine's job begins, goes on or ends.
-use Rattle.std.proofs.Common.{◌≡◌, ◌≢◌, ◌⊎◌, inl, inr, ◌<◌, ◌≤◌, ℕ, zero, suc, ◌+◌, List, [], ◌∷◌, Option, Some, None, length, refl, sym, ap, subst, ◌∙◌, arith}
+use Rattle.std.proofs.Common.{◌≡◌, ◌≢◌, inl, inr, ◌<◌, ◌≤◌, ℕ, zero, suc, ◌+◌, List, [], ◌∷◌, Some, length, refl, sym, ap, subst, arith}
 use Rattle.std.specs.Prelude.{Contains}
 use Rattle.heat_plan.specs.declared.token.Token.{Token}
 use Rattle.row_table.specs.Rows.{row_at}
 use Rattle.row_table.specs.declared.row.Row.{Row}
 use Rattle.mail_table.specs.Mails.{job_at}
 use Rattle.mail_table.specs.declared.mail.Job.{Job}
-use Rattle.mail_table.specs.declared.mail.Letter.{Letter}
 use Rattle.mail_table.specs.declared.mail.Stage.{Stage}
-use Rattle.mail_table.specs.declared.mail.Stage.TheVariants.{Asking, Ending, Polling, Taken}
+use Rattle.mail_table.specs.declared.mail.Stage.TheVariants.{Polling}
 use Rattle.core_state.specs.State.{StateData}
-use Rattle.core_state.specs.declared.stack.Stack.{Stack}
-use Rattle.step_relation.specs.Given.{Given}
 use Rattle.step_relation.specs.Rows.{token_of}
 use Rattle.soundness.specs.Linked.{Links}
-use Rattle.soundness.specs.MailFits.{IsStale}
-use Rattle.table_laws.proofs.Rows.{row-key, same_or_not, same_some}
+use Rattle.table_laws.proofs.Rows.{same_or_not}
 use Rattle.next_laws.proofs.Listings.{cons_cases, in_head, in_tail, no_member}
-use Rattle.bound_laws.specs.Bound.{IsOwn, IsWork, PollsFall}
+use Rattle.bound_laws.specs.Bound.{IsWork}
 use Rattle.bound_laws.specs.Counts.{Counts}
-use Rattle.bound_laws.specs.Rolls.{MayRoll, RollJob}
+use Rattle.bound_laws.specs.Rolls.{RollJob}
 use Rattle.bound_laws.specs.Work.{IsAt, IsLate, IsLeft, IsPoll}
 use Rattle.bound_laws.proofs.Sets.{at_most, fewer, one_more, some_fewer, some_more}
 use Rattle.bound_laws.proofs.Still.{Eases}
@@ -34,19 +30,13 @@ pub record JobsWere (s t : StateData) (e : ℕ) : Type 0 where
 pub record RowsWere (s t : StateData) : Type 0 where
   pub were : (n : ℕ) (r : Row) → row_at t.rows n ≡ Some r → n < s.next.row → (o : Row) × (row_at s.rows n ≡ Some o) × (token_of r ≡ token_of o)
 
-module _ (before after : Token → ℕ) (s t : StateData) (ease : Eases s t) (e : ℕ) (jobs : JobsWere s t e) where
+module _ (before after : Token → ℕ) (s t : StateData) (e : ℕ) (jobs : JobsWere s t e) where
   -- the jobs of the others stand for as much
   pub at_was : (stage : Stage) (f : ℕ) → f ≢ e → IsAt stage t f → IsAt stage s f
   at_was stage f ne x = record { job = x.job; its = jobs.else_ f x.job x.its ne; live = jobs.live f x.live; stage_is = x.stage_is }
 
   pub left_was : (f : ℕ) → f ≢ e → IsLeft t f → IsLeft s f
   left_was f ne x = record { job = x.job; its = jobs.else_ f x.job x.its ne; stopped = λ live. x.stopped (jobs.alive f live) }
-
-  pub late_was : (f : ℕ) → f ≢ e → IsLate t f → IsLate s f
-  late_was f ne x = record { job = x.job; its = jobs.else_ f x.job x.its ne; live = jobs.live f x.live; stale = ease.late f x.job x.its (jobs.else_ f x.job x.its ne) x.stale }
-
-  pub roll_was : (f : ℕ) → f ≢ e → RollJob t f → RollJob s f
-  roll_was f ne x = record { job = x.job; its = jobs.else_ f x.job x.its ne; stack = x.stack; may = ease.may x.job.letter.stack x.stack x.may }
 
   module _ (n m : ℕ) (a : IsWork before s n) (b : IsWork after t m) where
     -- at a stage: no more, one fewer, one more at most
@@ -76,33 +66,6 @@ module _ (before after : Token → ℕ) (s t : StateData) (ease : Eases s t) (e 
       | inl is ↦ absurd (hasnt (subst (IsLeft t) is z))
       | inr ne ↦ left_was f ne z
     ]) e has hasnt
-
-    pub late_falls : (IsLate t e → IsLate s e) → b.late ≤ a.late
-    late_falls own = at_most b.late_are a.late_are (λ f z. elim (same_or_not f e) [
-      | inl is ↦ subst (IsLate s) (sym is) (own (subst (IsLate t) is z))
-      | inr ne ↦ late_was f ne z
-    ])
-
-    pub late_goes : IsLate s e → ¬ IsLate t e → b.late + 1 ≤ a.late
-    late_goes has hasnt = fewer b.late_are a.late_are (λ f z. elim (same_or_not f e) [
-      | inl is ↦ absurd (hasnt (subst (IsLate t) is z))
-      | inr ne ↦ late_was f ne z
-    ]) e has hasnt
-
-    pub roll_falls : (RollJob t e → RollJob s e) → b.rolls_are.jobs ≤ a.rolls_are.jobs
-    roll_falls own = at_most b.rolls_are.jobs_are a.rolls_are.jobs_are (λ f z. elim (same_or_not f e) [
-      | inl is ↦ subst (RollJob s) (sym is) (own (subst (RollJob t) is z))
-      | inr ne ↦ roll_was f ne z
-    ])
-
-    pub roll_goes : RollJob s e → ¬ RollJob t e → b.rolls_are.jobs + 1 ≤ a.rolls_are.jobs
-    roll_goes has hasnt = fewer b.rolls_are.jobs_are a.rolls_are.jobs_are (λ f z. elim (same_or_not f e) [
-      | inl is ↦ absurd (hasnt (subst (RollJob t) is z))
-      | inr ne ↦ roll_was f ne z
-    ]) e has hasnt
-
-    pub roll_comes : b.rolls_are.jobs ≤ a.rolls_are.jobs + 1
-    roll_comes = one_more b.rolls_are.jobs_are a.rolls_are.jobs_are e (λ f z. elim (same_or_not f e) [ inl is ↦ inr is | inr ne ↦ inl (roll_was f ne z) ])
 
     -- polls: those of the others stay or fall
     module _ (links : Links s) (rows : RowsWere s t) (own : (f : ℕ) (k : Job) (o : Row) → f ≢ e → job_at s.jobs f ≡ Some k → row_at s.rows k.row ≡ Some o
@@ -185,3 +148,39 @@ module _ (before after : Token → ℕ) (s t : StateData) (ease : Eases s t) (e 
         where
           paired : (x : ℕ × ℕ) → x.0 ≡ e → x ≡ (e, x.1)
           paired x is = let y : (x.0, x.1) ≡ (e, x.1) = ap (λ (f : ℕ). (f, x.1)) is in y
+
+module _ (before after : Token → ℕ) (s t : StateData) (ease : Eases s t) (e : ℕ) (jobs : JobsWere s t e) where
+  -- so do those that are late, and those that may roll
+  pub late_was : (f : ℕ) → f ≢ e → IsLate t f → IsLate s f
+  late_was f ne x = record { job = x.job; its = jobs.else_ f x.job x.its ne; live = jobs.live f x.live; stale = ease.late f x.job x.its (jobs.else_ f x.job x.its ne) x.stale }
+
+  pub roll_was : (f : ℕ) → f ≢ e → RollJob t f → RollJob s f
+  roll_was f ne x = record { job = x.job; its = jobs.else_ f x.job x.its ne; stack = x.stack; may = ease.may x.job.letter.stack x.stack x.may }
+
+  module _ (n m : ℕ) (a : IsWork before s n) (b : IsWork after t m) where
+    pub late_falls : (IsLate t e → IsLate s e) → b.late ≤ a.late
+    late_falls own = at_most b.late_are a.late_are (λ f z. elim (same_or_not f e) [
+      | inl is ↦ subst (IsLate s) (sym is) (own (subst (IsLate t) is z))
+      | inr ne ↦ late_was f ne z
+    ])
+
+    pub late_goes : IsLate s e → ¬ IsLate t e → b.late + 1 ≤ a.late
+    late_goes has hasnt = fewer b.late_are a.late_are (λ f z. elim (same_or_not f e) [
+      | inl is ↦ absurd (hasnt (subst (IsLate t) is z))
+      | inr ne ↦ late_was f ne z
+    ]) e has hasnt
+
+    pub roll_falls : (RollJob t e → RollJob s e) → b.rolls_are.jobs ≤ a.rolls_are.jobs
+    roll_falls own = at_most b.rolls_are.jobs_are a.rolls_are.jobs_are (λ f z. elim (same_or_not f e) [
+      | inl is ↦ subst (RollJob s) (sym is) (own (subst (RollJob t) is z))
+      | inr ne ↦ roll_was f ne z
+    ])
+
+    pub roll_goes : RollJob s e → ¬ RollJob t e → b.rolls_are.jobs + 1 ≤ a.rolls_are.jobs
+    roll_goes has hasnt = fewer b.rolls_are.jobs_are a.rolls_are.jobs_are (λ f z. elim (same_or_not f e) [
+      | inl is ↦ absurd (hasnt (subst (RollJob t) is z))
+      | inr ne ↦ roll_was f ne z
+    ]) e has hasnt
+
+    pub roll_comes : b.rolls_are.jobs ≤ a.rolls_are.jobs + 1
+    roll_comes = one_more b.rolls_are.jobs_are a.rolls_are.jobs_are e (λ f z. elim (same_or_not f e) [ inl is ↦ inr is | inr ne ↦ inl (roll_was f ne z) ])

@@ -10,3 +10,5 @@ pub mod Finishing
 pub mod Ended
 pub mod Onward
 pub mod Moving
+pub mod Rolling
+pub mod Turning

@@ -1,9 +1,7 @@
 -- The moves by kind, each with what it lowers: a job that goes on, ends, begins or is taken over.
-use Rattle.std.proofs.Common.{◌≡◌, ◌≢◌, ◌⊎◌, inl, inr, ◌<◌, ◌≤◌, ℕ, ◌+◌, ◌*◌, List, [], ◌∷◌, Option, Some, None, refl, sym, ap, subst, ◌∙◌, arith}
+use Rattle.std.proofs.Common.{◌≡◌, ◌≢◌, inl, inr, ◌<◌, ◌≤◌, ℕ, ◌+◌, List, Some, None, refl, sym, ap, subst, ◌∙◌, arith}
 use Rattle.std.specs.Prelude.{Contains}
 use Rattle.heat_plan.specs.declared.token.Token.{Token}
-use Rattle.row_table.specs.Rows.{row_at}
-use Rattle.row_table.specs.declared.row.Row.{Row}
 use Rattle.mail_table.specs.Mails.{cut_job, cut_letter, job_at, letter_at, put_job, put_letter}
 use Rattle.mail_table.specs.declared.mail.Job.{Job}
 use Rattle.mail_table.specs.declared.mail.Letter.{Letter}
@@ -15,16 +13,14 @@ use Rattle.step_relation.specs.Given.{Given}
 use Rattle.step_relation.specs.Rows.{token_of}
 use Rattle.soundness.specs.MailFits.{IsStale}
 use Rattle.soundness.specs.Sound.{Standing}
-use Rattle.table_laws.proofs.Rows.{job_cut, job_put, letter_cut, same_or_not, same_some}
+use Rattle.table_laws.proofs.Rows.{letter_cut}
 use Rattle.bound_laws.specs.Bound.{IsWork, PollsFall}
-use Rattle.bound_laws.specs.Counts.{Counts}
-use Rattle.bound_laws.specs.Rolls.{MayRoll, RollJob}
-use Rattle.bound_laws.specs.Work.{IsAt, IsLate, IsLeft, IsPoll}
-use Rattle.bound_laws.proofs.Forms.{RowForm, all_work, form_were, is_all, jobs_cut, jobs_put, jobs_same, jobs_stolen, may_or_not, own_gone, own_is}
-use Rattle.bound_laws.proofs.Jobs.{JobsWere, at_comes, at_falls, late_falls, left_falls, left_goes, left_was, polls_fall, roll_comes, roll_falls, roll_goes}
+use Rattle.bound_laws.specs.Rolls.{MayRoll}
+use Rattle.bound_laws.specs.Work.{IsAt}
+use Rattle.bound_laws.proofs.Forms.{RowForm, all_work, form_were, is_all, jobs_cut, jobs_put, jobs_same, may_or_not, own_gone, own_is}
+use Rattle.bound_laws.proofs.Jobs.{JobsWere, at_comes, at_falls, late_falls, left_falls, left_goes, polls_fall, roll_comes, roll_falls, roll_goes}
 use Rattle.bound_laws.proofs.Own.{ends_late, ends_left, ends_roll, ends_rolling, ends_stale, ends_sum, free_polls, goes_late, goes_left, goes_roll, job_sum, other_polls, stage_sum}
 use Rattle.bound_laws.proofs.Rows.{far_falls, rows_fall}
-use Rattle.bound_laws.proofs.Sets.{fewer}
 use Rattle.bound_laws.proofs.Still.{Still, eases_of, letter_comes, letter_goes, letters_fall, may_was, nodes_fall, roll_items_fall, roll_letter_beside, roll_letter_comes, roll_letter_goes, roll_letters_fall, roll_nodes_fall, stale_was}
 
 -- the letters that a release sends: none, or one to its stack
@@ -83,7 +79,7 @@ module _ (before after : Token → ℕ) (s t : StateData) (e : ℕ) (given : Giv
       let r = rest_of form in
       let l1 = letters_fall before after s t still n m a b (same_letters letters) in
       let l2 = roll_letters_fall before after s t still n m a b (same_letters letters) in
-      let x0 = ends_sum before after s t hs (eases_of s t still) e were (form_were s t form) others n m a b j its live gone j.stage refl in
+      let x0 = ends_sum before after s t hs e were (form_were s t form) others n m a b j its live gone j.stage refl in
       let x1 = ends_left before after s t hs (eases_of s t still) e were (form_were s t form) others n m a b j its live gone in
       let x2 = ends_late before after s t hs (eases_of s t still) e were (form_were s t form) others n m a b j its live gone in
       let x3 = ends_roll before after s t hs (eases_of s t still) e were (form_were s t form) others n m a b j its gone in
@@ -117,7 +113,7 @@ module _ (before after : Token → ℕ) (s t : StateData) (e : ℕ) (given : Giv
       let others = other_polls before after s e given hs falls in
       let gone = own_gone s t e jobs in
       let r = rest_of form in
-      let x0 = ends_sum before after s t hs (eases_of s t still) e were (form_were s t form) others n m a b j its live gone j.stage refl in
+      let x0 = ends_sum before after s t hs e were (form_were s t form) others n m a b j its live gone j.stage refl in
       let x1 = ends_left before after s t hs (eases_of s t still) e were (form_were s t form) others n m a b j its live gone in
       let x2 = ends_stale before after s t hs (eases_of s t still) e were (form_were s t form) others n m a b j its live gone old in
       let x3 = ends_roll before after s t hs (eases_of s t still) e were (form_were s t form) others n m a b j its gone in
@@ -141,11 +137,11 @@ module _ (before after : Token → ℕ) (s t : StateData) (e : ℕ) (given : Giv
       let gone = own_gone s t f jobs in
       let others = free_polls before after s e given none falls in
       let r = rest_of form in
-      let y1 = at_falls before after s t (eases_of s t still) f were n m a b Taken _ _ a.taken_are b.taken_are (λ x. absurd (gone x.job x.its)) in
-      let y2 = at_falls before after s t (eases_of s t still) f were n m a b Asking _ _ a.asking_are b.asking_are (λ x. absurd (gone x.job x.its)) in
-      let y3 = at_falls before after s t (eases_of s t still) f were n m a b Ending _ _ a.ending_are b.ending_are (λ x. absurd (gone x.job x.its)) in
-      let y4 = polls_fall before after s t (eases_of s t still) f were n m a b hs.links (form_were s t form) (λ g k o ne at found. others (token_of o)) (λ i p. absurd (gone p.at.job p.at.its)) in
-      let x1 = left_goes before after s t (eases_of s t still) f were n m a b (record { job = j; its = its; stopped = stopped }) (λ x. gone x.job x.its) in
+      let y1 = at_falls before after s t f were n m a b Taken _ _ a.taken_are b.taken_are (λ x. absurd (gone x.job x.its)) in
+      let y2 = at_falls before after s t f were n m a b Asking _ _ a.asking_are b.asking_are (λ x. absurd (gone x.job x.its)) in
+      let y3 = at_falls before after s t f were n m a b Ending _ _ a.ending_are b.ending_are (λ x. absurd (gone x.job x.its)) in
+      let y4 = polls_fall before after s t f were n m a b hs.links (form_were s t form) (λ g k o ne at found. others (token_of o)) (λ i p. absurd (gone p.at.job p.at.its)) in
+      let x1 = left_goes before after s t f were n m a b (record { job = j; its = its; stopped = stopped }) (λ x. gone x.job x.its) in
       let x2 = late_falls before after s t (eases_of s t still) f were n m a b (λ x. absurd (gone x.job x.its)) in
       let x3 = roll_falls before after s t (eases_of s t still) f were n m a b (λ x. absurd (gone x.job x.its)) in
       let both = shift j.letter.stack sends (λ st may. roll_goes before after s t (eases_of s t still) f were n m a b (record { job = j; its = its; stack = st; may = may }) (λ x. gone x.job x.its)) x3 in
@@ -161,11 +157,11 @@ module _ (before after : Token → ℕ) (s t : StateData) (e : ℕ) (given : Giv
       let others = free_polls before after s e given none falls in
       let no_job : (k : Job) → ¬ job_at t.jobs e ≡ Some k = λ k its. none_some k none (subst (λ (x : List Job). job_at x e ≡ Some k) jobs its) in
       let r = rest_of form in
-      let y1 = at_falls before after s t (eases_of s t still) e were n m a b Taken _ _ a.taken_are b.taken_are (λ x. absurd (no_job x.job x.its)) in
-      let y2 = at_falls before after s t (eases_of s t still) e were n m a b Asking _ _ a.asking_are b.asking_are (λ x. absurd (no_job x.job x.its)) in
-      let y3 = at_falls before after s t (eases_of s t still) e were n m a b Ending _ _ a.ending_are b.ending_are (λ x. absurd (no_job x.job x.its)) in
-      let y4 = polls_fall before after s t (eases_of s t still) e were n m a b hs.links (form_were s t form) (λ g k o ne at_ found. others (token_of o)) (λ i p. absurd (no_job p.at.job p.at.its)) in
-      let x1 = left_falls before after s t (eases_of s t still) e were n m a b (λ x. absurd (no_job x.job x.its)) in
+      let y1 = at_falls before after s t e were n m a b Taken _ _ a.taken_are b.taken_are (λ x. absurd (no_job x.job x.its)) in
+      let y2 = at_falls before after s t e were n m a b Asking _ _ a.asking_are b.asking_are (λ x. absurd (no_job x.job x.its)) in
+      let y3 = at_falls before after s t e were n m a b Ending _ _ a.ending_are b.ending_are (λ x. absurd (no_job x.job x.its)) in
+      let y4 = polls_fall before after s t e were n m a b hs.links (form_were s t form) (λ g k o ne at_ found. others (token_of o)) (λ i p. absurd (no_job p.at.job p.at.its)) in
+      let x1 = left_falls before after s t e were n m a b (λ x. absurd (no_job x.job x.its)) in
       let x2 = late_falls before after s t (eases_of s t still) e were n m a b (λ x. absurd (no_job x.job x.its)) in
       let x3 = roll_falls before after s t (eases_of s t still) e were n m a b (λ x. absurd (no_job x.job x.its)) in
       let l1 = letter_goes before after s t still n m a b l at letters in
@@ -193,18 +189,18 @@ module _ (before after : Token → ℕ) (s t : StateData) (e : ℕ) (given : Giv
           let x3 = roll_comes before after s t (eases_of s t still) e were n m a b in omega (arith, l2, x3))
       | inr never ↦ (let l2 = roll_letters_fall before after s t still n m a b (λ i x found. (letter_cut l.no s.letters (subst (λ (ls : List Letter). letter_at ls i ≡ Some x) letters found)).1) in
           let x3 = roll_falls before after s t (eases_of s t still) e were n m a b (λ x. absurd (never x.stack
-              (subst (λ (k : Letter). MayRoll s k.stack x.stack) (its_letter x.job x.its) (may_was s t still x.job.letter.stack x.stack x.may)))) in
+          (subst (λ (k : Letter). MayRoll s k.stack x.stack) (its_letter x.job x.its) (may_was s t still x.job.letter.stack x.stack x.may)))) in
           omega (arith, l2, x3))
     ]
 
     take_sum : job_sum after t m b ≤ job_sum before s n a + 68
     take_sum =
         let others = free_polls before after s e given none falls in
-        let y1 = at_comes before after s t (eases_of s t still) e were n m a b Taken _ _ a.taken_are b.taken_are in
-        let y2 = at_falls before after s t (eases_of s t still) e were n m a b Asking _ _ a.asking_are b.asking_are (λ x. absurd (taken_not Asking (at_taken Asking x) (λ r. cc))) in
-        let y3 = at_falls before after s t (eases_of s t still) e were n m a b Ending _ _ a.ending_are b.ending_are (λ x. absurd (taken_not Ending (at_taken Ending x) (λ r. cc))) in
-        let y4 = polls_fall before after s t (eases_of s t still) e were n m a b hs.links (form_were s t form) (λ g k o ne at_ found. others (token_of o))
-            (λ i p. absurd (taken_not Polling (at_taken Polling p.at) (λ r. cc))) in
+        let y1 = at_comes before after s t e were n m a b Taken _ _ a.taken_are b.taken_are in
+        let y2 = at_falls before after s t e were n m a b Asking _ _ a.asking_are b.asking_are (λ x. absurd (taken_not Asking (at_taken Asking x) (λ r. cc))) in
+        let y3 = at_falls before after s t e were n m a b Ending _ _ a.ending_are b.ending_are (λ x. absurd (taken_not Ending (at_taken Ending x) (λ r. cc))) in
+        let y4 = polls_fall before after s t e were n m a b hs.links (form_were s t form) (λ g k o ne at_ found. others (token_of o))
+        (λ i p. absurd (taken_not Polling (at_taken Polling p.at) (λ r. cc))) in
         omega (arith, y1, y2, y3, y4)
       where
         taken_not : (x : Stage) → Taken ≡ x → Taken ≢ x → ⊥
@@ -217,7 +213,7 @@ module _ (before after : Token → ℕ) (s t : StateData) (e : ℕ) (given : Giv
     takes =
         let r = rest_of form in
         let y = take_sum in let l2 = rolls in let x2 = late_taken in
-        let x1 = left_falls before after s t (eases_of s t still) e were n m a b (λ x. absurd (x.stopped (were.alive e live))) in
+        let x1 = left_falls before after s t e were n m a b (λ x. absurd (x.stopped (were.alive e live))) in
         let l1 = letter_goes before after s t still n m a b l at letters in
         let r1 = r.nodes in let r2 = r.roll_nodes in let r3 = r.roll_items in let r4 = r.roll_rows in let r5 = r.roll_far in
         lower (omega (arith, y, l1, l2, x1, x2, r1, r2, r3, r4, r5))

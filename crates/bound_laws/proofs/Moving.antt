@@ -1,46 +1,42 @@
 -- Each move lowers the work.
-use Rattle.std.proofs.Common.{◌≡◌, ◌≢◌, ◌⊎◌, inl, inr, ◌<◌, ◌≤◌, ℕ, ◌+◌, List, [], ◌∷◌, ◌++◌, Option, Some, None, refl, sym, ap, subst, ◌∙◌, arith}
+use Rattle.std.proofs.Common.{◌≡◌, ◌≢◌, ◌⊎◌, inl, inr, ◌<◌, ℕ, List, [], ◌∷◌, ◌++◌, Option, Some, None, refl, sym, ap, subst, ◌∙◌}
 use Rattle.std.specs.Prelude.{Contains}
-use Rattle.heat_value.specs.Data.{Members}
-use Rattle.heat_plan.specs.declared.phase.Act.TheVariants.{Create, Delete, Init, Update}
-use Rattle.heat_plan.specs.declared.phase.Status.TheVariants.{Failed, InProgress}
+use Rattle.heat_plan.specs.declared.phase.Act.TheVariants.{Init}
 use Rattle.heat_plan.specs.declared.token.Token.{Token}
 use Rattle.row_table.specs.Chains.{IsCurrent}
-use Rattle.row_table.specs.Rows.{cut_row, put_row, row_at}
+use Rattle.row_table.specs.Rows.{put_row, row_at}
 use Rattle.row_table.specs.declared.row.Row.{Row}
-use Rattle.mail_table.specs.Mails.{cut_job, job_at, put_job}
+use Rattle.mail_table.specs.Mails.{cut_job, job_at}
 use Rattle.mail_table.specs.declared.mail.Job.{Job}
 use Rattle.mail_table.specs.declared.mail.Letter.{Letter}
 use Rattle.mail_table.specs.declared.mail.Stage.{Stage}
 use Rattle.mail_table.specs.declared.mail.Stage.TheVariants.{Asking, Ending, Polling, Taken}
 use Rattle.core_state.specs.Changes.{applied}
-use Rattle.core_state.specs.State.{StateData, put_stack, stack_at}
+use Rattle.core_state.specs.State.{StateData, stack_at}
 use Rattle.core_state.specs.declared.change.Change.{Change}
 use Rattle.core_state.specs.declared.change.Change.TheVariants.{Drop, EndJob, PutJob}
 use Rattle.core_state.specs.declared.entry.Entry.{Entry}
 use Rattle.core_state.specs.declared.stack.Stack.{Stack}
 use Rattle.step_relation.specs.Asks.{Falls, failed_changes, marked, marks, overrun}
-use Rattle.step_relation.specs.Begins.{Begins, begun_changes, left_changes, onward_changes}
+use Rattle.step_relation.specs.Begins.{begun_changes, left_changes, onward_changes}
 use Rattle.step_relation.specs.Cleanups.{purged_changes, retained_changes}
-use Rattle.step_relation.specs.Finishes.{finished_changes}
-use Rattle.step_relation.specs.Freshness.{IsFresh, IsOverrun}
-use Rattle.step_relation.specs.Given.{Answer, Given}
+use Rattle.step_relation.specs.Freshness.{IsOverrun}
+use Rattle.step_relation.specs.Given.{Given}
 use Rattle.step_relation.specs.Moves.{Move, ask_begun, ask_failed, begin_failed, begin_faulted, begin_in_place, begin_init, begin_overrun, begin_replaced, begin_resumed, begin_same, clean_deleted, clean_gone, clean_init, clean_kept, clean_retained, clean_stuck, finish, finish_last, finish_overrun, poll_failed, poll_gone, poll_ready, poll_waits, take_dropped, take_free, take_stolen, takeover_fresh, takeover_overrun}
 use Rattle.step_relation.specs.Resends.{Resends, cleanup, nobody, update}
-use Rattle.step_relation.specs.Rows.{deleted_row, failed_row, locked, token_of, unlocked}
+use Rattle.step_relation.specs.Rows.{deleted_row, failed_row, locked, token_of}
 use Rattle.step_relation.specs.Runs.{IsTied, Judges}
-use Rattle.step_relation.specs.Takes.{Relays, Takes, relayed_letter, released_changes, taken_job}
+use Rattle.step_relation.specs.Takes.{Takes, relayed_letter, released_changes, taken_job}
 use Rattle.step_relation.specs.Writes.{letter_to, lock, mark_complete, mark_failed, with_stage}
 use Rattle.soundness.specs.MailFits.{IsStale}
 use Rattle.soundness.specs.Sound.{Standing}
 use Rattle.table_laws.proofs.Facts.{job_row_stack}
 use Rattle.table_laws.proofs.Fresh.{overrun_is_old}
-use Rattle.table_laws.proofs.Rows.{job-key, row-key, row_self, same_some, stack-key}
-use Rattle.agree_laws.proofs.Ends.{failed_end, failed_state, released_end, released_state, sent_to}
+use Rattle.table_laws.proofs.Rows.{job-key, row_self, same_some, stack-key}
+use Rattle.agree_laws.proofs.Ends.{failed_end, released_end, released_state, sent_to}
 use Rattle.graph_laws.proofs.Finished.{comes, rows_then}
 use Rattle.graph_laws.proofs.Known.{never_again}
-use Rattle.whole_laws.proofs.Whole.{standing_kept}
-use Rattle.bound_laws.specs.Bound.{IsOwn, IsWork, PollsFall}
+use Rattle.bound_laws.specs.Bound.{IsWork, PollsFall}
 use Rattle.bound_laws.specs.Rolls.{MayRoll}
 use Rattle.bound_laws.proofs.Ended.{form_unlocked}
 use Rattle.bound_laws.proofs.Finishing.{FinishEnd, finishes}
@@ -49,9 +45,8 @@ use Rattle.bound_laws.proofs.Lowers.{SendsOne, drops, ends, releases, sends_none
 use Rattle.bound_laws.proofs.Onward.{on_asking, on_polling, on_taken, waits}
 use Rattle.bound_laws.proofs.Replaces.{replaces}
 use Rattle.bound_laws.proofs.Rows.{IsFar}
-use Rattle.bound_laws.proofs.Still.{Still, still_marked, still_same}
+use Rattle.bound_laws.proofs.Still.{still_marked, still_same}
 use Rattle.bound_laws.proofs.Ended as ended
-use Rattle.heat_plan.specs.declared.calls.Answered.TheVariants as answer
 
 -- an overrun job is of an old traversal
 overrun_stale : (s : StateData) → Standing s → (e : ℕ) (j : Job) → job_at s.jobs e ≡ Some j → IsOverrun s j → IsStale s.stacks j.letter

@@ -1,5 +1,5 @@
 -- A job that goes on, by its stage, and a call that alone is told.
-use Rattle.std.proofs.Common.{◌≡◌, ◌≢◌, ◌⊎◌, inl, inr, ◌<◌, ◌≤◌, ℕ, ◌+◌, List, [], ◌∷◌, Option, Some, None, refl, sym, ap, subst, ◌∙◌, arith}
+use Rattle.std.proofs.Common.{◌≡◌, ◌⊎◌, ◌<◌, ◌≤◌, ℕ, ◌+◌, Some, refl, arith}
 use Rattle.std.specs.Prelude.{Contains}
 use Rattle.heat_plan.specs.declared.token.Token.{Token}
 use Rattle.row_table.specs.Rows.{row_at}
@@ -13,7 +13,7 @@ use Rattle.step_relation.specs.Rows.{token_of}
 use Rattle.soundness.specs.Sound.{Standing}
 use Rattle.table_laws.proofs.Rows.{same_some}
 use Rattle.bound_laws.specs.Bound.{IsWork, PollsFall}
-use Rattle.bound_laws.proofs.Forms.{RowForm, all_work, form_same, form_were, is_all, jobs_put, jobs_same, own_is}
+use Rattle.bound_laws.proofs.Forms.{RowForm, form_same, form_were, is_all, jobs_put, jobs_same, own_is}
 use Rattle.bound_laws.proofs.Jobs.{JobsWere}
 use Rattle.bound_laws.proofs.Lowers.{goes_on}
 use Rattle.bound_laws.proofs.Own.{asking_goes_on, goes_late, goes_left, goes_roll, job_sum, other_polls, polling_goes_on, polling_waits, taken_goes_on}

@@ -1,7 +1,6 @@
 -- The engine's own job: what it stands for where it ends, goes on, or begins.
-use Rattle.std.proofs.Common.{◌≡◌, ◌≢◌, ◌⊎◌, inl, inr, ◌<◌, ◌≤◌, ℕ, ◌+◌, ◌*◌, List, Option, Some, None, refl, sym, ap, subst, ◌∙◌, arith}
+use Rattle.std.proofs.Common.{◌≡◌, ◌≢◌, ◌⊎◌, inl, inr, ◌<◌, ◌≤◌, ℕ, ◌+◌, ◌*◌, List, Some, None, sym, ap, subst, ◌∙◌, arith}
 use Rattle.std.specs.Prelude.{Contains}
-use Rattle.heat_plan.specs.declared.phase.Status.TheVariants.{InProgress}
 use Rattle.heat_plan.specs.declared.token.Token.{Token}
 use Rattle.row_table.specs.Rows.{row_at}
 use Rattle.row_table.specs.declared.row.Row.{Row}
@@ -14,13 +13,13 @@ use Rattle.core_state.specs.State.{StateData}
 use Rattle.core_state.specs.declared.stack.Stack.{Stack}
 use Rattle.step_relation.specs.Given.{Given}
 use Rattle.step_relation.specs.Rows.{token_of}
-use Rattle.soundness.specs.MailFits.{HasUnderWay, IsStale, IsUnderWay, polls}
+use Rattle.soundness.specs.MailFits.{IsStale, IsUnderWay, polls}
 use Rattle.soundness.specs.Sound.{Standing}
 use Rattle.table_laws.proofs.Rows.{row-key, same_some}
-use Rattle.bound_laws.specs.Bound.{IsOwn, IsWork, PollsFall}
-use Rattle.bound_laws.specs.Rolls.{MayRoll, RollJob}
-use Rattle.bound_laws.specs.Work.{IsAt, IsLate, IsLeft, IsPoll}
-use Rattle.bound_laws.proofs.Jobs.{JobsWere, RowsWere, at_comes, at_falls, at_goes, late_falls, late_goes, left_falls, left_goes, poll_goes, polls_come, polls_fall, roll_comes, roll_falls, roll_goes, two_polls_go}
+use Rattle.bound_laws.specs.Bound.{IsWork, PollsFall}
+use Rattle.bound_laws.specs.Rolls.{MayRoll}
+use Rattle.bound_laws.specs.Work.{IsAt, IsPoll}
+use Rattle.bound_laws.proofs.Jobs.{JobsWere, RowsWere, at_comes, at_falls, at_goes, late_falls, late_goes, left_falls, poll_goes, polls_come, polls_fall, roll_falls, roll_goes, two_polls_go}
 use Rattle.bound_laws.proofs.Still.{Eases, Still, stale_was}
 
 -- what the jobs of live engines stand for, but for those that are late
@@ -50,7 +49,7 @@ free_polls before after s e given none falls t = falls.others t (λ own. let its
   no_job : (j : Job) → job_at s.jobs e ≡ Some j → ⊥
   no_job j its = cc
 
-module _ (before after : Token → ℕ) (s t : StateData) (h : Standing s) (ease : Eases s t) (e : ℕ) (jobs : JobsWere s t e) (rows : RowsWere s t)
+module _ (before after : Token → ℕ) (s t : StateData) (h : Standing s) (e : ℕ) (jobs : JobsWere s t e) (rows : RowsWere s t)
     (others : (f : ℕ) (k : Job) (o : Row) → f ≢ e → job_at s.jobs f ≡ Some k → row_at s.rows k.row ≡ Some o → after (token_of o) ≤ before (token_of o))
     (n m : ℕ) (a : IsWork before s n) (b : IsWork after t m) (j : Job) (its : job_at s.jobs e ≡ Some j) where
   is_j : (k : Job) → job_at s.jobs e ≡ Some k → k ≡ j
@@ -82,32 +81,36 @@ module _ (before after : Token → ℕ) (s t : StateData) (h : Standing s) (ease
     -- where it ends
     pub ends_sum : (stage : Stage) → j.stage ≡ stage → job_sum after t m b + stage_sum stage ≤ job_sum before s n a
     ends_sum Taken is =
-        let x = at_goes before after s t ease e jobs n m a b Taken _ _ a.taken_are b.taken_are (here Taken is) (none_at Taken) in
-        let y = at_falls before after s t ease e jobs n m a b Asking _ _ a.asking_are b.asking_are (λ z. absurd (none_at Asking z)) in
-        let z = at_falls before after s t ease e jobs n m a b Ending _ _ a.ending_are b.ending_are (λ z. absurd (none_at Ending z)) in
-        let p = polls_fall before after s t ease e jobs n m a b h.links rows others (λ i q. absurd (none_poll i q)) in
+        let x = at_goes before after s t e jobs n m a b Taken _ _ a.taken_are b.taken_are (here Taken is) (none_at Taken) in
+        let y = at_falls before after s t e jobs n m a b Asking _ _ a.asking_are b.asking_are (λ z. absurd (none_at Asking z)) in
+        let z = at_falls before after s t e jobs n m a b Ending _ _ a.ending_are b.ending_are (λ z. absurd (none_at Ending z)) in
+        let p = polls_fall before after s t e jobs n m a b h.links rows others (λ i q. absurd (none_poll i q)) in
         omega (arith, x, y, z, p)
     ends_sum Asking is =
-        let x = at_falls before after s t ease e jobs n m a b Taken _ _ a.taken_are b.taken_are (λ z. absurd (none_at Taken z)) in
-        let y = at_goes before after s t ease e jobs n m a b Asking _ _ a.asking_are b.asking_are (here Asking is) (none_at Asking) in
-        let z = at_falls before after s t ease e jobs n m a b Ending _ _ a.ending_are b.ending_are (λ z. absurd (none_at Ending z)) in
-        let p = polls_fall before after s t ease e jobs n m a b h.links rows others (λ i q. absurd (none_poll i q)) in
+        let x = at_falls before after s t e jobs n m a b Taken _ _ a.taken_are b.taken_are (λ z. absurd (none_at Taken z)) in
+        let y = at_goes before after s t e jobs n m a b Asking _ _ a.asking_are b.asking_are (here Asking is) (none_at Asking) in
+        let z = at_falls before after s t e jobs n m a b Ending _ _ a.ending_are b.ending_are (λ z. absurd (none_at Ending z)) in
+        let p = polls_fall before after s t e jobs n m a b h.links rows others (λ i q. absurd (none_poll i q)) in
         omega (arith, x, y, z, p)
     ends_sum Polling is =
-        let x = at_falls before after s t ease e jobs n m a b Taken _ _ a.taken_are b.taken_are (λ z. absurd (none_at Taken z)) in
-        let y = at_falls before after s t ease e jobs n m a b Asking _ _ a.asking_are b.asking_are (λ z. absurd (none_at Asking z)) in
-        let z = at_falls before after s t ease e jobs n m a b Ending _ _ a.ending_are b.ending_are (λ z. absurd (none_at Ending z)) in
-        let p = two_polls_go before after s t ease e jobs n m a b h.links rows others none_poll (has_poll live is 0 (omega arith)) (has_poll live is 1 (omega arith)) in
+        let x = at_falls before after s t e jobs n m a b Taken _ _ a.taken_are b.taken_are (λ z. absurd (none_at Taken z)) in
+        let y = at_falls before after s t e jobs n m a b Asking _ _ a.asking_are b.asking_are (λ z. absurd (none_at Asking z)) in
+        let z = at_falls before after s t e jobs n m a b Ending _ _ a.ending_are b.ending_are (λ z. absurd (none_at Ending z)) in
+        let p = two_polls_go before after s t e jobs n m a b h.links rows others none_poll (has_poll live is 0 (omega arith)) (has_poll live is 1 (omega arith)) in
         omega (arith, x, y, z, p)
     ends_sum Ending is =
-        let x = at_falls before after s t ease e jobs n m a b Taken _ _ a.taken_are b.taken_are (λ z. absurd (none_at Taken z)) in
-        let y = at_falls before after s t ease e jobs n m a b Asking _ _ a.asking_are b.asking_are (λ z. absurd (none_at Asking z)) in
-        let z = at_goes before after s t ease e jobs n m a b Ending _ _ a.ending_are b.ending_are (here Ending is) (none_at Ending) in
-        let p = polls_fall before after s t ease e jobs n m a b h.links rows others (λ i q. absurd (none_poll i q)) in
+        let x = at_falls before after s t e jobs n m a b Taken _ _ a.taken_are b.taken_are (λ z. absurd (none_at Taken z)) in
+        let y = at_falls before after s t e jobs n m a b Asking _ _ a.asking_are b.asking_are (λ z. absurd (none_at Asking z)) in
+        let z = at_goes before after s t e jobs n m a b Ending _ _ a.ending_are b.ending_are (here Ending is) (none_at Ending) in
+        let p = polls_fall before after s t e jobs n m a b h.links rows others (λ i q. absurd (none_poll i q)) in
         omega (arith, x, y, z, p)
 
+module _ (before after : Token → ℕ) (s t : StateData) (h : Standing s) (ease : Eases s t) (e : ℕ) (jobs : JobsWere s t e) (rows : RowsWere s t)
+    (others : (f : ℕ) (k : Job) (o : Row) → f ≢ e → job_at s.jobs f ≡ Some k → row_at s.rows k.row ≡ Some o → after (token_of o) ≤ before (token_of o))
+    (n m : ℕ) (a : IsWork before s n) (b : IsWork after t m) (j : Job) (its : job_at s.jobs e ≡ Some j) where
+  module _ (live : Contains s.live e) (gone : (k : Job) → ¬ job_at t.jobs e ≡ Some k) where
     pub ends_left : b.stopped ≤ a.stopped
-    ends_left = left_falls before after s t ease e jobs n m a b (λ x. absurd (gone x.job x.its))
+    ends_left = left_falls before after s t e jobs n m a b (λ x. absurd (gone x.job x.its))
 
     pub ends_late : b.late ≤ a.late
     ends_late = late_falls before after s t ease e jobs n m a b (λ x. absurd (gone x.job x.its))
@@ -134,7 +137,7 @@ module _ (before after : Token → ℕ) (s t : StateData) (h : Standing s) (ease
     was_here stage at = record { job = j; its = its; live = live; stage_is = at }
 
     pub goes_left : b.stopped ≤ a.stopped
-    goes_left = left_falls before after s t ease e jobs n m a b (λ x. absurd (x.stopped (jobs.alive e live)))
+    goes_left = left_falls before after s t e jobs n m a b (λ x. absurd (x.stopped (jobs.alive e live)))
 
     pub goes_late : Still s t → b.late ≤ a.late
     goes_late still = late_falls before after s t ease e jobs n m a b (λ x. record {
@@ -155,33 +158,33 @@ module _ (before after : Token → ℕ) (s t : StateData) (h : Standing s) (ease
 
     pub taken_goes_on : j.stage ≡ Taken → (k.stage ≡ Asking) ⊎ (k.stage ≡ Ending) → job_sum after t m b + 1 ≤ job_sum before s n a
     taken_goes_on at (inl to) =
-        let x = at_goes before after s t ease e jobs n m a b Taken _ _ a.taken_are b.taken_are (was_here Taken at) (only_at Asking Taken to (λ q. cc)) in
-        let y = at_comes before after s t ease e jobs n m a b Asking _ _ a.asking_are b.asking_are in
-        let z = at_falls before after s t ease e jobs n m a b Ending _ _ a.ending_are b.ending_are (λ q. absurd (only_at Asking Ending to (λ r. cc) q)) in
-        let p = polls_fall before after s t ease e jobs n m a b h.links rows others (λ i q. absurd (only_at Asking Polling to (λ r. cc) q.at)) in
+        let x = at_goes before after s t e jobs n m a b Taken _ _ a.taken_are b.taken_are (was_here Taken at) (only_at Asking Taken to (λ q. cc)) in
+        let y = at_comes before after s t e jobs n m a b Asking _ _ a.asking_are b.asking_are in
+        let z = at_falls before after s t e jobs n m a b Ending _ _ a.ending_are b.ending_are (λ q. absurd (only_at Asking Ending to (λ r. cc) q)) in
+        let p = polls_fall before after s t e jobs n m a b h.links rows others (λ i q. absurd (only_at Asking Polling to (λ r. cc) q.at)) in
         omega (arith, x, y, z, p)
     taken_goes_on at (inr to) =
-        let x = at_goes before after s t ease e jobs n m a b Taken _ _ a.taken_are b.taken_are (was_here Taken at) (only_at Ending Taken to (λ q. cc)) in
-        let y = at_falls before after s t ease e jobs n m a b Asking _ _ a.asking_are b.asking_are (λ q. absurd (only_at Ending Asking to (λ r. cc) q)) in
-        let z = at_comes before after s t ease e jobs n m a b Ending _ _ a.ending_are b.ending_are in
-        let p = polls_fall before after s t ease e jobs n m a b h.links rows others (λ i q. absurd (only_at Ending Polling to (λ r. cc) q.at)) in
+        let x = at_goes before after s t e jobs n m a b Taken _ _ a.taken_are b.taken_are (was_here Taken at) (only_at Ending Taken to (λ q. cc)) in
+        let y = at_falls before after s t e jobs n m a b Asking _ _ a.asking_are b.asking_are (λ q. absurd (only_at Ending Asking to (λ r. cc) q)) in
+        let z = at_comes before after s t e jobs n m a b Ending _ _ a.ending_are b.ending_are in
+        let p = polls_fall before after s t e jobs n m a b h.links rows others (λ i q. absurd (only_at Ending Polling to (λ r. cc) q.at)) in
         omega (arith, x, y, z, p)
 
     pub asking_goes_on : j.stage ≡ Asking → k.stage ≡ Polling → ((tok : Token) → after tok ≤ 64) → job_sum after t m b + 1 ≤ job_sum before s n a
     asking_goes_on at to few =
-        let x = at_falls before after s t ease e jobs n m a b Taken _ _ a.taken_are b.taken_are (λ q. absurd (only_at Polling Taken to (λ r. cc) q)) in
-        let y = at_goes before after s t ease e jobs n m a b Asking _ _ a.asking_are b.asking_are (was_here Asking at) (only_at Polling Asking to (λ q. cc)) in
-        let z = at_falls before after s t ease e jobs n m a b Ending _ _ a.ending_are b.ending_are (λ q. absurd (only_at Polling Ending to (λ r. cc) q)) in
-        let p = polls_come before after s t ease e jobs n m a b h.links rows others few in
+        let x = at_falls before after s t e jobs n m a b Taken _ _ a.taken_are b.taken_are (λ q. absurd (only_at Polling Taken to (λ r. cc) q)) in
+        let y = at_goes before after s t e jobs n m a b Asking _ _ a.asking_are b.asking_are (was_here Asking at) (only_at Polling Asking to (λ q. cc)) in
+        let z = at_falls before after s t e jobs n m a b Ending _ _ a.ending_are b.ending_are (λ q. absurd (only_at Polling Ending to (λ r. cc) q)) in
+        let p = polls_come before after s t e jobs n m a b h.links rows others few in
         omega (arith, x, y, z, p)
 
     pub polling_goes_on : j.stage ≡ Polling → k.stage ≡ Ending → job_sum after t m b + 1 ≤ job_sum before s n a
     polling_goes_on at to =
-        let x = at_falls before after s t ease e jobs n m a b Taken _ _ a.taken_are b.taken_are (λ q. absurd (only_at Ending Taken to (λ r. cc) q)) in
-        let y = at_falls before after s t ease e jobs n m a b Asking _ _ a.asking_are b.asking_are (λ q. absurd (only_at Ending Asking to (λ r. cc) q)) in
-        let z = at_comes before after s t ease e jobs n m a b Ending _ _ a.ending_are b.ending_are in
-        let p = two_polls_go before after s t ease e jobs n m a b h.links rows others (λ i q. only_at Ending Polling to (λ r. cc) q.at)
-            (has_poll live at 0 (omega arith)) (has_poll live at 1 (omega arith)) in
+        let x = at_falls before after s t e jobs n m a b Taken _ _ a.taken_are b.taken_are (λ q. absurd (only_at Ending Taken to (λ r. cc) q)) in
+        let y = at_falls before after s t e jobs n m a b Asking _ _ a.asking_are b.asking_are (λ q. absurd (only_at Ending Asking to (λ r. cc) q)) in
+        let z = at_comes before after s t e jobs n m a b Ending _ _ a.ending_are b.ending_are in
+        let p = two_polls_go before after s t e jobs n m a b h.links rows others (λ i q. only_at Ending Polling to (λ r. cc) q.at)
+        (has_poll before after s t h e jobs rows others n m a b j its live at 0 (omega arith)) (has_poll before after s t h e jobs rows others n m a b j its live at 1 (omega arith)) in
         omega (arith, x, y, z, p)
 
     -- where it polls again, and one fewer is left
@@ -190,12 +193,12 @@ module _ (before after : Token → ℕ) (s t : StateData) (h : Standing s) (ease
     unfolding was_here
     polling_waits at stays r found less =
         let at_now : k.stage ≡ Polling = ap (λ (q : Job). q.stage) stays ∙ at in
-        let x = at_falls before after s t ease e jobs n m a b Taken _ _ a.taken_are b.taken_are (λ q. absurd (only_at Polling Taken at_now (λ r. cc) q)) in
-        let y = at_falls before after s t ease e jobs n m a b Asking _ _ a.asking_are b.asking_are (λ q. absurd (only_at Polling Asking at_now (λ r. cc) q)) in
-        let z = at_falls before after s t ease e jobs n m a b Ending _ _ a.ending_are b.ending_are (λ q. absurd (only_at Polling Ending at_now (λ r. cc) q)) in
-        let p = poll_goes before after s t ease e jobs n m a b h.links rows others (before (token_of r) + 1) mine
-            (record { at = was_here Polling at; row = r; found = found; below = omega arith })
-            (λ q. let lt = q.below in let tok = ap after (token_is q.row q.at q.found) in absurd_of (before (token_of r)) (after (token_of q.row)) (after (token_of r)) lt tok less) in
+        let x = at_falls before after s t e jobs n m a b Taken _ _ a.taken_are b.taken_are (λ q. absurd (only_at Polling Taken at_now (λ r. cc) q)) in
+        let y = at_falls before after s t e jobs n m a b Asking _ _ a.asking_are b.asking_are (λ q. absurd (only_at Polling Asking at_now (λ r. cc) q)) in
+        let z = at_falls before after s t e jobs n m a b Ending _ _ a.ending_are b.ending_are (λ q. absurd (only_at Polling Ending at_now (λ r. cc) q)) in
+        let p = poll_goes before after s t e jobs n m a b h.links rows others (before (token_of r) + 1) mine
+        (record { at = was_here Polling at; row = r; found = found; below = omega arith })
+        (λ q. let lt = q.below in let tok = ap after (token_is q.row q.at q.found) in absurd_of (before (token_of r)) (after (token_of q.row)) (after (token_of r)) lt tok less) in
         omega (arith, x, y, z, p)
       where
         absurd_of : (u v w : ℕ) → u + 1 < v + 2 → v ≡ w → w < u → ⊥

@@ -1,6 +1,6 @@
 -- A row that another takes the place of: a row more, and a far target less.
-use Rattle.std.proofs.Common.{◌≡◌, ◌≢◌, ◌⊎◌, inl, inr, ◌<◌, ◌≤◌, ℕ, ◌+◌, ◌*◌, List, [], ◌∷◌, Option, Some, None, refl, sym, ap, subst, ◌∙◌, arith}
-use Rattle.std.specs.Prelude.{Contains, slice_get}
+use Rattle.std.proofs.Common.{◌≡◌, ◌≢◌, ◌⊎◌, inl, inr, ◌<◌, ◌≤◌, ℕ, ◌+◌, List, Some, None, refl, sym, ap, subst, ◌∙◌, arith}
+use Rattle.std.specs.Prelude.{slice_get}
 use Rattle.std.specs.Str.{bytes_eq}
 use Rattle.std.proofs.lemmas.Slice.Eq.{bytes_eq-Decides}
 use Rattle.heat_value.specs.Data.{Members}
@@ -8,15 +8,10 @@ use Rattle.heat_plan.specs.declared.item.Item.{Item}
 use Rattle.heat_plan.specs.declared.phase.Act.TheVariants.{Create, Init}
 use Rattle.heat_plan.specs.declared.token.Token.{Token}
 use Rattle.traversal_graph.specs.declared.shape.Node.TheVariants.{U}
-use Rattle.row_table.specs.Chains.{IsCurrent}
 use Rattle.row_table.specs.Rows.{put_row, row_at}
 use Rattle.row_table.specs.declared.row.Row.{Row}
-use Rattle.mail_table.specs.Mails.{job_at, put_job}
-use Rattle.mail_table.specs.declared.mail.Job.{Job}
-use Rattle.mail_table.specs.declared.mail.Letter.{Letter}
-use Rattle.mail_table.specs.declared.mail.Stage.TheVariants.{Asking, Taken}
 use Rattle.core_state.specs.Changes.{applied}
-use Rattle.core_state.specs.State.{StateData, graph_at, stack_at}
+use Rattle.core_state.specs.State.{StateData, stack_at}
 use Rattle.core_state.specs.declared.graph.Graph.{Graph}
 use Rattle.core_state.specs.declared.stack.Stack.{Stack}
 use Rattle.step_relation.specs.Begins.{Begins, moved_job, next_row, replaced_changes}
@@ -26,13 +21,13 @@ use Rattle.step_relation.specs.Rows.{replaced, token_of}
 use Rattle.step_relation.specs.Targets.{IsTarget}
 use Rattle.soundness.specs.Sound.{Standing}
 use Rattle.table_laws.proofs.Facts.{job_fits}
-use Rattle.table_laws.proofs.Rows.{job-key, row-key, row_else, row_here, row_put, row_self, same_or_not, same_some, stack-key}
+use Rattle.table_laws.proofs.Rows.{job-key, row-key, row_else, row_here, row_put, row_self, same_some, stack-key}
 use Rattle.table_laws.proofs.Tables.{at-key}
 use Rattle.bound_laws.specs.Bound.{IsWork, PollsFall}
 use Rattle.bound_laws.specs.Rolls.{MayRoll, RollFar}
-use Rattle.bound_laws.proofs.Forms.{all_work, is_all, jobs_put, may_or_not, own_is}
+use Rattle.bound_laws.proofs.Forms.{is_all, jobs_put, may_or_not, own_is}
 use Rattle.bound_laws.proofs.Jobs.{RowsWere}
-use Rattle.bound_laws.proofs.Own.{goes_late, goes_left, goes_roll, job_sum, other_polls, taken_goes_on}
+use Rattle.bound_laws.proofs.Own.{goes_late, goes_left, goes_roll, other_polls, taken_goes_on}
 use Rattle.bound_laws.proofs.Rows.{RowsNear, far_falls, far_goes, row_beside, row_comes, target_current}
 use Rattle.bound_laws.proofs.Still.{Still, eases_of, letters_fall, nodes_fall, roll_items_fall, roll_letters_fall, roll_nodes_fall, still_same}
 
@@ -78,13 +73,15 @@ module _ (before after : Token → ℕ) (s : StateData) (e : ℕ) (given : Given
       (subst (λ (x : List ℕ). stack_at s.stacks x ≡ Some k.stack) (sym (stack-key s.stacks k.job.letter.stack k.stack k.names.in_table)) k.names.in_table)
 
   near : RowsNear s t
-  near = record { near = λ st i q may at current far. elim (found_then i q at) [
-    | inl is ↦ (let gone = ap (λ (x : Row). x.replaced_by) is.1 in let last = current.last in absurd (some_none (gone ∙ last)))
-    | inr other ↦ elim other [
-      | inl is ↦ absurd (by far is.1 (own_stack st (subst (λ (x : Row). MayRoll s x.stack st) (sym is.1) may)))
-      | inr was ↦ (q, was, refl, refl, current, far)
-    ]
-  ] } where
+  near = record {
+    near = λ st i q may at current far. elim (found_then i q at) [
+      | inl is ↦ (let gone = ap (λ (x : Row). x.replaced_by) is.1 in let last = current.last in absurd (some_none (gone ∙ last)))
+      | inr other ↦ elim other [
+        | inl is ↦ absurd (by far is.1 (own_stack st (subst (λ (x : Row). MayRoll s x.stack st) (sym is.1) may)))
+        | inr was ↦ (q, was, refl, refl, current, far)
+      ]
+    ];
+  } where
     some_none : Some s.next.row ≡ None → ⊥
     some_none x = cc
 

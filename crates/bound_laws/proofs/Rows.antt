@@ -1,6 +1,6 @@
 -- What stands for rows and for targets that are far, where one row is written, replaced or goes.
-use Rattle.std.proofs.Common.{◌≡◌, ◌≢◌, ◌⊎◌, inl, inr, ◌<◌, ◌≤◌, ℕ, ◌+◌, List, [], ◌∷◌, Option, Some, None, refl, sym, ap, subst, ◌∙◌, arith}
-use Rattle.std.specs.Prelude.{Contains, slice_get}
+use Rattle.std.proofs.Common.{◌≡◌, ◌≢◌, ◌⊎◌, inl, inr, ◌≤◌, ℕ, ◌+◌, List, Some, refl, sym, ap, subst, ◌∙◌, arith}
+use Rattle.std.specs.Prelude.{slice_get}
 use Rattle.heat_plan.specs.declared.phase.Act.TheVariants.{Init}
 use Rattle.heat_plan.specs.declared.token.Token.{Token}
 use Rattle.traversal_graph.specs.declared.shape.Node.TheVariants.{U}
@@ -13,14 +13,13 @@ use Rattle.core_state.specs.declared.graph.Graph.{Graph}
 use Rattle.core_state.specs.declared.stack.Stack.{Stack}
 use Rattle.step_relation.specs.Rows.{token_of}
 use Rattle.step_relation.specs.Targets.{IsCurrentOf, IsTarget}
-use Rattle.soundness.specs.GraphFits.{TargetFits, graph_of}
-use Rattle.soundness.specs.Linked.{Links}
+use Rattle.soundness.specs.GraphFits.{TargetFits}
 use Rattle.soundness.specs.Sound.{Standing}
 use Rattle.table_laws.proofs.Facts.{graph_here}
 use Rattle.table_laws.proofs.Rows.{row-key, row_cut, row_put, row_self, same_or_not, same_some, stack-key}
-use Rattle.table_laws.proofs.Targets.{current_once, same_current, target_once}
+use Rattle.table_laws.proofs.Targets.{target_once}
 use Rattle.bound_laws.specs.Bound.{IsWork}
-use Rattle.bound_laws.specs.Rolls.{MayRoll, RollFar, RollRow}
+use Rattle.bound_laws.specs.Rolls.{MayRoll, RollFar}
 use Rattle.bound_laws.proofs.Jobs.{RowsWere}
 use Rattle.bound_laws.proofs.Sets.{at_most, fewer, one_more}
 use Rattle.bound_laws.proofs.Still.{Eases}
@@ -39,10 +38,12 @@ pub were_same : (s t : StateData) → t.rows ≡ s.rows → RowsWere s t
 were_same s t is = record { were = λ n r at lt. (r, subst (λ (l : List Row). row_at l n ≡ Some r) is at, refl) }
 
 pub were_put : (s t : StateData) (r q : Row) → row_at s.rows q.no ≡ Some r → token_of q ≡ token_of r → t.rows ≡ put_row q s.rows → RowsWere s t
-were_put s t r q at token is = record { were = λ n x found lt. elim (row_put q s.rows (subst (λ (l : List Row). row_at l n ≡ Some x) is found)) [
-  | inl new ↦ (r, subst (λ (k : ℕ). row_at s.rows k ≡ Some r) new.0 at, ap token_of (sym new.1) ∙ token)
-  | inr old ↦ (x, old.1, refl)
-] }
+were_put s t r q at token is = record {
+  were = λ n x found lt. elim (row_put q s.rows (subst (λ (l : List Row). row_at l n ≡ Some x) is found)) [
+    | inl new ↦ (r, subst (λ (k : ℕ). row_at s.rows k ≡ Some r) new.0 at, ap token_of (sym new.1) ∙ token)
+    | inr old ↦ (x, old.1, refl)
+  ];
+}
 
 pub were_cut : (s t : StateData) (c : ℕ) → t.rows ≡ cut_row c s.rows → RowsWere s t
 were_cut s t c is = record { were = λ n x found lt. (x, (row_cut c s.rows (subst (λ (l : List Row). row_at l n ≡ Some x) is found)).1, refl) }
@@ -53,10 +54,12 @@ near_same s t is = record { near = λ st n q may at current far. (q, subst (λ (
 
 pub near_put : (s t : StateData) (r q : Row) → row_at s.rows q.no ≡ Some r → token_of q ≡ token_of r → t.rows ≡ put_row q s.rows → (IsCurrent q → IsCurrent r)
     → ((st : Stack) → MayRoll s q.stack st → IsFar st.trav q → IsFar st.trav r) → RowsNear s t
-near_put s t r q at token is current far = record { near = λ st n x may found now away. elim (row_put q s.rows (subst (λ (l : List Row). row_at l n ≡ Some x) is found)) [
-  | inl new ↦ by st n x may now away new.0 new.1
-  | inr old ↦ (x, old.1, refl, refl, now, away)
-] } where
+near_put s t r q at token is current far = record {
+  near = λ st n x may found now away. elim (row_put q s.rows (subst (λ (l : List Row). row_at l n ≡ Some x) is found)) [
+    | inl new ↦ by st n x may now away new.0 new.1
+    | inr old ↦ (x, old.1, refl, refl, now, away)
+  ];
+} where
   by : (st : Stack) (n : ℕ) (x : Row) → MayRoll s x.stack st → IsCurrent x → IsFar st.trav x → q.no ≡ n → q ≡ x
       → (o : Row) × (row_at s.rows n ≡ Some o) × (o.stack ≡ x.stack) × (o.name ≡ x.name) × IsCurrent o × IsFar st.trav o
   by st n x may now away number same = (
@@ -69,8 +72,10 @@ near_put s t r q at token is current far = record { near = λ st n x may found n
   )
 
 pub near_cut : (s t : StateData) (c : ℕ) → t.rows ≡ cut_row c s.rows → RowsNear s t
-near_cut s t c is = record { near = λ st n q may found current far.
-    (q, (row_cut c s.rows (subst (λ (l : List Row). row_at l n ≡ Some q) is found)).1, refl, refl, current, far) }
+near_cut s t c is = record {
+  near = λ st n q may found current far.
+      (q, (row_cut c s.rows (subst (λ (l : List Row). row_at l n ≡ Some q) is found)).1, refl, refl, current, far);
+}
 
 -- the target of an update node is its name's current row
 module _ (s : StateData) (h : Standing s) (x : List ℕ × ℕ) (st : Stack) (g : Graph) (name : List ℕ) (chosen : ℕ) (r : Row)

@@ -1,6 +1,5 @@
 -- A step that leaves graphs and pasts, and marks a stack at most: what stands for its nodes, letters and items.
-use Rattle.std.proofs.Common.{◌≡◌, ◌≢◌, ◌⊎◌, inl, inr, ◌<◌, ◌≤◌, ℕ, ◌+◌, List, [], ◌∷◌, Option, Some, None, length, refl, sym, ap, subst, ◌∙◌, arith}
-use Rattle.std.specs.Prelude.{Contains, slice_get, true}
+use Rattle.std.proofs.Common.{◌≡◌, inl, inr, ◌<◌, ◌≤◌, ℕ, ◌+◌, List, Some, length, refl, sym, ap, subst, ◌∙◌}
 use Rattle.heat_plan.specs.Plans.{PlanData}
 use Rattle.heat_plan.specs.declared.phase.Status.TheVariants.{Failed, InProgress}
 use Rattle.heat_plan.specs.declared.token.Token.{Token}
@@ -14,10 +13,10 @@ use Rattle.core_state.specs.declared.stack.Stack.{Stack}
 use Rattle.step_relation.specs.Freshness.{plan_of}
 use Rattle.step_relation.specs.Orders.{back_after, past_of, past_or, plan_back}
 use Rattle.soundness.specs.MailFits.{IsStale}
-use Rattle.table_laws.proofs.Rows.{letter-key, letter_cut, letter_gone, letter_put, same_some, stack_else, stack_here, stack_put, text_or_not}
-use Rattle.bound_laws.specs.Bound.{IsWork, RollWork}
+use Rattle.table_laws.proofs.Rows.{letter_cut, letter_put, same_some, stack_else, stack_here, stack_put, text_or_not}
+use Rattle.bound_laws.specs.Bound.{IsWork}
 use Rattle.bound_laws.specs.Rolls.{MayRoll, RollItem, RollLetter, RollNode}
-use Rattle.bound_laws.specs.Work.{IsLetter, IsUnready}
+use Rattle.bound_laws.specs.Work.{IsUnready}
 use Rattle.bound_laws.proofs.Sets.{at_most, fewer, one_more}
 
 -- a stack found later was there, with its traversal, and is the same while it has no mark
@@ -60,9 +59,12 @@ still_marked s t st at stacks graphs pasts = record {
 
   are : (name : List ℕ) (o : Stack) → stack_at s.stacks name ≡ Some o → (x : Stack) × (stack_at t.stacks name ≡ Some x) × (x.trav ≡ o.trav)
   are name o found = elim (text_or_not st.name name) [
-    | inl is ↦ (let same : o ≡ st = same_some o st found (subst (λ (n : List ℕ). stack_at s.stacks n ≡ Some st) is at) in
-        (marked, subst (λ (l : List Stack). stack_at l name ≡ Some marked) (sym stacks)
-        (subst (λ (n : List ℕ). stack_at (put_stack marked s.stacks) n ≡ Some marked) is (stack_here marked s.stacks)), ap (λ (y : Stack). y.trav) (sym same)))
+    | inl is ↦ (let same : o ≡ st = same_some o st found (subst (λ (n : List ℕ). stack_at s.stacks n ≡ Some st) is at) in (
+      marked,
+      subst (λ (l : List Stack). stack_at l name ≡ Some marked) (sym stacks)
+          (subst (λ (n : List ℕ). stack_at (put_stack marked s.stacks) n ≡ Some marked) is (stack_here marked s.stacks)),
+      ap (λ (y : Stack). y.trav) (sym same),
+    ))
     | inr ne ↦ (o, subst (λ (l : List Stack). stack_at l name ≡ Some o) (sym stacks) (stack_else marked s.stacks name ne ∙ found), refl)
   ]
 
