@@ -7,24 +7,27 @@ use Rattle.heat_plan.specs.declared.phase.Status.{Status}
 use Rattle.heat_plan.specs.declared.phase.Status.TheVariants.{Complete, Failed, InProgress}
 use Rattle.heat_plan.specs.declared.refusal.Refusal.{Refusal}
 use Rattle.heat_plan.specs.declared.refusal.Refusal.TheVariants.{Memory, Worn}
+use Rattle.traversal_graph.specs.declared.shape.Node.{Node}
 use Rattle.row_table.specs.Rows.{row_at}
 use Rattle.row_table.specs.declared.row.Row.{Row}
 use Rattle.mail_table.specs.declared.mail.Job.{Job}
 use Rattle.mail_table.specs.declared.mail.Letter.{Letter}
 use Rattle.core_state.specs.Changes.{applied}
-use Rattle.core_state.specs.State.{StateData}
+use Rattle.core_state.specs.State.{StateData, stack_at}
 use Rattle.core_state.specs.declared.change.Change.{Change}
 use Rattle.core_state.specs.declared.entry.Entry.{Entry}
+use Rattle.core_state.specs.declared.graph.Graph.{Graph}
 use Rattle.core_state.specs.declared.made.Made.{Made}
 use Rattle.core_state.specs.declared.stack.Stack.{Stack}
-use Rattle.step_relation.specs.Asks.{Falls, failed_changes, failed_entries, overrun}
+use Rattle.step_relation.specs.Asks.{Falls, failed_changes, failed_entries, marked, marks, overrun}
 use Rattle.step_relation.specs.Freshness.{IsOverrun}
 use Rattle.step_relation.specs.Rows.{failed_row}
 use Rattle.step_relation.specs.Turns.{IsDue, IsWorn, stays, unfailed}
-use Rattle.table_laws.proofs.Rows.{same_some}
+use Rattle.step_reads.specs.Work.{IsFreshOf, fresh_of}
+use Rattle.table_laws.proofs.Rows.{same_some, stack-key}
 use Rattle.step_ends.specs.Falls.{IsEnded, IsFallen, OrWorn, plain, rolls}
 use Rattle.step_ends.specs.Falls.OrWorn.{memory as fall_memory, worn as fall_worn}
-use Rattle.step_ends.specs.Marks.{IsBehind, IsBehindRefusal, IsRewritten, RollsBehind, marking, nothing, rollback}
+use Rattle.step_ends.specs.Marks.{IsBehindRefusal, IsRewritten, RollsBehind, marking}
 use Rattle.step_ends.specs.Marks.IsBehindRefusal.{memory as behind_memory, worn as behind_worn}
 use Rattle.step_ends.specs.Releases.{IsAgainRefusal}
 use Rattle.step_ends.specs.Releases.IsAgainRefusal.{memory as again_memory, worn as again_worn}
@@ -71,50 +74,24 @@ module _ (s : StateData) (e : ℕ) (r : Row) (st : Stack) (why : Failure) (found
   marked_alone behind cs es c d = plain (stays st (behind (failed_row r) (rewritten s.rows r found))) c d
 
   pub marked_rolls : (last : List Change) (lasts : List Entry) → ((q : Row) → IsRewritten s.rows q → RollsBehind s e q st last lasts)
-      → (first cs : List Change) (firsts es : List Entry)
-      → first ≡ failed_changes s e r [] (Some st) → firsts ≡ why.call ∷ failed_entries e r [] (Some st) why.reason
-      → cs ≡ first ++ last → es ≡ firsts ++ lasts → IsEnded s e r [] (Some st) why cs es
-  marked_rolls last lasts behind first cs firsts es c d i j =
+      → (cs : List Change) (es : List Entry) → cs ≡ failed_changes s e r [] (Some st) ++ last
+      → es ≡ (why.call ∷ failed_entries e r [] (Some st) why.reason) ++ lasts → IsEnded s e r [] (Some st) why cs es
+  marked_rolls last lasts behind cs es c d =
       let k = behind (failed_row r) (rewritten s.rows r found) in
-      rolls st last lasts refl k.due k.follows (i ∙ ap (λ (l : List Change). l ++ last) c) (j ∙ ap (λ (l : List Entry). l ++ lasts) d)
+      rolls st last lasts refl k.due k.follows c d
 
-  -- the mark's own changes are worn
-  pub marked_worn : (behind : Option Made) → IsBehind s e st behind → IsWorn (failed_changes s e r [] (Some st)) → (refusal : Refusal) → refusal ≡ Worn
-      → OrWorn (IsEnded s e r [] (Some st) why) refusal
-  marked_worn behind (nothing is k) w refusal worn_is = fall_worn worn_is _ _ (marked_alone k _ _ refl refl) w
-  marked_worn behind (rollback made is k lasts) w refusal worn_is =
-      fall_worn worn_is _ _ (marked_rolls made.changes made.entries k _ _ _ _ refl refl refl refl) (worn_before _ _ w)
-
-  -- where nothing follows, and where a rollback does
-  pub behind_none : (behind : Option Made) → IsBehind s e st behind → behind ≡ None → (cs : List Change) (es : List Entry)
-      → cs ≡ failed_changes s e r [] (Some st) → es ≡ why.call ∷ failed_entries e r [] (Some st) why.reason
-      → IsEnded s e r [] (Some st) why cs es
-  behind_none behind (nothing is k) none cs es c d = marked_alone k cs es c d
-  behind_none behind (rollback made is k lasts) none cs es c d = absurd (none-some made (sym none ∙ is))
-
-  pub behind_some : (behind : Option Made) → IsBehind s e st behind → (made : Made) → behind ≡ Some made → (first cs : List Change) (firsts es : List Entry)
-      → first ≡ failed_changes s e r [] (Some st) → firsts ≡ why.call ∷ failed_entries e r [] (Some st) why.reason
-      → cs ≡ first ++ made.changes → es ≡ firsts ++ made.entries → IsEnded s e r [] (Some st) why cs es
-  behind_some behind (nothing is k) made some first cs firsts es c d i j = absurd (none-some made (sym is ∙ some))
-  behind_some behind (rollback other is k lasts) made some first cs firsts es c d i j =
-      let same : other ≡ made = same_some other made is some in
-      marked_rolls made.changes made.entries (subst (λ (m : Made). (q : Row) → IsRewritten s.rows q → RollsBehind s e q st m.changes m.entries) same k)
-      first cs firsts es c d i j
-
-  pub behind_lasts : (behind : Option Made) → IsBehind s e st behind → (made : Made) → behind ≡ Some made → (first cs : List Change)
-      → ¬ IsWorn first → cs ≡ first ++ made.changes → ¬ IsWorn cs
-  behind_lasts behind (nothing is k) made some first cs unworn i w = absurd (none-some made (sym is ∙ some))
-  behind_lasts behind (rollback other is k lasts) made some first cs unworn i w =
-      let same : other ≡ made = same_some other made is some in
-      unworn_both first made.changes unworn (subst (λ (m : Made). ¬ IsWorn m.changes) same lasts) (subst IsWorn i w)
-
-  pub marked_high : (behind : Option Made) → IsBehind s e st behind → 2 ^ 62 ≤ r.key + 1 → OrWorn (IsEnded s e r [] (Some st) why) Worn
-  marked_high behind k high = marked_worn behind k (failure_worn s e r [] (Some st) high) Worn refl
-
-  pub marked_refusal : (behind : Option Made) → IsBehind s e st behind → (refusal : Refusal)
+  -- the mark's own refusal, with nothing behind it and with a rollback
+  pub alone_refusal : ((q : Row) → IsRewritten s.rows q → ¬ IsDue (applied (marking e q st) s) st) → (refusal : Refusal)
       → (refusal ≡ Memory) ⊎ ((refusal ≡ Worn) × IsWorn (failed_changes s e r [] (Some st))) → OrWorn (IsEnded s e r [] (Some st) why) refusal
-  marked_refusal behind k refusal (inl m) = fall_memory m
-  marked_refusal behind k refusal (inr (is, w)) = marked_worn behind k w refusal is
+  alone_refusal behind refusal (inl m) = fall_memory m
+  alone_refusal behind refusal (inr (is, w)) = fall_worn is _ _ (marked_alone behind _ _ refl refl) w
+
+  pub rolls_refusal : (last : List Change) (lasts : List Entry) → ((q : Row) → IsRewritten s.rows q → RollsBehind s e q st last lasts)
+      → (refusal : Refusal) → (refusal ≡ Memory) ⊎ ((refusal ≡ Worn) × IsWorn (failed_changes s e r [] (Some st)))
+      → OrWorn (IsEnded s e r [] (Some st) why) refusal
+  rolls_refusal last lasts behind refusal (inl m) = fall_memory m
+  rolls_refusal last lasts behind refusal (inr (is, w)) =
+      fall_worn is _ _ (marked_rolls last lasts behind _ _ refl refl) (worn_before _ last w)
 
   pub behind_worn_out : (refusal : Refusal) → IsBehindRefusal s e st refusal → OrWorn (IsEnded s e r [] (Some st) why) refusal
   behind_worn_out refusal (behind_memory is) = fall_memory is
@@ -141,3 +118,18 @@ again_fallen s e j r why refusal over range (again_worn is letters resends past)
 pub not_running : (x : Status) → (x ≡ Complete) ⊎ (x ≡ Failed) → x ≢ InProgress
 not_running x (inl is) e = let f : Complete ≡ InProgress = sym is ∙ e in cc
 not_running x (inr is) e = let f : Failed ≡ InProgress = sym is ∙ e in cc
+
+-- a job that has work, and the stack that it names
+pub running_fall : (s : StateData) (j : Job) (stack : Stack) (graph : Graph) (node : Node) (row : Option Row)
+    → IsFreshOf s j.letter j.row stack graph node row → stack.status ≡ InProgress → Falls s j [] (Some stack)
+running_fall s j stack graph node row of is = marks (fresh_of s j.letter j.row stack graph node row of) is
+
+pub marked_fall : (s : StateData) (j : Job) (stack : Stack) (graph : Graph) (node : Node) (row : Option Row) (letters : List Letter)
+    → IsFreshOf s j.letter j.row stack graph node row → stack.status ≢ InProgress → letters ≡ [] → Falls s j letters None
+marked_fall s j stack graph node row letters of not is =
+    subst (λ (l : List Letter). Falls s j l None) (sym is) (marked (fresh_of s j.letter j.row stack graph node row of) not)
+
+pub its_stack : (s : StateData) (l : Letter) (number : ℕ) (stack : Stack) (graph : Graph) (node : Node) (row : Option Row)
+    → IsFreshOf s l number stack graph node row → stack_at s.stacks stack.name ≡ Some stack
+its_stack s l number stack graph node row of =
+    subst (λ (n : List ℕ). stack_at s.stacks n ≡ Some stack) (sym (stack-key s.stacks l.stack stack of.names.in_table)) of.names.in_table

@@ -5,3 +5,4 @@ pub mod Behind
 pub mod Passing
 pub mod Refusing
 pub mod Fallen
+pub mod Called

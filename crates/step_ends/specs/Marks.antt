@@ -35,11 +35,10 @@ pub record RollsBehind (s : StateData) (e : ℕ) (q : Row) (st : Stack) (cs : Li
   pub follows : FollowsFailure (applied (marking e q st) s) e st cs es
 
 -- behind the mark, whichever row was rewritten before it: nothing, or a rollback that wears nothing out
-pub data IsBehind (s : StateData) (e : ℕ) (st : Stack) (behind : Option Made) : Type 0 where
-  nothing : behind ≡ None → ((q : Row) → IsRewritten s.rows q → ¬ IsDue (applied (marking e q st) s) st) → IsBehind s e st behind
-  rollback : (made : Made) → behind ≡ Some made
-      → ((q : Row) → IsRewritten s.rows q → RollsBehind s e q st made.changes made.entries) → ¬ IsWorn made.changes
-      → IsBehind s e st behind
+abbrev pub IsBehind : StateData → ℕ → Stack → Option Made → Type 0
+IsBehind s e st None = (q : Row) → IsRewritten s.rows q → ¬ IsDue (applied (marking e q st) s) st
+IsBehind s e st (Some made) = ((q : Row) → IsRewritten s.rows q → RollsBehind s e q st made.changes made.entries)
+    × (¬ IsWorn made.changes)
 
 -- want of memory, or the rollback would wear something out
 pub data IsBehindRefusal (s : StateData) (e : ℕ) (st : Stack) (r : Refusal) : Type 0 where

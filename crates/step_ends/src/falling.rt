@@ -89,16 +89,58 @@ fn mark(
     ensures lasts { IfOk result (λ m. ¬ IsWorn m.changes) }
     ensures cause { IfErr result (OrWorn (IsEnded s.now.state e row.now [] (Some stack.now) why)) }
 {
-    let behind = rolled_behind(alloc, s, e, stack)?;
+    match rolled_behind(alloc, s, e, stack) {
+        Ok(Some(last)) => rolled(alloc, s, e, row, stack, last, why),
+        Ok(None) => marked(alloc, s, e, row, stack, why),
+        Err(refusal) => Err(refusal),
+    }
+}
+
+// The mark alone.
+fn marked(
+    alloc: Global,
+    s: &State,
+    e: EngineNo,
+    row: &Row,
+    stack: &Stack,
+    why: Failure,
+) -> Result<Made, Refusal>
+    requires { s.now.state.next.letter ≤ 2 ^ 62 }
+    ensures changes { IfOk result (λ m. m.changes ≡ failed_changes s.now.state e row.now [] (Some stack.now)) }
+    ensures entries { IfOk result (λ m. m.entries ≡
+        why.call ∷ failed_entries e row.now [] (Some stack.now) why.reason) }
+    ensures lasts { IfOk result (λ m. ¬ IsWorn m.changes) }
+    ensures cause { IfErr result (λ r. (r ≡ Memory)
+        ⊎ ((r ≡ Worn) × IsWorn (failed_changes s.now.state e row.now [] (Some stack.now)))) }
+{
     if !may_rise(row) {
         return Err(Refusal::Worn);
     }
-    let none = Batch::new(alloc);
-    let first = ended(alloc, s, e, row, none.as_slice(), Some(stack), why)?;
-    match behind {
-        Some(last) => Ok(joined(first, last)?),
-        None => Ok(first),
-    }
+    ended(alloc, s, e, row, &[], Some(stack), why)
+}
+
+// The mark, and the rollback behind it.
+fn rolled(
+    alloc: Global,
+    s: &State,
+    e: EngineNo,
+    row: &Row,
+    stack: &Stack,
+    last: Made,
+    why: Failure,
+) -> Result<Made, Refusal>
+    requires range { s.now.state.next.letter ≤ 2 ^ 62 }
+    requires lasts { ¬ IsWorn last.changes }
+    ensures changes { IfOk result (λ m. m.changes ≡
+        failed_changes s.now.state e row.now [] (Some stack.now) ++ last.changes) }
+    ensures entries { IfOk result (λ m. m.entries ≡
+        (why.call ∷ failed_entries e row.now [] (Some stack.now) why.reason) ++ last.entries) }
+    ensures lasts { IfOk result (λ m. ¬ IsWorn m.changes) }
+    ensures cause { IfErr result (λ r. (r ≡ Memory)
+        ⊎ ((r ≡ Worn) × IsWorn (failed_changes s.now.state e row.now [] (Some stack.now)))) }
+{
+    let first = marked(alloc, s, e, row, stack, why)?;
+    Ok(joined(first, last)?)
 }
 
 // The step of a failure, but for the rollback.

@@ -1,27 +1,43 @@
-use Rattle.std.proofs.Common.{◌≡◌, ◌+◌, ◌^◌, refl, arith}
-use Rattle.std.proofs.lemmas.Result.{err_from_is_err_and}
-use Rattle.step_ends.proofs.Fallen.{behind_lasts, behind_none, behind_some, behind_worn_out, marked_high, marked_refusal}
-use Rattle.step_ends.proofs.Refusing.{beyond}
+use Rattle.std.proofs.Common.{◌≡◌, ◌+◌, ◌^◌, refl, subst}
+use Rattle.std.specs.Prelude.{Option}
+use Rattle.std.proofs.lemmas.Result.{IfErr-weaker, IfOk-weaker}
+use Rattle.core_state.specs.declared.made.Made.{Made}
+use Rattle.step_ends.specs.Marks.{IsBehind}
+use Rattle.step_ends.proofs.Fallen.{alone_refusal, behind_worn_out, marked_alone, marked_rolls, rolls_refusal}
+use Rattle.step_ends.proofs.Passing.{IfOk-both}
 use Rattle.step_ends.proofs.falling.mark.Goals as goal
 
-pub returns-in_err-behind-clause-cause : goal.returns-in_err-behind-clause-cause
-returns-in_err-behind-clause-cause c =
-    let p = err_from_is_err_and c.from_residual.result c.from_residual.ensures.1 in
-    rw (p.1, p.2) (behind_worn_out c.args.s.now.state c.args.e c.args.row.now c.args.stack.now c.args.why c.requires.row _ c.in_err-behind.ensures.cause)
+pub rolled-requires-clause-lasts : goal.rolled-requires-clause-lasts
+rolled-requires-clause-lasts c =
+    let behind = subst (λ (o : Option Made). IsBehind c.args.s.now.state c.args.e c.args.stack.now o) c.in-Ok-Some.field-0-is c.in-Ok-Some.ensures.made in
+    behind.1
 
-pub returns-then-not-may_rise-clause-cause : goal.returns-then-not-may_rise-clause-cause
-returns-then-not-may_rise-clause-cause c =
-    marked_high c.args.s.now.state c.args.e c.args.row.now c.args.stack.now c.args.why c.requires.row c.in_ok-behind.behind c.in_ok-behind.ensures.made
-    (beyond _ (c.args.row.now.key + 1) (2 ^ 62) c.may_rise.ensures.1 c.if-not-may_rise.true)
+pub returns-in-Ok-Some-clause-made : goal.returns-in-Ok-Some-clause-made
+returns-in-Ok-Some-clause-made c =
+    let behind = subst (λ (o : Option Made). IsBehind c.args.s.now.state c.args.e c.args.stack.now o) c.in-Ok-Some.field-0-is c.in-Ok-Some.ensures.made in
+    IfOk-weaker c.rolled.result _ _
+    (λ m k. marked_rolls c.args.s.now.state c.args.e c.args.row.now c.args.stack.now c.args.why c.requires.row _ _ behind.0 _ _ k.0 k.1)
+    (IfOk-both c.rolled.result _ _ c.rolled.ensures.changes c.rolled.ensures.entries)
 
-pub returns-in_err-first-clause-cause : goal.returns-in_err-first-clause-cause
-returns-in_err-first-clause-cause c = ?
+pub returns-in-Ok-Some-clause-cause : goal.returns-in-Ok-Some-clause-cause
+returns-in-Ok-Some-clause-cause c =
+    let behind = subst (λ (o : Option Made). IsBehind c.args.s.now.state c.args.e c.args.stack.now o) c.in-Ok-Some.field-0-is c.in-Ok-Some.ensures.made in
+    IfErr-weaker c.rolled.result _ _
+    (λ r k. rolls_refusal c.args.s.now.state c.args.e c.args.row.now c.args.stack.now c.args.why c.requires.row _ _ behind.0 r k) c.rolled.ensures.cause
 
-pub returns-in-Some-clause-made : goal.returns-in-Some-clause-made
-returns-in-Some-clause-made c = ?
+pub returns-in-Ok-None-clause-made : goal.returns-in-Ok-None-clause-made
+returns-in-Ok-None-clause-made c =
+    let behind = subst (λ (o : Option Made). IsBehind c.args.s.now.state c.args.e c.args.stack.now o) c.in-Ok-None.field-0-is c.in-Ok-None.ensures.made in
+    IfOk-weaker c.marked.result _ _
+    (λ m k. marked_alone c.args.s.now.state c.args.e c.args.row.now c.args.stack.now c.args.why c.requires.row behind _ _ k.0 k.1)
+    (IfOk-both c.marked.result _ _ c.marked.ensures.changes c.marked.ensures.entries)
 
-pub returns-in-Some-clause-lasts : goal.returns-in-Some-clause-lasts
-returns-in-Some-clause-lasts c = ?
+pub returns-in-Ok-None-clause-cause : goal.returns-in-Ok-None-clause-cause
+returns-in-Ok-None-clause-cause c =
+    let behind = subst (λ (o : Option Made). IsBehind c.args.s.now.state c.args.e c.args.stack.now o) c.in-Ok-None.field-0-is c.in-Ok-None.ensures.made in
+    IfErr-weaker c.marked.result _ _
+    (λ r k. alone_refusal c.args.s.now.state c.args.e c.args.row.now c.args.stack.now c.args.why c.requires.row behind r k) c.marked.ensures.cause
 
-pub returns-in-None-clause-made : goal.returns-in-None-clause-made
-returns-in-None-clause-made c = ?
+pub returns-in-Err-clause-cause : goal.returns-in-Err-clause-cause
+returns-in-Err-clause-cause c =
+    behind_worn_out c.args.s.now.state c.args.e c.args.row.now c.args.stack.now c.args.why c.requires.row c.in-Err.refusal c.in-Err.ensures.cause
