@@ -1,6 +1,5 @@
 //! The answer to a poll: not yet, ready, gone, or it fails.
-ghost use Rattle.std.specs.Prelude.{◌≡◌, ◌∷◌, IfErr, IfOk};
-ghost use Rattle.heat_plan.specs.declared.calls.Answered.TheVariants.{Ready};
+ghost use Rattle.std.specs.Prelude.{◌≡◌, ◌∷◌, [], IfErr, IfOk};
 ghost use Rattle.mail_table.specs.declared.mail.Stage.TheVariants.{Ending, Polling};
 ghost use Rattle.step_relation.specs.Asks.{Calls};
 ghost use Rattle.step_relation.specs.Begins.{begun_changes, begun_entries};
@@ -12,12 +11,12 @@ ghost use Rattle.step_ends.specs.Answers.{AnswersPoll, CallLasts, IsCall, IsCall
 
 use crate::calls::{job_of, polled_by, reason_of, row_of};
 use crate::falling::{Failure, fallen};
-use core_state::{Batch, Entry, Job, Made, Row, Stage, State};
+use core_state::{Batch, Change, Entry, Job, Made, Row, Stage, State};
 use heat_plan::{Answered, EngineNo, Facts, Refusal};
 use std::alloc::{AllocError, Global};
 use step_parts::{
     begun_changes, begun_entries, call_entry, one, purged_changes, purged_entries, ready_row,
-    with_first,
+    with_last,
 };
 
 /// What follows from the answer to the engine's poll; refuses `Worn` under every answer alike, so that it
@@ -92,13 +91,22 @@ fn told(
 {
     let call = call_entry(e, row, polled_by(row), answer)?;
     match answer {
-        Answered::NotYet => Made::new(alloc, Batch::new(alloc), one(alloc, call)?),
+        Answered::NotYet => waiting(alloc, call),
         Answered::Ready(facts) => readied(alloc, e, job, row, facts, call),
         Answered::Gone => gone(alloc, e, job, row, call),
         Answered::Begun | Answered::Quota | Answered::Failed | Answered::Broken(_) => {
             unreachable!()
         }
     }
+}
+
+// Nothing changes.
+fn waiting(alloc: Global, call: Entry) -> Result<Made, AllocError>
+    ensures changes { IfOk result (λ m. m.changes ≡ []) }
+    ensures entries { IfOk result (λ m. m.entries ≡ call ∷ []) }
+{
+    let entries = one(alloc, call)?;
+    Made::new(alloc, Batch::new(alloc), entries)
 }
 
 // A ready resource's facts are stored, and its job ends next.
@@ -114,9 +122,40 @@ fn readied(
     ensures entries { IfOk result (λ m. m.entries ≡
         call ∷ begun_entries e job.now Ending (ready_row row.now facts.now)) }
 {
-    let changes = begun_changes(alloc, job, Stage::Ending, ready_row(row, facts)?)?;
-    let entries = begun_entries(alloc, e, job, Stage::Ending, ready_row(row, facts)?)?;
-    Made::new(alloc, changes, with_first(alloc, call, entries)?)
+    let entries = ready_entries(alloc, e, job, row, facts, call)?;
+    let changes = ready_changes(alloc, job, row, facts)?;
+    Made::new(alloc, changes, entries)
+}
+
+// The row and the job.
+fn ready_changes(
+    alloc: Global,
+    job: &Job,
+    row: &Row,
+    facts: &Facts,
+) -> Result<Batch<Change>, AllocError>
+    ensures { IfOk result (λ changes. changes ≡ begun_changes job.now Ending (ready_row row.now facts.now)) }
+{
+    let row = ready_row(row, facts)?;
+    begun_changes(alloc, job, Stage::Ending, row)
+}
+
+// The call, and what is told of them.
+fn ready_entries(
+    alloc: Global,
+    e: EngineNo,
+    job: &Job,
+    row: &Row,
+    facts: &Facts,
+    call: Entry,
+) -> Result<Batch<Entry>, AllocError>
+    ensures { IfOk result (λ entries. entries ≡
+        call ∷ begun_entries e job.now Ending (ready_row row.now facts.now)) }
+{
+    let told = one(alloc, call)?;
+    let row = ready_row(row, facts)?;
+    let rest = begun_entries(alloc, e, job, Stage::Ending, row)?;
+    with_last(told, rest)
 }
 
 // A resource is gone: its row goes, and its job ends next.
@@ -124,7 +163,22 @@ fn gone(alloc: Global, e: EngineNo, job: &Job, row: &Row, call: Entry) -> Result
     ensures changes { IfOk result (λ m. m.changes ≡ purged_changes job.now row.now) }
     ensures entries { IfOk result (λ m. m.entries ≡ call ∷ purged_entries e job.now row.now) }
 {
+    let entries = gone_entries(alloc, e, job, row, call)?;
     let changes = purged_changes(alloc, job, row)?;
-    let entries = purged_entries(alloc, e, job, row)?;
-    Made::new(alloc, changes, with_first(alloc, call, entries)?)
+    Made::new(alloc, changes, entries)
+}
+
+// The call, and what is told of them.
+fn gone_entries(
+    alloc: Global,
+    e: EngineNo,
+    job: &Job,
+    row: &Row,
+    call: Entry,
+) -> Result<Batch<Entry>, AllocError>
+    ensures { IfOk result (λ entries. entries ≡ call ∷ purged_entries e job.now row.now) }
+{
+    let told = one(alloc, call)?;
+    let rest = purged_entries(alloc, e, job, row)?;
+    with_last(told, rest)
 }
