@@ -1,1 +1,4 @@
-pub mod Drafts
+pub mod Orders
+pub mod Choices
+pub mod Layouts
+pub mod Answers

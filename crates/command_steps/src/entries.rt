@@ -1,71 +1,82 @@
-//! The entries of a create: the command, the rows, the letters, and the mark where there is nothing to do.
-ghost use Rattle.std.specs.Prelude.{◌≡◌, ◌++◌, ◌∷◌, [], false, IfOk, OnOk, Some, map};
-ghost use Rattle.heat_plan.specs.declared.phase.Act.TheVariants.{Create};
-ghost use Rattle.core_state.specs.declared.entry.Actor.TheVariants.{Main};
-ghost use Rattle.core_state.specs.declared.entry.RowWrite.TheVariants.{Set};
+//! The entries of a command.
+ghost use Rattle.std.specs.Prelude.{◌≡◌, ◌++◌, ◌∷◌, [], IfOk, map};
 ghost use Rattle.core_state.specs.declared.entry.MailWrite.TheVariants.{Sent};
+ghost use Rattle.core_state.specs.declared.entry.RowWrite.TheVariants.{Set};
 ghost use Rattle.core_state.specs.declared.entry.What.TheVariants as what;
-ghost use Rattle.core_state.specs.Commands.{set_entry, sent_entry, complete_entry};
+ghost use Rattle.step_relation.specs.Writes.{entry_of, mail_entry, rows_entry};
+ghost use Rattle.command_steps.specs.Layouts.{draft_entries, settle_mark};
 
 use crate::draft::Draft;
-use core_state::{Actor, Batch, Entry, Letter, MailWrite, Row, RowWrite, What};
-use heat_plan::{Act, Item, Plan, StackName, TravNo};
+use core_state::{Actor, Batch, Entry, Row, RowWrite, SharedPlan, Stack, What};
+use heat_plan::Plan;
 use heat_value::{Seq, TryCopy};
 use std::alloc::{AllocError, Global};
+use step_parts::{complete_mark, mail_entry, one, rows_entry, sent_all, with_last};
+use traversal_graph::Node;
 
-/// The entries of a draft.
-pub fn entries_of(
-    alloc: Global,
-    name: &StackName,
-    plan: &Plan,
-    draft: &Draft,
-) -> Result<Batch<Entry>, AllocError>
-    ensures { IfOk result (λ entries. entries ≡
-        record { by = Main; what = what.Command name.now draft.now.heads.trav Create (Some plan.now) false }
-        ∷ (set_entry Main draft.now.rows
-        ++ (sent_entry Main draft.now.letters
-        ++ complete_entry Main name.now draft.now.heads.trav plan.now.items))) }
+/// The command, the rows, the letters, and the mark where there is nothing to do.
+pub(crate) fn entries_of(alloc: Global, draft: &Draft) -> Result<Batch<Entry>, AllocError>
+    ensures { IfOk result (λ entries. entries ≡ draft_entries draft.now) }
 {
-    let mut entries = Batch::new(alloc);
-    entries.push(command(name, draft.heads.trav, plan)?)?;
-    tell_rows(alloc, &mut entries, draft.rows.as_slice())?;
-    tell_letters(alloc, &mut entries, draft.letters.as_slice())?;
-    tell_mark(&mut entries, name, draft.heads.trav, plan.items())?;
-    Ok(entries)
+    let first = command_told(alloc, draft)?;
+    with_last(first, behind_told(alloc, draft)?)
+}
+
+// The command.
+fn command_told(alloc: Global, draft: &Draft) -> Result<Batch<Entry>, AllocError>
+    ensures { IfOk result (λ entries. entries ≡ entry_of draft.now.actor
+        (what.Command draft.now.stack.name draft.now.stack.trav draft.now.stack.act
+        draft.now.stack.plan draft.now.past.rollback) ∷ []) }
+{
+    one(alloc, command_entry(draft)?)
+}
+
+// What is told behind the command.
+fn behind_told(alloc: Global, draft: &Draft) -> Result<Batch<Entry>, AllocError>
+    ensures { IfOk result (λ entries. entries ≡ rows_entry draft.now.actor (map Set draft.now.rows)
+        ++ (mail_entry draft.now.actor (map Sent draft.now.letters)
+        ++ settle_mark draft.now.graph.nodes draft.now.actor draft.now.stack)) }
+{
+    let rows = rows_told(alloc, draft)?;
+    with_last(rows, mail_told(alloc, draft)?)
 }
 
 // The command itself.
-fn command(stack: &StackName, trav: TravNo, plan: &Plan) -> Result<Entry, AllocError>
-    ensures { IfOk result (λ entry. entry ≡ record {
-      by = Main;
-      what = what.Command stack.now trav Create (Some plan.now) false;
-    }) }
+fn command_entry(draft: &Draft) -> Result<Entry, AllocError>
+    ensures { IfOk result (λ entry. entry ≡ entry_of draft.now.actor
+        (what.Command draft.now.stack.name draft.now.stack.trav draft.now.stack.act
+        draft.now.stack.plan draft.now.past.rollback)) }
 {
+    let stack = &draft.stack;
     Ok(Entry {
-        by: Actor::Main,
+        by: draft.actor,
         what: What::Command {
-            stack: stack.copy()?,
-            trav,
-            act: Act::Create,
-            plan: Some(plan.copy()?),
-            rollback: false,
+            stack: stack.name.copy()?,
+            trav: stack.trav,
+            act: stack.act,
+            plan: told_plan(&stack.plan)?,
+            rollback: draft.past.rollback,
         },
     })
 }
 
-// The rows, where there are any.
-fn tell_rows(alloc: Global, entries: &mut Batch<Entry>, rows: &[Row]) -> Result<(), AllocError>
-    ensures { OnOk result (entries.new ≡ entries.old ++ set_entry Main rows.now) }
+// The plan as it is told.
+fn told_plan(plan: &Option<SharedPlan>) -> Result<Option<Plan>, AllocError>
+    ensures { IfOk result (λ told. told ≡ plan.now) }
 {
-    if rows.is_empty() {
-        return Ok(());
+    match plan {
+        Some(plan) => Ok(Some(plan.plan().copy()?)),
+        None => Ok(None),
     }
-    entries.push(Entry {
-        by: Actor::Main,
-        what: What::Rows {
-            writes: set_all(alloc, rows)?,
-        },
-    })
+}
+
+// The rows that were made.
+fn rows_told(alloc: Global, draft: &Draft) -> Result<Batch<Entry>, AllocError>
+    ensures { IfOk result (λ entries. entries ≡ rows_entry draft.now.actor
+        (map Set draft.now.rows)) }
+{
+    let writes = set_all(alloc, draft.rows.as_slice())?;
+    rows_entry(alloc, draft.actor, writes)
 }
 
 // A write of each row.
@@ -79,55 +90,29 @@ fn set_all(alloc: Global, rows: &[Row]) -> Result<Seq<RowWrite>, AllocError>
     Ok(writes)
 }
 
-// The letters, where there are any.
-fn tell_letters(
+// The letters that were sent, and the mark.
+fn mail_told(alloc: Global, draft: &Draft) -> Result<Batch<Entry>, AllocError>
+    ensures { IfOk result (λ entries. entries ≡ mail_entry draft.now.actor
+        (map Sent draft.now.letters)
+        ++ settle_mark draft.now.graph.nodes draft.now.actor draft.now.stack) }
+{
+    let writes = sent_all(alloc, draft.letters.as_slice())?;
+    let mail = mail_entry(alloc, draft.actor, writes)?;
+    let nodes = draft.graph.nodes.as_slice();
+    with_last(mail, settle_mark(alloc, nodes, draft.actor, &draft.stack)?)
+}
+
+// What is told of the stack's mark, where its graph has no node.
+fn settle_mark(
     alloc: Global,
-    entries: &mut Batch<Entry>,
-    letters: &[Letter],
-) -> Result<(), AllocError>
-    ensures { OnOk result (entries.new ≡ entries.old ++ sent_entry Main letters.now) }
+    nodes: &[Node],
+    actor: Actor,
+    stack: &Stack,
+) -> Result<Batch<Entry>, AllocError>
+    ensures { IfOk result (λ entries. entries ≡ settle_mark nodes.now actor stack.now) }
 {
-    if letters.is_empty() {
-        return Ok(());
+    match nodes {
+        [] => one(alloc, complete_mark(actor, stack)?),
+        [_, ..] => Ok(Batch::new(alloc)),
     }
-    entries.push(Entry {
-        by: Actor::Main,
-        what: What::Mail {
-            writes: sent_all(alloc, letters)?,
-        },
-    })
-}
-
-// The sending of each letter.
-fn sent_all(alloc: Global, letters: &[Letter]) -> Result<Seq<MailWrite>, AllocError>
-    ensures { IfOk result (λ writes. writes ≡ map Sent letters.now) }
-{
-    let mut writes = Seq::with_capacity(alloc, letters.len())?;
-    for letter in letters {
-        writes.push(MailWrite::Sent(letter.copy()?))?;
-    }
-    Ok(writes)
-}
-
-// The mark, where there is nothing to do.
-fn tell_mark(
-    entries: &mut Batch<Entry>,
-    stack: &StackName,
-    trav: TravNo,
-    items: &[Item],
-) -> Result<(), AllocError>
-    ensures { OnOk result (entries.new ≡ entries.old ++ complete_entry Main stack.now trav items.now) }
-{
-    if !items.is_empty() {
-        return Ok(());
-    }
-    entries.push(Entry {
-        by: Actor::Main,
-        what: What::Mark {
-            stack: stack.copy()?,
-            trav,
-            act: Act::Create,
-            cause: None,
-        },
-    })
 }

@@ -1,19 +1,55 @@
-//! That a create of nothing succeeds with ample memory and is marked, and that rows and letters are
-//! made.
+//! Lists of commands of one stack, each applied where it is made, and what is left of them: which
+//! answer each gets, and how many rows, letters and nodes there are in the end. Each call succeeds
+//! with ample memory, and each refusal but those of limits and of numbers is met once.
+ghost use Rattle.std.specs.Prelude.{◌≡◌, [], IfOk};
 
-use crate::create;
-use crate::letters::letters_to;
-use crate::rows::new_rows;
-use core_state::{Made, Next, State, What};
+use crate::{cancel, create, delete, is_due, roll_back, update};
+use core_state::{Made, State};
 use heat_plan::{
-    Item, Kind, Needs, Parameters, Plan, Policy, Properties, ResName, StackName, TravNo,
+    EngineNo, Item, Kind, Needs, Parameters, Plan, Policy, Properties, Refusal, ResName, StackName,
 };
 use heat_value::{Seq, Text};
-use std::alloc::Global;
+use std::alloc::{AllocError, Global};
 use std::test::Fail;
 
-fn stack_name(rt: &impl AllocGlobal) -> Result<StackName, Fail> {
-    Ok(StackName::read(rt.alloc(), b"s")?.ok_or("a name")?)
+/// An item that needs nothing.
+fn item(alloc: Global, name: &[u8]) -> Result<Item, Fail>
+    ensures { IfOk result (λ i. i.needs ≡ []) }
+{
+    let name = ResName::read(alloc, name)?.ok_or("a name")?;
+    Ok(Item {
+        name,
+        kind: Kind {
+            name: Text::from_str(alloc, "Test::Box")?,
+            attrs: Seq::new(alloc),
+            soft: Seq::new(alloc),
+        },
+        props: Properties::new(alloc),
+        needs: Needs::new(alloc),
+        policy: Policy::Delete,
+    })
+}
+
+/// The plan of one item.
+fn plan_of(alloc: Global, item: Item) -> Result<Plan, AllocError>
+    requires { item.needs ≡ [] }
+{
+    let mut items = Seq::new(alloc);
+    items.push(item)?;
+    Ok(Plan::new(
+        items,
+        Seq::new(alloc),
+        Parameters::new(alloc),
+        Seq::new(alloc),
+        Seq::new(alloc),
+        Seq::new(alloc),
+    ))
+}
+
+/// The plan of one item of this name.
+fn plan(alloc: Global, name: &[u8]) -> Result<Plan, Fail> {
+    let item = item(alloc, name)?;
+    Ok(plan_of(alloc, item)?)
 }
 
 /// A plan of nothing.
@@ -28,63 +64,133 @@ fn no_plan(alloc: Global) -> Plan {
     )
 }
 
-/// Whether the last of two entries is a mark.
-fn is_marked(made: &Made) -> bool {
-    match made.entries.as_slice() {
-        [_command, last] => matches!(&last.what, What::Mark { .. }),
-        _ => false,
+/// One command: a create of nothing or of `a`, an update to `a` or to `b`, a delete, a rollback or
+/// a cancel.
+fn commanded(
+    alloc: Global,
+    s: &State,
+    name: &StackName,
+    letter: u8,
+) -> Result<Result<Made, Refusal>, Fail> {
+    match letter {
+        b'e' => Ok(create(alloc, s, name, no_plan(alloc), false)),
+        b'c' => Ok(create(alloc, s, name, plan(alloc, b"a")?, true)),
+        b'u' => Ok(update(alloc, s, name, plan(alloc, b"a")?, true)),
+        b'n' => Ok(update(alloc, s, name, plan(alloc, b"b")?, false)),
+        b'd' => Ok(delete(alloc, s, name)),
+        b'r' => rolled_back(alloc, s, name),
+        _ => Ok(cancel(alloc, s, name)),
     }
 }
 
-/// How many changes a create of nothing makes (numbers, stack, past, graph), and whether it is
-/// marked; none where it is refused.
-fn create_nothing(alloc: Global, state: &State, name: &StackName) -> Option<(usize, bool)> {
-    match create(alloc, state, name, no_plan(alloc)) {
-        Ok(made) => Some((made.changes.len(), is_marked(&made))),
-        Err(_) => None,
+/// The rollback behind a failure, where it is due.
+fn rolled_back(alloc: Global, s: &State, name: &StackName) -> Result<Result<Made, Refusal>, Fail> {
+    let engine = EngineNo::new(1).ok_or("a number")?;
+    match s.stack(name) {
+        Some(stack) if is_due(s, stack) => Ok(roll_back(alloc, s, engine, stack)),
+        _ => Ok(Err(Refusal::NotRunning)),
     }
 }
 
-#[test]
-fn a_create_of_nothing_is_marked(rt: HostRuntime) -> Result<(), Fail> {
-    let name = stack_name(&rt)?;
-    let state = State::new(rt.alloc());
-    let seen = create_nothing(rt.alloc(), &state, &name);
-    assert_eq!(rt; seen, Some((4, true)));
+/// Makes the changes.
+fn apply(s: &mut State, made: Made) -> Result<(), AllocError> {
+    let Made {
+        changes,
+        entries: _,
+    } = made;
+    s.reserve(changes.len())?;
+    s.apply_all(changes);
     Ok(())
 }
 
-/// An item that needs nothing.
-fn item(rt: &impl AllocGlobal) -> Result<Item, Fail> {
-    Ok(Item {
-        name: ResName::read(rt.alloc(), b"a")?.ok_or("a name")?,
-        kind: Kind {
-            name: Text::from_str(rt.alloc(), "Test::Box")?,
-            attrs: Seq::new(rt.alloc()),
-            soft: Seq::new(rt.alloc()),
-        },
-        props: Properties::new(rt.alloc()),
-        needs: Needs::new(rt.alloc()),
-        policy: Policy::Delete,
-    })
+/// The letter of a refusal.
+fn letter_of(refusal: Refusal) -> u8 {
+    match refusal {
+        Refusal::StackExists => b'E',
+        Refusal::NoStack => b'N',
+        Refusal::Deleting => b'D',
+        Refusal::NotRunning => b'R',
+        _ => b'?',
+    }
 }
 
-/// How many rows an item gets.
-fn rows_made(rt: &impl AllocGlobal, name: &StackName, trav: TravNo) -> Result<usize, Fail> {
-    let items = [item(rt)?];
-    Ok(new_rows(rt.alloc(), name, trav, Next::first(), &items)?.len())
+/// One command, and its changes where it is made.
+fn run_one(alloc: Global, s: &mut State, name: &StackName, letter: u8) -> Result<u8, Fail> {
+    match commanded(alloc, s, name, letter)? {
+        Ok(made) => {
+            apply(s, made)?;
+            Ok(b'+')
+        }
+        Err(refusal) => Ok(letter_of(refusal)),
+    }
 }
 
-/// How many letters two nodes get.
-fn letters_made(rt: &impl AllocGlobal, name: &StackName, trav: TravNo) -> Result<usize, Fail> {
-    Ok(letters_to(rt.alloc(), name, trav, Next::first(), &[0, 2])?.len())
+/// How many rows, letters and nodes of the stack's graph there are, as digits.
+fn counts(s: &State, name: &StackName) -> [u8; 3] {
+    let nodes = match s.graph(name) {
+        Some(graph) => graph.graph.nodes.len(),
+        None => 9,
+    };
+    [
+        digit(s.rows().len()),
+        digit(s.letters().len()),
+        digit(nodes),
+    ]
+}
+
+/// A digit.
+fn digit(count: usize) -> u8 {
+    if count < 10 { b'0' + count as u8 } else { b'?' }
+}
+
+/// The answers of these commands, and the counts behind them.
+fn run_all(
+    alloc: Global,
+    s: &mut State,
+    name: &StackName,
+    letters: &[u8],
+) -> Result<Vec<u8>, Fail> {
+    let mut told = Vec::new(alloc);
+    for letter in letters {
+        told.push(run_one(alloc, s, name, *letter)?)?;
+    }
+    for digit in counts(s, name) {
+        told.push(digit)?;
+    }
+    Ok(told)
+}
+
+/// The same from the empty state.
+fn told(alloc: Global, letters: &[u8]) -> Result<Vec<u8>, Fail> {
+    let name = StackName::read(alloc, b"s")?.ok_or("a name")?;
+    let mut s = State::new(alloc);
+    run_all(alloc, &mut s, &name, letters)
+}
+
+/// Whether these commands give that.
+fn gives(alloc: Global, letters: &[u8], wanted: &[u8]) -> Result<bool, Fail> {
+    Ok(told(alloc, letters)?.as_slice() == wanted)
 }
 
 #[test]
-fn rows_and_letters_are_made(rt: HostRuntime) -> Result<(), Fail> {
-    let trav = TravNo::new(1).ok_or("a number")?;
-    let name = stack_name(&rt)?;
-    assert_eq!(rt; rows_made(&rt, &name, trav)?, 1);
-    assert_eq!(rt; letters_made(&rt, &name, trav)?, 2);
+fn each_command_is_made(rt: HostRuntime) -> Result<(), Fail> {
+    assert!(rt; gives(rt.alloc(), b"e", b"+000")?);
+    assert!(rt; gives(rt.alloc(), b"c", b"+111")?);
+    assert!(rt; gives(rt.alloc(), b"cu", b"++122")?);
+    assert!(rt; gives(rt.alloc(), b"cn", b"++232")?);
+    assert!(rt; gives(rt.alloc(), b"cd", b"++121")?);
+    assert!(rt; gives(rt.alloc(), b"ed", b"++009")?);
+    assert!(rt; gives(rt.alloc(), b"cx", b"++121")?);
+    assert!(rt; gives(rt.alloc(), b"cr", b"++121")?);
+    Ok(())
+}
+
+#[test]
+fn each_refusal_is_met(rt: HostRuntime) -> Result<(), Fail> {
+    assert!(rt; gives(rt.alloc(), b"xudcc", b"NNN+E111")?);
+    assert!(rt; gives(rt.alloc(), b"cdux", b"++DD121")?);
+    assert!(rt; gives(rt.alloc(), b"cxx", b"++R121")?);
+    assert!(rt; gives(rt.alloc(), b"ex", b"+R000")?);
+    assert!(rt; gives(rt.alloc(), b"cnr", b"++R232")?);
     Ok(())
 }

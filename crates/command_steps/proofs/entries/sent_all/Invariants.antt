@@ -1,6 +1,0 @@
-use Rattle.std.proofs.Common.{◌≡◌, map, take}
-use Rattle.core_state.specs.declared.entry.MailWrite.TheVariants.{Sent}
-use Rattle.command_steps.proofs.entries.sent_all.Given as goal
-
-abbrev pub invariant-loop-letter : goal.invariant-loop-letter
-invariant-loop-letter l = l.writes ≡ map Sent (take l.letter-index l.letters)
