@@ -1,5 +1,5 @@
-//! Single moves with their changes and entries written out, each by the law of its group. Nothing here is
-//! run: each function has an empty body and stands for its clause.
+//! Single moves with their changes and entries written out, each by the law of its group. Nothing
+//! here is run: each function has an empty body and stands for its clause.
 #![tactic(auto)]
 
 ghost use Rattle.case_laws.specs.Covers.{StaleEndTells, StaleTakeOverTells};

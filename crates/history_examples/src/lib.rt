@@ -1,5 +1,5 @@
-//! Written-out histories of a stack with one resource: each is a run, and has the main theorem. Nothing
-//! here is run: each function has an empty body and stands for its clause.
+//! Written-out histories of a stack with one resource: each is a run, and has the main theorem.
+//! Nothing here is run: each function has an empty body and stands for its clause.
 #![tactic(auto)]
 
 ghost use Rattle.history_examples.specs.Completed.{IsCompleted, complete_before_clean_up};
