@@ -44,7 +44,7 @@ pub record IsNew (next count : ℕ) (r : Row) : Type 0 where
   pub low : next ≤ r.no
   pub high : r.no < next + count
 
-new_rows : (s : StateData) (stack : List ℕ) (trav next : ℕ) (items : List Item) (ns : List ℕ) (rs : List Row) → Chooses s stack trav next items ns rs
+pub new_rows : (s : StateData) (stack : List ℕ) (trav next : ℕ) (items : List Item) (ns : List ℕ) (rs : List Row) → Chooses s stack trav next items ns rs
     → (r : Row) → Contains rs r → IsNew next (length rs) r
 new_rows s stack trav next items ns rs (none _) r c = absurd (no_member r c)
 new_rows s stack trav next items ns rs (current _ item more q chosen _ is on) r c = new_rows s stack trav next more chosen rs on r c
@@ -55,7 +55,7 @@ new_rows s stack trav next items ns rs (fresh _ item more chosen rest none_is on
       let low = k.low in let high = k.high in record { act = k.act; low = omega (arith, low); high = omega (arith, high) })
 ]
 
-letters_length : (st : Stack) (n : ℕ) (nodes : List ℕ) → length (letters_to st n nodes) ≡ length nodes
+pub letters_length : (st : Stack) (n : ℕ) (nodes : List ℕ) → length (letters_to st n nodes) ≡ length nodes
 letters_length st n [] = refl
 letters_length st n (node ∷ nodes) = let e = letters_length st (n + 1) nodes in omega (arith, e)
 
@@ -65,7 +65,7 @@ rows_else_in [] rows n ne = refl
 rows_else_in (q ∷ qs) rows n ne =
     rows_else_in qs (put_row q rows) n (λ p c. ne p (in_tail qs q p c)) ∙ row_else q rows n (ne q (in_head qs q))
 
-rows_found_in : (qs rows : List Row) (n : ℕ) (p : Row) → row_at (rows_in qs rows) n ≡ Some p → (row_at rows n ≡ Some p) ⊎ (Contains qs p × (p.no ≡ n))
+pub rows_found_in : (qs rows : List Row) (n : ℕ) (p : Row) → row_at (rows_in qs rows) n ≡ Some p → (row_at rows n ≡ Some p) ⊎ (Contains qs p × (p.no ≡ n))
 rows_found_in [] rows n p at = inl at
 rows_found_in (q ∷ qs) rows n p at = elim (rows_found_in qs (put_row q rows) n p at) [
   | inr later ↦ inr (in_tail qs q p later.0, later.1)
@@ -76,7 +76,7 @@ rows_found_in (q ∷ qs) rows n p at = elim (rows_found_in qs (put_row q rows) n
 ]
 
 -- the rows of clean-up nodes
-contains_at : {X : Type 0} (xs : List X) (i : ℕ) (x : X) → slice_get xs i ≡ Some x → Contains xs x
+pub contains_at : {X : Type 0} (xs : List X) (i : ℕ) (x : X) → slice_get xs i ≡ Some x → Contains xs x
 contains_at xs i x at = (i, slice_get_within xs i x at, get_or_from_slice_get xs i x x at)
 
 no_update : (items : List Item) (ns : List ℕ) (n : ℕ) → Contains (update_nodes items ns) (C n) → ⊥

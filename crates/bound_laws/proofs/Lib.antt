@@ -1,0 +1,14 @@
+pub mod Sets
+pub mod Still
+pub mod Jobs
+pub mod Rows
+pub mod Own
+pub mod Forms
+pub mod Lowers
+pub mod Replaces
+pub mod Finishing
+pub mod Ended
+pub mod Onward
+pub mod Moving
+pub mod Rolling
+pub mod Turning

@@ -1,0 +1,4 @@
+pub mod Counts
+pub mod Work
+pub mod Rolls
+pub mod Bound
