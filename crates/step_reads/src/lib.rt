@@ -16,6 +16,8 @@ mod points;
 mod resends;
 mod standing;
 mod targets;
+#[cfg(test)]
+mod tests;
 mod work;
 
 pub use current::current_of;
