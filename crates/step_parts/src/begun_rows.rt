@@ -87,8 +87,8 @@ pub fn ready_row(row: &Row, facts: &Facts) -> Result<Row, AllocError>
     Ok(row)
 }
 
-// The properties that the row was to get, where there are any, else its own.
-fn final_props(row: &Row) -> Result<Properties, AllocError>
+/// The properties that the row was to get, where there are any, else its own.
+pub fn final_props(row: &Row) -> Result<Properties, AllocError>
     ensures { IfOk result (λ props. props ≡ unwrap_or row.now.target row.now.props) }
 {
     match &row.target {

@@ -19,7 +19,7 @@ mod rooms;
 mod rows;
 mod wear;
 
-pub use begun_rows::{created_row, deleted_row, ready_row, same_row, updated_row};
+pub use begun_rows::{created_row, deleted_row, final_props, ready_row, same_row, updated_row};
 pub use entries::{call_entry, mail_entry, rows_entry};
 pub use gone::{purged_changes, purged_entries};
 pub use jobs::{job_of, moved_job, with_stage};
@@ -31,7 +31,7 @@ pub use moves::{
     begun_changes, begun_entries, left_changes, left_entries, onward_changes, onward_entries,
 };
 pub use new_rows::{new_row, replacement};
-pub use releases::{released_changes, released_entries};
+pub use releases::{ended_and_sent, released_changes, released_entries};
 pub use rooms::{has_room, may_all_rise, may_rise};
 pub use rows::{failed_row, locked, replaced, token_of, unlocked};
 pub use wear::{is_worn, made_within};

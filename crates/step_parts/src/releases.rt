@@ -48,8 +48,8 @@ pub fn released_entries(
     with_last(rows, mail_entry(alloc, by, ended)?)
 }
 
-// What is told of the end of a job, and of the letters behind it.
-fn ended_and_sent(
+/// What is told of the end of a job, and of the letters behind it.
+pub fn ended_and_sent(
     alloc: Global,
     of: EngineNo,
     letters: &[Letter],

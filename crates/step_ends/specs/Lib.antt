@@ -1,0 +1,5 @@
+pub mod Answers
+pub mod Releases
+pub mod Marks
+pub mod Falls
+pub mod Lost
