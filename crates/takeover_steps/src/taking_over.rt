@@ -8,6 +8,7 @@ use crate::relaying::relay;
 use core_state::{Job, Made, State};
 use heat_plan::{EngineNo, Refusal};
 use std::alloc::Global;
+use step_ends::takeover_overrun;
 use step_reads::freshness;
 
 /// The take-over of a stopped engine's job, by a live one: a job that is overrun is released;
@@ -19,6 +20,6 @@ pub fn takeover(alloc: Global, s: &State, e: EngineNo, job: &Job) -> Result<Made
 {
     match freshness(s, job) {
         Some(fresh) => relay(alloc, s, e, job, fresh.stack, fresh.row),
-        None => Err(Refusal::Memory),
+        None => takeover_overrun(alloc, s, e, job),
     }
 }
