@@ -61,8 +61,8 @@ fn fail(
     }
 }
 
-// The row is unlocked, the job ends, and the stack is marked.
-fn mark(
+/// The row is unlocked, the job ends, and the stack is marked.
+pub(crate) fn mark(
     alloc: Global,
     e: EngineNo,
     found: &Found<'_>,

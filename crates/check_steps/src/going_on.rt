@@ -65,14 +65,14 @@ pub(crate) fn update(
     ensures cause { IfErr result (MakesNone
         (begun_changes found.now.job.now Asking (updated found.now props.now))) }
 {
-    let row = updated_row(
+    let changed = updated_row(
         found.row,
         found.item,
         found.stack.trav,
         props,
         &found.required,
     )?;
-    go_with(alloc, e, found.job, Stage::Asking, row)
+    go_with(alloc, e, found.job, Stage::Asking, changed)
 }
 
 // The row is written, and the job is at this stage.

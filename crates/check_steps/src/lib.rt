@@ -17,6 +17,8 @@ mod prepared;
 mod preparing;
 mod replacing;
 mod taking;
+#[cfg(test)]
+mod tests;
 mod with_props;
 
 pub use beginning::begin;

@@ -46,8 +46,8 @@ pub fn take(alloc: Global, s: &State, e: EngineNo, letter: &Letter) -> Result<Ma
     }
 }
 
-// The letter goes, and nobody works for it.
-fn drop_letter(alloc: Global, e: EngineNo, letter: &Letter) -> Result<Made, Refusal>
+/// The letter goes, and nobody works for it.
+pub(crate) fn drop_letter(alloc: Global, e: EngineNo, letter: &Letter) -> Result<Made, Refusal>
     ensures made { IfOk result (Makes (dropped_changes letter.now) (dropped_entries e letter.now)) }
     ensures cause { IfErr result (MakesNone (dropped_changes letter.now)) }
 {
@@ -57,8 +57,13 @@ fn drop_letter(alloc: Global, e: EngineNo, letter: &Letter) -> Result<Made, Refu
     make(alloc, changes, entries)
 }
 
-// The row is locked, if it stands, and a job begins.
-fn hold(alloc: Global, e: EngineNo, letter: &Letter, meant: &Meant<'_>) -> Result<Made, Refusal>
+/// The row is locked, if it stands, and a job begins.
+pub(crate) fn hold(
+    alloc: Global,
+    e: EngineNo,
+    letter: &Letter,
+    meant: &Meant<'_>,
+) -> Result<Made, Refusal>
     ensures made { IfOk result (Makes
         (held_changes e letter.now meant.now.target (its_row meant.now))
         (held_entries e letter.now meant.now.target (its_row meant.now))) }
@@ -77,8 +82,8 @@ fn hold(alloc: Global, e: EngineNo, letter: &Letter, meant: &Meant<'_>) -> Resul
     make(alloc, changes, entries)
 }
 
-// The same, and the job that a stopped engine had with the row ends.
-fn steal(
+/// The same, and the job that a stopped engine had with the row ends.
+pub(crate) fn steal(
     alloc: Global,
     e: EngineNo,
     letter: &Letter,
