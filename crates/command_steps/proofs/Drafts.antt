@@ -22,13 +22,17 @@ settle_mark-same : (nodes : List Node) (s : StateData) (name : List ℕ) (it : S
 settle_mark-same [] s name it = refl
 settle_mark-same (node ∷ nodes) s name it = refl
 
-pub laying : (s : StateData) (name : List ℕ) (it : Sets) (draft : Draft) → IsDraft s name (plan_of it.plan).items it draft
-    → (cs : List Change) → cs ≡ draft_changes draft → (es : List Entry) → es ≡ draft_entries draft → IsLaying s name it cs es
+pub laying : (s : StateData) (name : List ℕ) (it : Sets) (draft : Draft)
+    → IsDraft s name (plan_of it.plan).items it draft
+    → (cs : List Change) → cs ≡ draft_changes draft → (es : List Entry) → es ≡ draft_entries draft
+    → IsLaying s name it cs es
 laying s name it draft d cs cs_are es es_are =
     let changes : draft_changes draft ≡ laid_changes s name (plan_of it.plan).items it d.lays =
-    rw (d.next_are, d.stack_is, d.past_is, d.rows_are, d.graph_is, d.letters_are, settles-same d.lays.graph.nodes s name it) refl in
+    rw (d.next_are, d.stack_is, d.past_is, d.rows_are, d.graph_is, d.letters_are)
+    (rw (settles-same d.lays.graph.nodes s name it) refl) in
     let entries : draft_entries draft ≡ laid_entries s name (plan_of it.plan).items it d.lays =
-    rw (d.actor_is, d.stack_is, d.past_is, d.rows_are, d.graph_is, d.letters_are, settle_mark-same d.lays.graph.nodes s name it) refl in
+    rw (d.actor_is, d.stack_is, d.past_is, d.rows_are, d.graph_is, d.letters_are)
+    (rw (settle_mark-same d.lays.graph.nodes s name it) refl) in
     record {
       lays = d.lays;
       changes = cs_are ∙ changes;

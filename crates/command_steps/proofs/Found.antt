@@ -73,10 +73,12 @@ lacks (r ∷ rows) name is q c = by (last_for rows name) refl is (lacks rows nam
   by None o e behind true s = let f : Some r.no ≡ None = rw s at e in cc
   by None o e behind false s = elim (cons_cases rows r q c) [ inl same ↦ rw same s | inr later ↦ behind o q later ]
 
-lasts : (rows : List Row) (name : List ℕ) (n : ℕ) → IsRising (map row_key rows) → last_for rows name ≡ Some n → Lasts rows name n
+lasts : (rows : List Row) (name : List ℕ) (n : ℕ) → IsRising (map row_key rows) → last_for rows name ≡ Some n
+    → Lasts rows name n
 lasts [] name n up is = cc
 lasts (r ∷ rows) name n up is =
-    by (last_for rows name) refl is (lasts rows name n (rising-tail row_key r rows up)) (lacks rows name) (stands_for r name) refl
+    by (last_for rows name) refl is (lasts rows name n (rising-tail row_key r rows up)) (lacks rows name)
+    (stands_for r name) refl
   where
     by : (o : Option ℕ) → last_for rows name ≡ o → or_else o (cond (stands_for r name) (Some r.no) None) ≡ Some n
         → (last_for rows name ≡ Some n → Lasts rows name n) → (last_for rows name ≡ None → Lacks rows name)
@@ -114,7 +116,8 @@ pub row-key : (rows : List Row) (n : ℕ) (r : Row) → row_at rows n ≡ Some r
 unfolding at
 row-key [] n r h = cc
 row-key (q ∷ rows) n r h = by (nat_eq q.no n) refl h (row-key rows n r) where
-  by : (b : Bool) → nat_eq q.no n ≡ b → cond b (Some q) (row_at rows n) ≡ Some r → (row_at rows n ≡ Some r → r.no ≡ n) → r.no ≡ n
+  by : (b : Bool) → nat_eq q.no n ≡ b → cond b (Some q) (row_at rows n) ≡ Some r → (row_at rows n ≡ Some r → r.no ≡ n)
+      → r.no ≡ n
   by true is e behind = let same : q ≡ r = cc in sym (ap row_key same) ∙ (Decides-eqb q.no n).0 is
   by false is e behind = behind e
 
@@ -137,8 +140,10 @@ module _ (rows : List Row) (stack : List ℕ) (standing : List Row) (are : AreRo
   no_current name h m q at in_stack called now =
       let f : true ≡ false = sym (stands_for-of q name now called) ∙ h q (are.each m q at in_stack) in cc
 
-pub chooses : (s : StateData) (stack : List ℕ) (trav next : ℕ) (standing : List Row) → AreRowsOf s.rows stack standing → (items : List Item)
-    → Chooses s stack trav next items (numbered next (found_for standing items)) (rows_made stack trav next items (found_for standing items))
+pub chooses : (s : StateData) (stack : List ℕ) (trav next : ℕ) (standing : List Row) → AreRowsOf s.rows stack standing
+    → (items : List Item)
+    → Chooses s stack trav next items (numbered next (found_for standing items))
+    (rows_made stack trav next items (found_for standing items))
 chooses s stack trav next standing are [] = none next
 chooses s stack trav next standing are (item ∷ items) =
     by (last_for standing item.name) refl (λ number. chooses s stack trav number standing are items)
@@ -147,11 +152,15 @@ chooses s stack trav next standing are (item ∷ items) =
     found = found_for standing items
 
     by : (o : Option ℕ) → last_for standing item.name ≡ o
-        → ((number : ℕ) → Chooses s stack trav number items (numbered number found) (rows_made stack trav number items found))
-        → Chooses s stack trav next (item ∷ items) (numbered next (o ∷ found)) (rows_made stack trav next (item ∷ items) (o ∷ found))
+        → ((number : ℕ)
+        → Chooses s stack trav number items (numbered number found) (rows_made stack trav number items found))
+        → Chooses s stack trav next (item ∷ items) (numbered next (o ∷ found))
+        (rows_made stack trav next (item ∷ items) (o ∷ found))
     by (Some n) is behind =
         let h = lasts standing item.name n are.rising is in
-        rw (← h.number) (current next item items h.row (numbered next found) (rows_made stack trav next items found) (current_of s.rows stack standing are item.name n h) (behind next))
+        rw (← h.number)
+        (current next item items h.row (numbered next found) (rows_made stack trav next items found)
+        (current_of s.rows stack standing are item.name n h) (behind next))
     by None is behind =
         fresh next item items (numbered (next + 1) found) (rows_made stack trav (next + 1) items found)
         (no_current s.rows stack standing are item.name (lacks standing item.name is)) (behind (next + 1))

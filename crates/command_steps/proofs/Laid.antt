@@ -15,7 +15,8 @@ use Rattle.command_steps.specs.Layouts.{IsLaidOut}
 use Rattle.command_steps.specs.declared.layout.Layout.{Layout}
 use Rattle.command_steps.proofs.Found.{chooses}
 
-length-update_nodes : (items : List Item) (chosen : List ℕ) → length chosen ≡ length items → length (update_nodes items chosen) ≡ length items
+length-update_nodes : (items : List Item) (chosen : List ℕ) → length chosen ≡ length items
+    → length (update_nodes items chosen) ≡ length items
 length-update_nodes [] chosen is = refl
 length-update_nodes (i ∷ items) [] is = absurd (omega (arith, is))
 length-update_nodes (i ∷ items) (n ∷ chosen) is = ap suc (length-update_nodes items chosen (omega (arith, is)))
@@ -25,17 +26,20 @@ length-numbered next [] = refl
 length-numbered next (Some n ∷ found) = ap suc (length-numbered next found)
 length-numbered next (None ∷ found) = ap suc (length-numbered (next + 1) found)
 
-pub length-rows_made : (stack : List ℕ) (trav next : ℕ) (items : List Item) (found : List (Option ℕ)) → length found ≡ length items
+pub length-rows_made : (stack : List ℕ) (trav next : ℕ) (items : List Item) (found : List (Option ℕ))
+    → length found ≡ length items
     → length (rows_made stack trav next items found) ≡ lacking found
 length-rows_made stack trav next [] [] is = refl
 length-rows_made stack trav next [] (o ∷ found) is = absurd (omega (arith, is))
 length-rows_made stack trav next (i ∷ items) [] is = absurd (omega (arith, is))
-length-rows_made stack trav next (i ∷ items) (Some n ∷ found) is = length-rows_made stack trav next items found (omega (arith, is))
+length-rows_made stack trav next (i ∷ items) (Some n ∷ found) is =
+    length-rows_made stack trav next items found (omega (arith, is))
 length-rows_made stack trav next (i ∷ items) (None ∷ found) is =
     omega (arith, length-rows_made stack trav (next + 1) items found (omega (arith, is)))
 
 module _ (items : List Item) (chosen other : List ℕ) (briefs : List RowBrief) (graph : TravGraph)
-    (many : length chosen ≡ length items) (too : length other ≡ length items) (built : IsBuilt items chosen briefs graph) where
+    (many : length chosen ≡ length items) (too : length other ≡ length items)
+    (built : IsBuilt items chosen briefs graph) where
   -- the same graph with other numbers of rows
   abbrev renumbered : TravGraph
   renumbered = record graph { nodes = update_nodes items other ++ cleanup_nodes built.sorted }
@@ -46,7 +50,8 @@ module _ (items : List Item) (chosen other : List ℕ) (briefs : List RowBrief) 
   same_count : length renumbered.nodes ≡ length graph.nodes
   same_count =
       length-append (update_nodes items other) (cleanup_nodes built.sorted)
-      ∙ ap (λ n. n + length (cleanup_nodes built.sorted)) (length-update_nodes items other too ∙ sym (length-update_nodes items chosen many))
+      ∙ ap (λ n. n + length (cleanup_nodes built.sorted))
+      (length-update_nodes items other too ∙ sym (length-update_nodes items chosen many))
       ∙ sym (length-append (update_nodes items chosen) (cleanup_nodes built.sorted))
       ∙ ap length (sym built.nodes)
 
@@ -60,9 +65,12 @@ module _ (items : List Item) (chosen other : List ℕ) (briefs : List RowBrief) 
   }
 
   same_graph : chosen ≡ other → renumbered ≡ graph
-  same_graph is = ap (λ (nodes : List Node). record graph { nodes = nodes }) (ap (λ c. update_nodes items c ++ cleanup_nodes built.sorted) (sym is) ∙ sym built.nodes)
+  same_graph is =
+      ap (λ (nodes : List Node). record graph { nodes = nodes })
+      (ap (λ c. update_nodes items c ++ cleanup_nodes built.sorted) (sym is) ∙ sym built.nodes)
 
-pub laid_out_is : (s : StateData) (name : List ℕ) (items : List Item) (standing : List Row) → AreRowsOf s.rows name standing
+pub laid_out_is : (s : StateData) (name : List ℕ) (items : List Item) (standing : List Row)
+    → AreRowsOf s.rows name standing
     → (layout : Layout) → layout.found ≡ found_for standing items
     → (chosen : List ℕ) → length chosen ≡ length layout.found
     → (s.next.row + lacking layout.found ≤ 2 ^ 62 → chosen ≡ numbered s.next.row layout.found)
@@ -82,12 +90,15 @@ laid_out_is s name items standing are layout found chosen many drawn built leave
         graph = renumbered items chosen next (map brief_of standing) layout.graph (many ∙ count) enough built;
         built = rebuilt items chosen next (map brief_of standing) layout.graph (many ∙ count) enough built;
         leaves = layout.leaves;
-        leaves_are = same_leaves items chosen next (map brief_of standing) layout.graph (many ∙ count) enough built layout.leaves leaves;
+        leaves_are =
+            same_leaves items chosen next (map brief_of standing) layout.graph (many ∙ count) enough built
+            layout.leaves leaves;
       };
       chosen_are = refl;
       rows_are = refl;
       each = count;
       many = length-rows_made name s.next.trav s.next.row items layout.found count;
       leaves_are = refl;
-      graph_is = λ room. same_graph items chosen next (map brief_of standing) layout.graph (many ∙ count) enough built (drawn room);
+      graph_is = λ room. same_graph items chosen next (map brief_of standing) layout.graph (many ∙ count) enough built
+          (drawn room);
     }

@@ -40,7 +40,8 @@ lasting-append (c ∷ cs) ds all more = (all.0, lasting-append cs ds all.1 more)
 lasting-rows : (s : StateData) (name : List ℕ) (t next : ℕ) (items : List Item) (chosen : List ℕ) (rows : List Row)
     → Chooses s name t next items chosen rows → Lasting (map PutRow rows)
 lasting-rows s name t next items chosen rows (none n) = tt
-lasting-rows s name t next items chosen rows (current n item its r ch rs is more) = lasting-rows s name t n its ch rs more
+lasting-rows s name t next items chosen rows (current n item its r ch rs is more) =
+    lasting-rows s name t n its ch rs more
 lasting-rows s name t next items chosen rows (fresh n item its ch rs is more) =
     (λ o. omega (arith, leb-true (2 ^ 62) 0 ((row_wears _ _ refl).1 o)), lasting-rows s name t (n + 1) its ch rs more)
 
@@ -57,11 +58,13 @@ lasting-mark st = by st.act refl where
   by Update is = rw is (no_other _ (inl (_, refl)), tt)
   by Rollback is = rw is (no_other _ (inl (_, refl)), tt)
 
-lasting-settles : (nodes : List Node) (s : StateData) (name : List ℕ) (it : Sets) → Lasting (settles_at_once nodes s name it)
+lasting-settles : (nodes : List Node) (s : StateData) (name : List ℕ) (it : Sets)
+    → Lasting (settles_at_once nodes s name it)
 lasting-settles [] s name it = lasting-mark (stack_set s name it InProgress)
 lasting-settles (node ∷ nodes) s name it = tt
 
-lasting-numbers : (n : Numbers) → n.stack ≤ 2 ^ 62 → n.trav ≤ 2 ^ 62 → n.row ≤ 2 ^ 62 → n.engine ≤ 2 ^ 62 → n.letter ≤ 2 ^ 62
+lasting-numbers : (n : Numbers) → n.stack ≤ 2 ^ 62 → n.trav ≤ 2 ^ 62 → n.row ≤ 2 ^ 62 → n.engine ≤ 2 ^ 62
+    → n.letter ≤ 2 ^ 62
     → ¬ Overflows (change_to.Numbers n)
 lasting-numbers n a b c d e (stack q over) = omega (arith, a, over)
 lasting-numbers n a b c d e (trav q over) = omega (arith, b, over)
@@ -73,18 +76,21 @@ module _ (s : StateData) (name : List ℕ) (items : List Item) (it : Sets) (k : 
   abbrev drawn : Numbers
   drawn = past_command s.next it.stacks (length k.rows) (length k.leaves)
 
-  pub unworn_laid : HasNumbers s.next it.stacks (length k.rows) (length k.leaves) → ¬ IsWorn (laid_changes s name items it k)
+  pub unworn_laid : HasNumbers s.next it.stacks (length k.rows) (length k.leaves)
+      → ¬ IsWorn (laid_changes s name items it k)
   unworn_laid has = unworn (laid_changes s name items it k) (
     lasting-numbers drawn has.stacks_fit has.trav_fits has.rows_fit has.engine_fits has.letters_fit,
     (
       no_other (PutStack (stack_set s name it InProgress)) (inl (_, refl)),
       (
         no_other (PutPast it.past) (inr (inr (inr (inr (inr (inr (inr (inr (inr (inr (inr (inl (_, refl))))))))))))),
-        lasting-append (map PutRow k.rows) _ (lasting-rows s name s.next.trav s.next.row items k.chosen k.rows k.chooses) (
-          no_other (PutGraph name k.graph) (inr (inr (inr (inl (_, _, refl))))),
-          lasting-append (map Send (first_letters s name items it k)) _ (lasting-sends (first_letters s name items it k))
-              (lasting-settles k.graph.nodes s name it),
-        ),
+        lasting-append (map PutRow k.rows) _
+            (lasting-rows s name s.next.trav s.next.row items k.chosen k.rows k.chooses) (
+              no_other (PutGraph name k.graph) (inr (inr (inr (inl (_, _, refl))))),
+              lasting-append (map Send (first_letters s name items it k)) _
+                  (lasting-sends (first_letters s name items it k))
+                  (lasting-settles k.graph.nodes s name it),
+            ),
       ),
     ),
   )
@@ -92,7 +98,8 @@ module _ (s : StateData) (name : List ℕ) (items : List Item) (it : Sets) (k : 
   worn_by : Overflows (change_to.Numbers drawn) → IsWorn (laid_changes s name items it k)
   worn_by over = record { change = change_to.Numbers drawn; among = (0, omega arith, refl); overflows = over }
 
-  pub worn_laid : ¬ HasNumbers s.next it.stacks (length k.rows) (length k.leaves) → IsWorn (laid_changes s name items it k)
+  pub worn_laid : ¬ HasNumbers s.next it.stacks (length k.rows) (length k.leaves)
+      → IsWorn (laid_changes s name items it k)
   worn_laid lacks = elim (cases_lt (2 ^ 62) drawn.stack) [
     | inl over ↦ worn_by (stack _ over)
     | inr a ↦ elim (cases_lt (2 ^ 62) drawn.trav) [
@@ -103,7 +110,8 @@ module _ (s : StateData) (name : List ℕ) (items : List Item) (it : Sets) (k : 
           | inl over ↦ worn_by (engine _ over)
           | inr d ↦ elim (cases_lt (2 ^ 62) drawn.letter) [
             | inl over ↦ worn_by (letter _ over)
-            | inr e ↦ absurd (lacks (record { stacks_fit = a; trav_fits = b; rows_fit = c; engine_fits = d; letters_fit = e }))
+            | inr e ↦ absurd
+                (lacks (record { stacks_fit = a; trav_fits = b; rows_fit = c; engine_fits = d; letters_fit = e }))
           ]
         ]
       ]

@@ -10,7 +10,10 @@ use Rattle.command_steps.specs.Layouts.{HasNumbers}
 use Rattle.command_steps.proofs.Lasting.{worn_laid}
 
 pub refused : (s : StateData) (name : List ℕ) (it : Sets) (r : Refusal)
-    → (r ≡ Memory) ⊎ ((r ≡ Worn) × (k : Lays s name (plan_of it.plan).items) × ¬ HasNumbers s.next it.stacks (length k.rows) (length k.leaves))
+    → (r ≡ Memory) ⊎
+    ((r ≡ Worn) × (k : Lays s name (plan_of it.plan).items) × ¬ HasNumbers s.next it.stacks (length k.rows)
+    (length k.leaves))
     → OrMemory (IsWornLaying s name it) r
 refused s name it r (inl memory) = inl memory
-refused s name it r (inr (is, k, lacks)) = inr (record { is = is; lays = k; worn = worn_laid s name (plan_of it.plan).items it k lacks })
+refused s name it r (inr (is, k, lacks)) =
+    inr (record { is = is; lays = k; worn = worn_laid s name (plan_of it.plan).items it k lacks })

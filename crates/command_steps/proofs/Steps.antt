@@ -24,31 +24,38 @@ pub stack-name : (stacks : List Stack) (name : List ℕ) (st : Stack) → stack_
 unfolding at
 stack-name [] name st h = cc
 stack-name (x ∷ xs) name st h = by (bytes_eq x.name name) refl h (stack-name xs name st) where
-  by : (b : Bool) → bytes_eq x.name name ≡ b → cond b (Some x) (stack_at xs name) ≡ Some st → (stack_at xs name ≡ Some st → st.name ≡ name) → st.name ≡ name
+  by : (b : Bool) → bytes_eq x.name name ≡ b → cond b (Some x) (stack_at xs name) ≡ Some st
+      → (stack_at xs name ≡ Some st → st.name ≡ name) → st.name ≡ name
   by true is e behind = let same : x ≡ st = cc in sym (ap stack_key same) ∙ (bytes_eq-Decides x.name name).0 is
   by false is e behind = behind e
 
-pub stack_self : (stacks : List Stack) (name : List ℕ) (st : Stack) → stack_at stacks name ≡ Some st → stack_at stacks st.name ≡ Some st
+pub stack_self : (stacks : List Stack) (name : List ℕ) (st : Stack) → stack_at stacks name ≡ Some st
+    → stack_at stacks st.name ≡ Some st
 stack_self stacks name st h = subst (λ (n : List ℕ). stack_at stacks n ≡ Some st) (sym (stack-name stacks name st h)) h
 
 module _ (s : StateData) (cs : List Change) (es : List Entry) where
-  pub created : (name : List ℕ) (plan : PlanData) (rollback : Bool) → Creates s name plan rollback cs es → Command s cs es
+  pub created : (name : List ℕ) (plan : PlanData) (rollback : Bool) → Creates s name plan rollback cs es
+      → Command s cs es
   created name plan rollback k =
       create name plan rollback k.laying.lays k.planned k.absent k.few k.room k.laying.changes k.laying.entries
 
-  pub updated : (name : List ℕ) (plan : PlanData) (rollback : Bool) → Updates s name plan rollback cs es → Command s cs es
+  pub updated : (name : List ℕ) (plan : PlanData) (rollback : Bool) → Updates s name plan rollback cs es
+      → Command s cs es
   updated name plan rollback k =
-      orders.update k.stack plan rollback k.laying.lays k.planned k.found k.kept k.room k.laying.changes k.laying.entries
+      orders.update k.stack plan rollback k.laying.lays k.planned k.found k.kept k.room k.laying.changes
+      k.laying.entries
 
   pub deleted : (name : List ℕ) → Deletes s name cs es → Command s cs es
   deleted name k = orders.delete k.stack k.laying.lays k.found k.laying.changes k.laying.entries
 
   pub cancelled : (name : List ℕ) → Cancels s name cs es → Command s cs es
-  cancelled name k = orders.cancel k.stack k.laying.lays k.found k.forward k.running k.room k.laying.changes k.laying.entries
+  cancelled name k =
+      orders.cancel k.stack k.laying.lays k.found k.forward k.running k.room k.laying.changes k.laying.entries
 
   -- a stack that is found under a name, and what is laid for it
   module _ (name : List ℕ) (st : Stack) (found : stack_at s.stacks name ≡ Some st) where
-    pub updates : (plan : PlanData) (rollback : Bool) → IsPlan plan.items plan.absent → st.act ≢ Delete → HasRoomFor s plan.items
+    pub updates : (plan : PlanData) (rollback : Bool) → IsPlan plan.items plan.absent → st.act ≢ Delete
+        → HasRoomFor s plan.items
         → IsLaying s st.name (update_sets s st plan rollback) cs es → Updates s name plan rollback cs es
     updates plan rollback planned kept room laying = record {
       stack = st;
@@ -94,7 +101,8 @@ module _ (s : StateData) (cs : List Change) (es : List Entry) where
 
 pub worn_create : (s : StateData) (name : List ℕ) (plan : PlanData) (rollback : Bool) → stack_at s.stacks name ≡ None
     → length s.stacks < stack_limit → HasRoomFor s plan.items
-    → (r : Refusal) → OrMemory (IsWornLaying s name (create_sets s name plan rollback)) r → OrMemory (RefusesCreate s name plan rollback) r
+    → (r : Refusal) → OrMemory (IsWornLaying s name (create_sets s name plan rollback)) r
+    → OrMemory (RefusesCreate s name plan rollback) r
 worn_create s name plan rollback absent few room r (inl memory) = inl memory
 worn_create s name plan rollback absent few room r (inr k) = inr (rw k.is (refusals.worn k.lays absent few room k.worn))
 
@@ -105,7 +113,8 @@ runs st forward running (marked mark) = mark running
 
 module _ (s : StateData) (name : List ℕ) (st : Stack) (found : stack_at s.stacks name ≡ Some st) (r : Refusal) where
   pub worn_update : (plan : PlanData) (rollback : Bool) → st.act ≢ Delete → HasRoomFor s plan.items
-      → OrMemory (IsWornLaying s st.name (update_sets s st plan rollback)) r → OrMemory (RefusesUpdate s name plan rollback) r
+      → OrMemory (IsWornLaying s st.name (update_sets s st plan rollback)) r
+      → OrMemory (RefusesUpdate s name plan rollback) r
   worn_update plan rollback kept room (inl memory) = inl memory
   worn_update plan rollback kept room (inr k) = inr (rw k.is (refusals.worn st k.lays found kept room k.worn))
 
@@ -116,11 +125,13 @@ module _ (s : StateData) (name : List ℕ) (st : Stack) (found : stack_at s.stac
   pub worn_cancel : st.act ≢ Delete → IsForward st.act → st.status ≡ InProgress → HasRoomFor s (plan_back s st).items
       → OrMemory (IsWornLaying s st.name (rollback_sets s st Main)) r → OrMemory (RefusesCancel s name) r
   worn_cancel kept forward running room (inl memory) = inl memory
-  worn_cancel kept forward running room (inr k) = inr (rw k.is (refusals.worn st k.lays found kept (runs st forward running) room k.worn))
+  worn_cancel kept forward running room (inr k) =
+      inr (rw k.is (refusals.worn st k.lays found kept (runs st forward running) room k.worn))
 
 -- the rollback that would wear a number out
 pub worn_behind : (s : StateData) (e : ℕ) (st failed : Stack) → stack_at s.stacks st.name ≡ Some failed
-    → (r : Refusal) → OrMemory (IsWornLaying s failed.name (rollback_sets s failed (Engine e))) r → OrMemory (WearsOutBehind s e st) r
+    → (r : Refusal) → OrMemory (IsWornLaying s failed.name (rollback_sets s failed (Engine e))) r
+    → OrMemory (WearsOutBehind s e st) r
 worn_behind s e st failed found r (inl memory) = inl memory
 worn_behind s e st failed found r (inr k) = inr (record {
   is = k.is;

@@ -11,7 +11,8 @@ use Rattle.core_state.specs.declared.entry.Actor.TheVariants.{Main}
 use Rattle.core_state.specs.declared.entry.Entry.{Entry}
 use Rattle.core_state.specs.declared.stack.Stack.{Stack}
 use Rattle.step_relation.specs.Commands.{Lays, Sets, laid_changes, laid_entries}
-use Rattle.step_relation.specs.Orders.{HasRoomFor, IsForward, create_sets, delete_sets, plan_back, rollback_sets, stack_limit, update_sets}
+use Rattle.step_relation.specs.Orders.{HasRoomFor, IsForward, plan_back, stack_limit}
+use Rattle.step_relation.specs.Orders.{create_sets, delete_sets, rollback_sets, update_sets}
 use Rattle.step_relation.specs.Freshness.{plan_of}
 use Rattle.step_relation.specs.Turns.{FollowsFailure, IsWorn}
 
@@ -29,14 +30,16 @@ pub record IsWornLaying (s : StateData) (name : List ℕ) (it : Sets) (r : Refus
   pub worn : IsWorn (laid_changes s name (plan_of it.plan).items it lays)
 
 -- each command's answer is its case of Command
-pub record Creates (s : StateData) (name : List ℕ) (plan : PlanData) (rollback : Bool) (cs : List Change) (es : List Entry) : Type 0 where
+pub record Creates (s : StateData) (name : List ℕ) (plan : PlanData) (rollback : Bool) (cs : List Change)
+    (es : List Entry) : Type 0 where
   pub laying : IsLaying s name (create_sets s name plan rollback) cs es
   pub planned : IsPlan plan.items plan.absent
   pub absent : stack_at s.stacks name ≡ None
   pub few : length s.stacks < stack_limit
   pub room : HasRoomFor s plan.items
 
-pub record Updates (s : StateData) (name : List ℕ) (plan : PlanData) (rollback : Bool) (cs : List Change) (es : List Entry) : Type 0 where
+pub record Updates (s : StateData) (name : List ℕ) (plan : PlanData) (rollback : Bool) (cs : List Change)
+    (es : List Entry) : Type 0 where
   pub stack : Stack
   pub its_name : stack.name ≡ name
   pub found : stack_at s.stacks stack.name ≡ Some stack

@@ -14,8 +14,8 @@ use core_state::{Actor, Made, Stack, State};
 use heat_plan::{Refusal, StackName};
 use std::alloc::Global;
 
-/// The changes and entries of the rollback of a stack whose create or update is running; the state stays
-/// as it is.
+/// The changes and entries of the rollback of a stack whose create or update is running; the state
+/// stays as it is.
 pub fn cancel(alloc: Global, s: &State, name: &StackName) -> Result<Made, Refusal>
     ensures made { IfOk result (λ m. Cancels s.now.state name.now m.changes m.entries) }
     ensures step { IfOk result (λ m. Command s.now.state m.changes m.entries) }

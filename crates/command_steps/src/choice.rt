@@ -4,7 +4,8 @@ ghost use Rattle.heat_plan.specs.Numbers.{IsNumber};
 ghost use Rattle.heat_plan.specs.Order.{Rising};
 ghost use Rattle.heat_plan.specs.Plans.{names_of};
 ghost use Rattle.traversal_graph.specs.Candidates.{place_of};
-ghost use Rattle.command_steps.specs.Choices.{found_for, is_current, lacking, noted, numbered, rows_made};
+ghost use Rattle.command_steps.specs.Choices.{found_for, is_current, lacking, noted};
+ghost use Rattle.command_steps.specs.Choices.{numbered, rows_made};
 
 use core_state::{Batch, Next, Row};
 use heat_plan::{Act, Item, ResName, RowNo, StackName, TravNo, WORN};
@@ -12,8 +13,8 @@ use heat_value::Seq;
 use std::alloc::{AllocError, Global};
 use step_parts::new_row;
 
-/// Of each item the last of these rows that is current and has its name; none where one is to be made.
-/// It goes over the rows once, and looks each row's item up by its name.
+/// Of each item the last of these rows that is current and has its name; none where one is to be
+/// made. It goes over the rows once, and looks each row's item up by its name.
 pub(crate) fn found_for(
     alloc: Global,
     rows: &[&Row],

@@ -18,8 +18,8 @@ use std::alloc::{AllocError, Global};
 use step_parts::letters_to;
 use traversal_graph::TravGraph;
 
-/// Who commands, the next numbers behind it, the stack and its past, the rows that are made, the graph,
-/// and the letters that begin it.
+/// Who commands, the next numbers behind it, the stack and its past, the rows that are made, the
+/// graph, and the letters that begin it.
 #[derive(Debug, Drop)]
 pub struct Draft {
     pub actor: Actor,

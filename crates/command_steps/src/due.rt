@@ -13,8 +13,9 @@ use heat_plan::{Act, StackName, Status};
 /// How many rows there may be when a command has laid its own.
 pub(crate) const ROW_LIMIT: usize = 4000;
 
-/// Whether the stack, which a step has just marked as failed, is to be rolled back: its traversal was a
-/// create or an update whose command asked for it, and the plan that it would go back to has room.
+/// Whether the stack, which a step has just marked as failed, is to be rolled back: its traversal
+/// was a create or an update whose command asked for it, and the plan that it would go back to has
+/// room.
 pub fn is_due(s: &State, stack: &Stack) -> bool
     ensures { IsTrue result ↔ IsDue s.now.state stack.now }
 {

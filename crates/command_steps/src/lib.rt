@@ -1,6 +1,6 @@
-//! The steps of commands: create, update, delete and cancel, and the rollback that follows a failure.
-//! Each function answers the changes and entries of one case of `Command` in `step_relation`, or why it
-//! is refused. None of them changes the state, asks a provider or writes.
+//! The steps of commands: create, update, delete and cancel, and the rollback behind a failure.
+//! Each function answers the changes and entries of one case of `Command` in `step_relation`, or
+//! why it is refused. None of them changes the state, asks a provider or writes.
 #![tactic(auto)]
 
 mod cancelling;

@@ -3,7 +3,8 @@ ghost use Rattle.std.specs.Prelude.{◌≡◌, ◌<◌, ◌^◌, [], false, IfOk
 ghost use Rattle.heat_plan.specs.Order.{Rising};
 ghost use Rattle.heat_plan.specs.Plans.{names_of};
 ghost use Rattle.step_relation.specs.Freshness.{plan_of};
-ghost use Rattle.step_relation.specs.Orders.{back_after, create_sets, delete_sets, past_of, plan_back, rollback_sets, update_sets};
+ghost use Rattle.step_relation.specs.Orders.{back_after, past_of, plan_back};
+ghost use Rattle.step_relation.specs.Orders.{create_sets, delete_sets, rollback_sets, update_sets};
 ghost use Rattle.command_steps.specs.Orders.{sets_of};
 
 use core_state::{Actor, Past, SharedPlan, Stack, State};
@@ -11,8 +12,8 @@ use heat_plan::{Act, Item, Parameters, Plan, StackName, StackNo, Status};
 use heat_value::{Seq, TryCopy, copy_option};
 use std::alloc::{AllocError, Global};
 
-/// Who commands, the stack's number, what is done, to which plan, what the stack could go back to, and
-/// how many stack numbers it draws.
+/// Who commands, the stack's number, what is done, to which plan, what the stack could go back to,
+/// and how many stack numbers it draws.
 #[derive(Debug, Drop)]
 pub struct Order {
     pub actor: Actor,

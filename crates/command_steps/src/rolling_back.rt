@@ -12,8 +12,8 @@ use core_state::{Actor, Made, Stack, State};
 use heat_plan::{EngineNo, Refusal};
 use std::alloc::Global;
 
-/// The changes and entries of the rollback that an engine begins behind its mark of a failure, where it
-/// is due. The state is the one that the mark left.
+/// The changes and entries of the rollback that an engine begins behind its mark of a failure,
+/// where it is due, from the state that the mark left.
 pub fn roll_back(alloc: Global, s: &State, e: EngineNo, stack: &Stack) -> Result<Made, Refusal>
     requires { IsSome (stack_at s.now.state.stacks stack.now.name) }
     ensures made { IfOk result (λ m. FollowsFailure s.now.state e stack.now m.changes m.entries) }

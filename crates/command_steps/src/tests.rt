@@ -1,6 +1,6 @@
-//! Lists of commands of one stack, each applied where it is made, and what is left of them: which answer
-//! each gets, and how many rows, letters and nodes there are in the end. Each call succeeds with ample
-//! memory, and each refusal but those of limits and of numbers is met once.
+//! Lists of commands of one stack, each applied where it is made, and what is left of them: which
+//! answer each gets, and how many rows, letters and nodes there are in the end. Each call succeeds
+//! with ample memory, and each refusal but those of limits and of numbers is met once.
 ghost use Rattle.std.specs.Prelude.{◌≡◌, [], IfOk};
 
 use crate::{cancel, create, delete, is_due, roll_back, update};
@@ -64,8 +64,8 @@ fn no_plan(alloc: Global) -> Plan {
     )
 }
 
-/// One command: a create of nothing or of `a`, an update to `a` or to `b`, a delete, a rollback or a
-/// cancel.
+/// One command: a create of nothing or of `a`, an update to `a` or to `b`, a delete, a rollback or
+/// a cancel.
 fn commanded(
     alloc: Global,
     s: &State,

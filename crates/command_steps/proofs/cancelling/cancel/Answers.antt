@@ -11,4 +11,5 @@ returns-in-None-clause-cause c = inr (refusals.absent (sym c.stack.ensures ∙ a
 
 pub returns-in-Some-clause-step : goal.returns-in-Some-clause-step
 returns-in-Some-clause-step c =
-    IfOk-weaker c.cancel_stack.result _ _ (λ m k. cancelled c.args.s.now.state m.changes m.entries c.args.name.now k) c.cancel_stack.ensures.made
+    IfOk-weaker c.cancel_stack.result _ _ (λ m k. cancelled c.args.s.now.state m.changes m.entries c.args.name.now k)
+    c.cancel_stack.ensures.made

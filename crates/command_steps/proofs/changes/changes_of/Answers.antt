@@ -9,7 +9,8 @@ use Rattle.command_steps.proofs.changes.changes_of.Goals as goal
 pieces : (a b c g : Change) (rows letters last : List Change)
     → ((((a ∷ b ∷ c ∷ []) ++ rows) ++ g ∷ []) ++ letters) ++ last ≡ a ∷ b ∷ c ∷ (rows ++ (g ∷ (letters ++ last)))
 pieces a b c g rows letters last =
-    ap (λ (all : List Change). a ∷ b ∷ c ∷ all) (append_assoc (rows ++ g ∷ []) letters last ∙ append_assoc rows (g ∷ []) (letters ++ last))
+    ap (λ (all : List Change). a ∷ b ∷ c ∷ all)
+    (append_assoc (rows ++ g ∷ []) letters last ∙ append_assoc rows (g ∷ []) (letters ++ last))
 
 pub returns : goal.returns
 returns c = IfOk-weaker c.with_last.result _ _ (λ changes is.
@@ -25,4 +26,5 @@ returns c = IfOk-weaker c.with_last.result _ _ (λ changes is.
       c.as_slice.ensures,
       c.in_ok-name.ensures,
     )
-    (pieces _ _ _ (PutGraph d.stack.name d.graph) (map PutRow d.rows) (map Send d.letters) (settles d.graph.nodes d.stack))) c.with_last.ensures
+    (pieces _ _ _ (PutGraph d.stack.name d.graph) (map PutRow d.rows) (map Send d.letters)
+    (settles d.graph.nodes d.stack))) c.with_last.ensures

@@ -3,4 +3,5 @@ use Rattle.core_state.specs.declared.change.Change.TheVariants.{Send}
 use Rattle.command_steps.proofs.changes.send_all.Given as goal
 
 abbrev pub invariant-loop-letter : goal.invariant-loop-letter
-invariant-loop-letter l = l.changes ++ map Send l.letter-iterator.rest.items ≡ l.fn.changes ++ map Send l.fn.letters.items
+invariant-loop-letter l =
+    l.changes ++ map Send l.letter-iterator.rest.items ≡ l.fn.changes ++ map Send l.fn.letters.items

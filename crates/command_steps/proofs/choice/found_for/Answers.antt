@@ -11,9 +11,11 @@ loop-row-preserved c =
     let rows = map (λ r. r.now) c.args.rows.now in
     let r = c.row-item.result.now in
     let within : k < length c.args.rows.now = c.loop-row-test.true in
-    let at : get_or rows k r ≡ r = get_or-map (λ r. r.now) c.args.rows.now k c.row-item.result r within ∙ sym (ap (λ x. x.now) c.row-item.is) in
+    let at : get_or rows k r ≡ r = get_or-map (λ r. r.now) c.args.rows.now k c.row-item.result r within
+    ∙ sym (ap (λ x. x.now) c.row-item.is) in
     let more : take (k + 1) rows ≡ take k rows ++ r ∷ [] =
-    take_more rows k r (omega (arith, within, length-map c.args.rows.now (λ r. r.now))) ∙ ap (λ x. take k rows ++ x ∷ []) at in
+    take_more rows k r (omega (arith, within, length-map c.args.rows.now (λ r. r.now)))
+    ∙ ap (λ x. take k rows ++ x ∷ []) at in
     c.note_row.ensures ∙ ap (noted c.args.items.now r) c.loop-row.invariant
     ∙ noted_found c.args.items.now (take k rows) r c.requires
     ∙ ap (λ all. found_for all c.args.items.now) (sym more)

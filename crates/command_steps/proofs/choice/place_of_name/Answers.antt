@@ -9,10 +9,16 @@ use Rattle.command_steps.proofs.choice.place_of_name.Goals as goal
 
 pub returns-in-Ok : goal.returns-in-Ok
 returns-in-Ok c =
-    let by_name = c.binary_search_by.ensures.position (λ (x : Item). slice_cmp nat_cmp x.name c.args.name.now) (always_returns_same _ _ _ (λ a r f called. (search rules, search rules))) in
-    place_found c.args.items.now c.args.name.now c.in-Ok.place c.requires (rw c.in-Ok.is at c.binary_search_by.ensures.bound) (rw c.in-Ok.is at by_name)
+    let by_name =
+    c.binary_search_by.ensures.position (λ (x : Item). slice_cmp nat_cmp x.name c.args.name.now)
+    (always_returns_same _ _ _ (λ a r f called. (search rules, search rules))) in
+    place_found c.args.items.now c.args.name.now c.in-Ok.place c.requires
+    (rw c.in-Ok.is at c.binary_search_by.ensures.bound) (rw c.in-Ok.is at by_name)
 
 pub returns-in-Err : goal.returns-in-Err
 returns-in-Err c =
-    let by_name = c.binary_search_by.ensures.position (λ (x : Item). slice_cmp nat_cmp x.name c.args.name.now) (always_returns_same _ _ _ (λ a r f called. (search rules, search rules))) in
-    place_missed c.args.items.now c.args.name.now c.in-Err.field-0 ((rw c.in-Err.is at by_name) (names_rise c.args.items.now c.args.name.now c.requires))
+    let by_name =
+    c.binary_search_by.ensures.position (λ (x : Item). slice_cmp nat_cmp x.name c.args.name.now)
+    (always_returns_same _ _ _ (λ a r f called. (search rules, search rules))) in
+    place_missed c.args.items.now c.args.name.now c.in-Err.field-0
+    ((rw c.in-Err.is at by_name) (names_rise c.args.items.now c.args.name.now c.requires))

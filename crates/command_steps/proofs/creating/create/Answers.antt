@@ -12,4 +12,6 @@ returns-in-Some-clause-cause c =
 
 pub returns-in-None-clause-step : goal.returns-in-None-clause-step
 returns-in-None-clause-step c =
-    IfOk-weaker c.create_absent.result _ _ (λ m k. created c.args.s.now.state m.changes m.entries c.args.name.now c.args.plan c.args.rollback k) c.create_absent.ensures.made
+    IfOk-weaker c.create_absent.result _ _
+    (λ m k. created c.args.s.now.state m.changes m.entries c.args.name.now c.args.plan c.args.rollback k)
+    c.create_absent.ensures.made

@@ -12,20 +12,26 @@ returns-in-None-clause-cause c = inr (refusals.absent (sym c.stack.ensures ∙ a
 
 pub returns-in-Some-clause-made : goal.returns-in-Some-clause-made
 returns-in-Some-clause-made c =
-    let found : stack_at c.args.s.now.state.stacks c.args.name.now ≡ Some c.in-Some.stack.now = sym c.stack.ensures ∙ ap (option_map (λ s. s.now)) c.in-Some.is in
+    let found : stack_at c.args.s.now.state.stacks c.args.name.now ≡ Some c.in-Some.stack.now =
+    sym c.stack.ensures ∙ ap (option_map (λ s. s.now)) c.in-Some.is in
     IfOk-weaker c.delete_stack.result _ _
-    (λ m laying. deletes c.args.s.now.state m.changes m.entries c.args.name.now c.in-Some.stack.now found laying) c.delete_stack.ensures.made
+    (λ m laying. deletes c.args.s.now.state m.changes m.entries c.args.name.now c.in-Some.stack.now found laying)
+    c.delete_stack.ensures.made
 
 pub returns-in-Some-clause-step : goal.returns-in-Some-clause-step
 returns-in-Some-clause-step c =
-    let found : stack_at c.args.s.now.state.stacks c.args.name.now ≡ Some c.in-Some.stack.now = sym c.stack.ensures ∙ ap (option_map (λ s. s.now)) c.in-Some.is in
+    let found : stack_at c.args.s.now.state.stacks c.args.name.now ≡ Some c.in-Some.stack.now =
+    sym c.stack.ensures ∙ ap (option_map (λ s. s.now)) c.in-Some.is in
     let s = c.args.s.now.state in
     IfOk-weaker c.delete_stack.result _ _
-    (λ m laying. deleted s m.changes m.entries c.args.name.now (deletes s m.changes m.entries c.args.name.now c.in-Some.stack.now found laying))
+    (λ m laying. deleted s m.changes m.entries c.args.name.now
+    (deletes s m.changes m.entries c.args.name.now c.in-Some.stack.now found laying))
     c.delete_stack.ensures.made
 
 pub returns-in-Some-clause-cause : goal.returns-in-Some-clause-cause
 returns-in-Some-clause-cause c =
-    let found : stack_at c.args.s.now.state.stacks c.args.name.now ≡ Some c.in-Some.stack.now = sym c.stack.ensures ∙ ap (option_map (λ s. s.now)) c.in-Some.is in
+    let found : stack_at c.args.s.now.state.stacks c.args.name.now ≡ Some c.in-Some.stack.now =
+    sym c.stack.ensures ∙ ap (option_map (λ s. s.now)) c.in-Some.is in
     IfErr-weaker c.delete_stack.result _ _
-    (λ r cause. worn_delete c.args.s.now.state c.args.name.now c.in-Some.stack.now found r cause) c.delete_stack.ensures.cause
+    (λ r cause. worn_delete c.args.s.now.state c.args.name.now c.in-Some.stack.now found r cause)
+    c.delete_stack.ensures.cause

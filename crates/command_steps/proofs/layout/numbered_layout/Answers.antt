@@ -12,6 +12,14 @@ returns-else-has_numbers-clause-err c =
       laid.lays,
       λ has.
           let enough : HasNumbers c.next.result.now c.args.stacks c.lacking-rows.result c.len.result =
-          rw (c.next.ensures, c.lacking-rows.ensures.value, c.as_slice.ensures, c.len.ensures, ← laid.many, ← laid.leaves_are) has in
+          rw (
+            c.next.ensures,
+            c.lacking-rows.ensures.value,
+            c.as_slice.ensures,
+            c.len.ensures,
+            ← laid.many,
+            ←
+                laid.leaves_are,
+          ) has in
           both_ways c.has_numbers.result c.if-has_numbers.false (c.has_numbers.ensures.1 enough),
     )

@@ -11,4 +11,6 @@ returns-in-None-clause-cause c = inr (refusals.absent (sym c.stack.ensures ∙ a
 
 pub returns-in-Some-clause-step : goal.returns-in-Some-clause-step
 returns-in-Some-clause-step c =
-    IfOk-weaker c.update_stack.result _ _ (λ m k. updated c.args.s.now.state m.changes m.entries c.args.name.now c.args.plan c.args.rollback k) c.update_stack.ensures.made
+    IfOk-weaker c.update_stack.result _ _
+    (λ m k. updated c.args.s.now.state m.changes m.entries c.args.name.now c.args.plan c.args.rollback k)
+    c.update_stack.ensures.made
