@@ -5,10 +5,7 @@ use Rattle.std.proofs.lemmas.List.Elements.{Contains-append_cases, Contains-appe
 use Rattle.next_laws.proofs.Listings.{cons_cases, in_head, in_tail, no_member}
 use Rattle.turn_laws.proofs.Decide.{Decided}
 use Rattle.bound_laws.specs.Counts.{AreOnce, Counts}
-
-length-append : {A : Type 0} (xs ys : List A) → length (xs ++ ys) ≡ length xs + length ys
-length-append [] ys = omega arith
-length-append (x ∷ xs) ys = let e = length-append xs ys in omega (arith, e)
+use Rattle.bound_laws.proofs.Spans.{length-append}
 
 -- the list without one of its members
 record Without {A : Type 0} (ys : List A) (x : A) : Type 0 where

@@ -2,3 +2,4 @@ pub mod Counts
 pub mod Work
 pub mod Rolls
 pub mod Bound
+pub mod Exists

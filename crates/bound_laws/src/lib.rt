@@ -3,9 +3,25 @@
 #![tactic(auto)]
 
 ghost use Rattle.bound_laws.specs.Bound.{TurnsLowerWork};
+ghost use Rattle.bound_laws.specs.Exists.{PollsAreFew, WorkExists, WorkIsOne};
 
 /// Each turn lowers the work that is left by one at least, that of an idle engine being none: a
 /// rollback's turns have stood in it before.
 pub fn turns_lower_work()
     ensures { TurnsLowerWork }
+{}
+
+/// Each state has some work left, whatever the polls that are left: it can be told.
+pub fn work_exists()
+    ensures { WorkExists }
+{}
+
+/// No state has two amounts of work left.
+pub fn work_is_one()
+    ensures { WorkIsOne }
+{}
+
+/// Where at most 64 polls are left for each token, a job that polls stands for 66 of the work at most.
+pub fn polls_are_few()
+    ensures { PollsAreFew }
 {}
