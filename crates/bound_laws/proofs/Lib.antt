@@ -16,3 +16,4 @@ pub mod Turning
 pub mod Listed
 pub mod Existing
 pub mod Told
+pub mod Full

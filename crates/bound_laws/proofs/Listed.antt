@@ -5,7 +5,7 @@ use Rattle.std.proofs.lemmas.List.Elements.{Contains-append_cases, Contains-appe
 use Rattle.next_laws.proofs.Listings.{cons_cases, in_head, in_tail, no_member}
 use Rattle.turn_laws.proofs.Decide.{Decided, member_or_not}
 use Rattle.bound_laws.specs.Counts.{AreOnce, Counts}
-use Rattle.bound_laws.proofs.Sets.{picked}
+use Rattle.bound_laws.proofs.Sets.{both_once, picked}
 use Rattle.bound_laws.proofs.Spans.{in_upto, length-append, upto, upto_length, upto_once}
 
 -- those of a list that are of the kind
@@ -94,14 +94,8 @@ module _ {A : Type 0} (size : A → ℕ) where
   pairs_once : (xs : List A) → AreOnce xs → AreOnce (pairs xs)
   unfolding pairs
   pairs_once [] o = tt
-  pairs_once (x ∷ xs) o = both (beside x (upto (size x))) (pairs xs) (beside_once x (upto (size x)) (upto_once (size x))) (pairs_once xs o.1)
+  pairs_once (x ∷ xs) o = both_once (beside x (upto (size x))) (pairs xs) (beside_once x (upto (size x)) (upto_once (size x))) (pairs_once xs o.1)
       (λ p l r. o.0 (subst (Contains xs) (beside_was x (upto (size x)) p l).0 (pairs_was xs p r)))
-    where
-      both : (ys zs : List (A × ℕ)) → AreOnce ys → AreOnce zs → ((z : A × ℕ) → Contains ys z → Contains zs z → ⊥) → AreOnce (ys ++ zs)
-      both [] zs p q apart = q
-      both (y ∷ ys) zs p q apart = (
-        (λ c. elim (Contains-append_cases ys zs y c) [ inl l ↦ p.0 l | inr r ↦ apart y (in_head ys y) r ]),
-        both ys zs p.1 q (λ z l r. apart z (in_tail ys y z l) r))
 
   pub paired : (P : A × ℕ → Type 0) → ((p : A × ℕ) → Decided (P p)) → (xs : List A) → AreOnce xs → ((p : A × ℕ) → P p → Contains xs p.0 × (p.1 < size p.0))
       → (n : ℕ) × Counts P n

@@ -20,14 +20,14 @@ use Rattle.bound_laws.proofs.Sets.{at_most, within}
 use Rattle.bound_laws.proofs.Spans.{upto, in_upto, upto_once}
 
 module _ (left : Token → ℕ) (s : StateData) where
-  letters_told : (n : ℕ) × Counts (IsLetter s) n
+  pub letters_told : (n : ℕ) × Counts (IsLetter s) n
   letters_told = let (b, inside) = bound_at letter_key s.letters in below (IsLetter s) (letter_or_not left s) b (λ n k. inside n k.letter k.at)
 
-  nodes_told : (n : ℕ) × Counts (IsUnready s) n
+  pub nodes_told : (n : ℕ) × Counts (IsUnready s) n
   nodes_told = let xs = names left s in paired (size left s) (IsUnready s) (unready_or_not left s) xs.list xs.once
       (λ x k. (named left s x.0 k.stack k.in_table, within_size left s x.0 k.graph x.1 k.node k.its_graph k.its_node))
 
-  stage_told : (stage : Stage) → (n : ℕ) × Counts (IsAt stage s) n
+  pub stage_told : (stage : Stage) → (n : ℕ) × Counts (IsAt stage s) n
   stage_told stage = by_jobs left s (IsAt stage s) (at_or_not left s stage) (λ e k. (k.job, k.its))
 
   polls_told : (n : ℕ) × Counts (IsPoll left s) n
@@ -52,7 +52,7 @@ module _ (left : Token → ℕ) (s : StateData) where
   roll_far_told = let xs = names left s in paired (size left s) (RollFar s) (roll_far_or_not left s) xs.list xs.once
       (λ x k. (named left s x.0 k.stack k.may.in_table, within_size left s x.0 k.graph x.1 (U k.name k.chosen) k.its_graph k.its_node))
 
-  rolls_told : (n : ℕ) × RollWork s n
+  pub rolls_told : (n : ℕ) × RollWork s n
   rolls_told =
       let l = roll_letters_told in let k = roll_nodes_told in let j = by_jobs left s (RollJob s) (roll_job_or_not left s) (λ e q. (q.job, q.its)) in
       let i = roll_items_told in let r = roll_rows_told in let f = roll_far_told in
@@ -62,11 +62,17 @@ module _ (left : Token → ℕ) (s : StateData) where
         sum = refl;
       })
 
+  pub left_told : (n : ℕ) × Counts (IsLeft s) n
+  left_told = by_jobs left s (IsLeft s) (left_or_not left s) (λ e q. (q.job, q.its))
+
+  pub late_told : (n : ℕ) × Counts (IsLate s) n
+  late_told = by_jobs left s (IsLate s) (late_or_not left s) (λ e q. (q.job, q.its))
+
   told : (n : ℕ) × IsWork left s n
   told =
-      let l = letters_told in let k = nodes_told in let x = by_jobs left s (IsLeft s) (left_or_not left s) (λ e q. (q.job, q.its)) in
+      let l = letters_told in let k = nodes_told in let x = left_told in
       let a = stage_told Taken in let b = stage_told Asking in let p = polls_told in let c = stage_told Ending in
-      let d = by_jobs left s (IsLate s) (late_or_not left s) (λ e q. (q.job, q.its)) in let r = rolls_told in
+      let d = late_told in let r = rolls_told in
       (69 * l.0 + 69 * k.0 + 70 * x.0 + 68 * a.0 + 67 * b.0 + p.0 + c.0 + 69 * d.0 + 69 * r.0, record {
         letters = l.0; nodes = k.0; stopped = x.0; taken = a.0; asking = b.0; polls = p.0; ending = c.0; late = d.0; rolls = r.0;
         letters_are = l.1; nodes_are = k.1; stopped_are = x.1; taken_are = a.1; asking_are = b.1; polls_are = p.1; ending_are = c.1; late_are = d.1; rolls_are = r.1;
@@ -76,7 +82,7 @@ module _ (left : Token → ℕ) (s : StateData) where
 pub work_exists : WorkExists
 work_exists left s = told left s
 
-rolls_one : (s : StateData) (n m : ℕ) → RollWork s n → RollWork s m → n ≤ m
+pub rolls_one : (s : StateData) (n m : ℕ) → RollWork s n → RollWork s m → n ≤ m
 rolls_one s n m a b =
     let l = at_most a.letters_are b.letters_are (λ x k. k) in
     let o = at_most a.nodes_are b.nodes_are (λ x k. k) in

@@ -3,3 +3,4 @@ pub mod Work
 pub mod Rolls
 pub mod Bound
 pub mod Exists
+pub mod Full
