@@ -17,3 +17,4 @@ pub mod Listed
 pub mod Existing
 pub mod Told
 pub mod Full
+pub mod Few

@@ -4,3 +4,4 @@ pub mod Rolls
 pub mod Bound
 pub mod Exists
 pub mod Full
+pub mod Turned

@@ -5,6 +5,7 @@
 ghost use Rattle.bound_laws.specs.Bound.{TurnsLowerWork};
 ghost use Rattle.bound_laws.specs.Exists.{PollsAreFew, WorkExists, WorkIsOne};
 ghost use Rattle.bound_laws.specs.Full.{FullWorkExists, WorkIsBounded, WorkIsLess};
+ghost use Rattle.bound_laws.specs.Turned.{TurnsAreFew};
 
 /// Each turn lowers the work that is left by one at least, that of an idle engine being none: a
 /// rollback's turns have stood in it before.
@@ -41,4 +42,9 @@ pub fn finer_work_is_less()
 /// item that is gone back to.
 pub fn full_work_is_bounded()
     ensures { WorkIsBounded }
+{}
+
+/// From a sound state a run of turns alone has at most as many turns as that state has full work.
+pub fn turns_are_few()
+    ensures { TurnsAreFew }
 {}
