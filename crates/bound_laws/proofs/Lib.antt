@@ -1,3 +1,4 @@
+pub mod Spans
 pub mod Sets
 pub mod Still
 pub mod Jobs
@@ -12,3 +13,8 @@ pub mod Onward
 pub mod Moving
 pub mod Rolling
 pub mod Turning
+pub mod Listed
+pub mod Existing
+pub mod Told
+pub mod Full
+pub mod Few

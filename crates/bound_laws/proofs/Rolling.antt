@@ -1,5 +1,5 @@
 -- A rollback: what stood for it pays for its letters and nodes, and for the jobs that are late then.
-use Rattle.std.proofs.Common.{◌≡◌, ◌≢◌, ◌⊎◌, inl, inr, ◌<◌, ◌≤◌, ℕ, zero, suc, ◌+◌, true, false, List, [], ◌∷◌, ◌++◌, length, map, Option, Some, None, refl, sym, ap, subst, ◌∙◌, arith}
+use Rattle.std.proofs.Common.{◌≡◌, ◌≢◌, ◌⊎◌, inl, inr, ◌<◌, ◌≤◌, ℕ, suc, ◌+◌, true, false, List, [], ◌∷◌, ◌++◌, length, map, Option, Some, None, refl, sym, ap, subst, ◌∙◌, arith}
 use Rattle.std.specs.Prelude.{Contains, slice_get}
 use Rattle.std.proofs.lemmas.List.Elements.{Contains-append_cases}
 use Rattle.std.proofs.lemmas.List.Sorted.{length_permutation}
@@ -49,6 +49,7 @@ use Rattle.bound_laws.proofs.Jobs.{JobsWere, RowsWere, left_falls}
 use Rattle.bound_laws.proofs.Own.{ends_sum, other_polls, stage_sum}
 use Rattle.bound_laws.proofs.Rows.{current_target, target_current}
 use Rattle.bound_laws.proofs.Sets.{Picked, at_most, picked, some_fewer, some_more, those, within}
+use Rattle.bound_laws.proofs.Spans.{in_upto, length-append, length-map, rising_once, upto, upto_below, upto_length, upto_once}
 
 -- what a move leaves that marks a stack as failed
 pub record Marks (s u : StateData) (e : ℕ) (j : Job) (st : Stack) : Type 0 where
@@ -63,51 +64,8 @@ pub record Marks (s u : StateData) (e : ℕ) (j : Job) (st : Stack) : Type 0 whe
   pub in_table : stack_at s.stacks st.name ≡ Some st
   pub under : st.status ≡ InProgress
 
--- the numbers below a bound, each once
-upto : ℕ → List ℕ
-upto zero = []
-upto (suc n) = n ∷ upto n
-
-upto_below : (n k : ℕ) → Contains (upto n) k → k < n
-unfolding upto
-upto_below zero k c = absurd (no_member k c)
-upto_below (suc n) k c = elim (cons_cases (upto n) n k c) [ inl is ↦ omega (arith, is) | inr later ↦ let lt = upto_below n k later in omega (arith, lt) ]
-
-in_upto : (n k : ℕ) → k < n → Contains (upto n) k
-unfolding upto
-in_upto zero k lt = absurd (omega (arith, lt))
-in_upto (suc n) k lt = elim (same_or_not k n) [
-  | inl is ↦ subst (Contains (n ∷ upto n)) (sym is) (in_head (upto n) n)
-  | inr ne ↦ in_tail (upto n) n k (in_upto n k (omega (arith, lt, ne)))
-]
-
-upto_once : (n : ℕ) → AreOnce (upto n)
-unfolding upto
-upto_once zero = tt
-upto_once (suc n) = ((λ c. let lt = upto_below n n c in omega (arith, lt)), upto_once n)
-
-upto_length : (n : ℕ) → length (upto n) ≡ n
-unfolding upto
-upto_length zero = refl
-upto_length (suc n) = ap suc (upto_length n)
-
-rising_once : (ks : List ℕ) → IsRising ks → AreOnce ks
-rising_once [] up = tt
-rising_once (y ∷ ks) up = (
-  (λ c. let (j, lt, is) = c in let less = up 0 (suc j) y (omega arith) (omega (arith, lt)) in omega (arith, less, is)),
-  rising_once ks (λ p q d lt inside. up (suc p) (suc q) d (omega (arith, lt)) (omega (arith, inside))),
-)
-
 rising_rows : (rs : List Row) → IsRising (map row_key rs) → AreOnce (map row_key rs)
 rising_rows rs up = rising_once (map row_key rs) up
-
-length-map : {A B : Type 0} (f : A → B) (xs : List A) → length (map f xs) ≡ length xs
-length-map f [] = refl
-length-map f (x ∷ xs) = ap suc (length-map f xs)
-
-length-append : {A : Type 0} (xs ys : List A) → length (xs ++ ys) ≡ length xs + length ys
-length-append [] ys = omega arith
-length-append (x ∷ xs) ys = let e = length-append xs ys in omega (arith, e)
 
 updates_length : (items : List Item) (ns : List ℕ) → length (update_nodes items ns) ≤ length items
 updates_length [] ns = omega arith
