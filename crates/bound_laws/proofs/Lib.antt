@@ -11,6 +11,7 @@ pub mod Finishing
 pub mod Ended
 pub mod Onward
 pub mod Moving
+pub mod Marked
 pub mod Rolling
 pub mod Turning
 pub mod Listed

@@ -48,3 +48,34 @@ length-map f (x ∷ xs) = ap suc (length-map f xs)
 pub length-append : {A : Type 0} (xs ys : List A) → length (xs ++ ys) ≡ length xs + length ys
 length-append [] ys = omega arith
 length-append (x ∷ xs) ys = let e = length-append xs ys in omega (arith, e)
+
+-- the numbers beside one thing
+pub beside : {A : Type 0} → A → List ℕ → List (A × ℕ)
+beside x [] = []
+beside x (i ∷ is) = (x, i) ∷ beside x is
+
+pub beside_was : {A : Type 0} (x : A) (is : List ℕ) (p : A × ℕ) → Contains (beside x is) p → (p.0 ≡ x) × Contains is p.1
+unfolding beside
+beside_was x [] p c = absurd (no_member p c)
+beside_was {A = A} x (i ∷ is) p c = elim (cons_cases (beside x is) (x, i) p c) [
+  | inl same ↦ (ap (λ (q : A × ℕ). q.0) same, subst (λ (q : A × ℕ). Contains (i ∷ is) q.1) (sym same) (in_head is i))
+  | inr later ↦ let w = beside_was x is p later in (w.0, in_tail is i p.1 w.1)
+]
+
+pub in_beside : {A : Type 0} (x : A) (is : List ℕ) (i : ℕ) → Contains is i → Contains (beside x is) (x, i)
+unfolding beside
+in_beside x [] i c = absurd (no_member i c)
+in_beside x (k ∷ is) i c = elim (cons_cases is k i c) [
+  | inl same ↦ subst (λ (q : ℕ). Contains ((x, k) ∷ beside x is) (x, q)) (sym same) (in_head (beside x is) (x, k))
+  | inr later ↦ in_tail (beside x is) (x, k) (x, i) (in_beside x is i later)
+]
+
+pub beside_once : {A : Type 0} (x : A) (is : List ℕ) → AreOnce is → AreOnce (beside x is)
+unfolding beside
+beside_once x [] o = tt
+beside_once x (i ∷ is) o = ((λ c. o.0 (beside_was x is (x, i) c).1), beside_once x is o.1)
+
+pub beside_length : {A : Type 0} (x : A) (is : List ℕ) → length (beside x is) ≡ length is
+unfolding beside
+beside_length x [] = refl
+beside_length x (i ∷ is) = ap suc (beside_length x is)
