@@ -23,9 +23,9 @@ use Rattle.core_state.specs.declared.entry.Why.TheVariants as why
 use Rattle.core_state.specs.declared.made.Made.{Made}
 use Rattle.step_relation.specs.Asks.{Asks, Calls, Polls, Refuses, by_code, by_failure, by_quota, creates, deletes, looks, polls, updates}
 use Rattle.step_relation.specs.Given.{Answer}
-use Rattle.step_relation.specs.Moves.{Move, ask_begun, poll_gone, poll_ready, poll_waits}
+use Rattle.step_relation.specs.Moves.{ask_begun, poll_gone, poll_ready, poll_waits}
 use Rattle.step_relation.specs.Nexts.{Works}
-use Rattle.step_relation.specs.Turns.{IsWorn, Turn, plain, unfailed}
+use Rattle.step_relation.specs.Turns.{IsWorn, plain, unfailed}
 use Rattle.step_relation.specs.Writes.{call_entry}
 use Rattle.step_parts.specs.Turns.{IsTurn, IsTurnRefusal}
 use Rattle.step_parts.specs.Turns.IsTurnRefusal.{memory as turn_memory, worn as turn_worn}
@@ -200,3 +200,26 @@ not_told act given answers fine (inl is) = not_begun act given answers is
 not_told act given answers fine (inr (inl is)) = no_quota act given answers is
 not_told act given answers fine (inr (inr (inl is))) = fine (asking.by_failure is)
 not_told act given answers fine (inr (inr (inr (code, is)))) = fine (asking.by_code code is)
+
+-- of the answers of an arm, each fails or none does
+pub arm_fails : (given : Answered) → (given ≡ answer.Failed) ⊎ ((code : List ℕ) × (given ≡ answer.Broken code)) → IsFailing given
+arm_fails given (inl is) = asking.by_failure is
+arm_fails given (inr (code, is)) = asking.by_code code is
+
+apart : (given : Answered) → IsFailing given → (given ≡ answer.NotYet) ⊎ (((facts : Facts) × (given ≡ answer.Ready facts)) ⊎ (given ≡ answer.Gone)) → ⊥
+apart given (asking.by_failure is) (inl e) = let f : answer.Failed ≡ answer.NotYet = sym is ∙ e in cc
+apart given (asking.by_failure is) (inr (inl (facts, e))) = let f : answer.Failed ≡ answer.Ready facts = sym is ∙ e in cc
+apart given (asking.by_failure is) (inr (inr e)) = let f : answer.Failed ≡ answer.Gone = sym is ∙ e in cc
+apart given (asking.by_quota is) (inl e) = let f : answer.Quota ≡ answer.NotYet = sym is ∙ e in cc
+apart given (asking.by_quota is) (inr (inl (facts, e))) = let f : answer.Quota ≡ answer.Ready facts = sym is ∙ e in cc
+apart given (asking.by_quota is) (inr (inr e)) = let f : answer.Quota ≡ answer.Gone = sym is ∙ e in cc
+apart given (asking.by_code code is) (inl e) = let f : answer.Broken code ≡ answer.NotYet = sym is ∙ e in cc
+apart given (asking.by_code code is) (inr (inl (facts, e))) = let f : answer.Broken code ≡ answer.Ready facts = sym is ∙ e in cc
+apart given (asking.by_code code is) (inr (inr e)) = let f : answer.Broken code ≡ answer.Gone = sym is ∙ e in cc
+
+pub arm_tells : (given : Answered) → (given ≡ answer.NotYet) ⊎ (((facts : Facts) × (given ≡ answer.Ready facts)) ⊎ (given ≡ answer.Gone)) → ¬ IsFailing given
+arm_tells given arm fails = apart given fails arm
+
+pub no_arm : (act : Act) (given : Answered) → AnswersPoll act given → (given ≡ answer.Begun) ⊎ (given ≡ answer.Quota) → ⊥
+no_arm act given answers (inl is) = not_begun act given answers is
+no_arm act given answers (inr is) = no_quota act given answers is
