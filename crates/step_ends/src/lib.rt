@@ -3,6 +3,8 @@
 //! of one case of `Turn` in `step_relation`. None of them changes the state, asks a provider or writes.
 #![tactic(auto)]
 
+ghost use Rattle.step_ends.specs.Lost.{LostAnswerIsAStep};
+
 mod again;
 mod ask;
 mod calls;
@@ -16,3 +18,8 @@ pub use ask::asked;
 pub use overruns::{begin_overrun, finish_overrun, takeover_overrun};
 pub use poll::polled;
 pub use rolling::rolled_behind;
+
+/// A poll's answer of unknown size that is told alone, for want of memory, is a step.
+pub fn a_lost_answer_is_a_step()
+    ensures { LostAnswerIsAStep }
+{}

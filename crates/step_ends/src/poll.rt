@@ -15,7 +15,7 @@ use heat_plan::{Answered, EngineNo, Refusal};
 use std::alloc::{AllocError, Global};
 use step_parts::{
     begun_changes, begun_entries, call_entry, one, purged_changes, purged_entries, ready_row,
-    with_last,
+    with_first,
 };
 
 /// What follows from the answer to the engine's poll; refuses `Worn` under every answer alike, so that it
@@ -135,22 +135,7 @@ fn gone(alloc: Global, e: EngineNo, job: &Job, row: &Row, call: Entry) -> Result
     ensures changes { IfOk result (λ m. m.changes ≡ purged_changes job.now row.now) }
     ensures entries { IfOk result (λ m. m.entries ≡ call ∷ purged_entries e job.now row.now) }
 {
-    let entries = gone_entries(alloc, e, job, row, call)?;
     let changes = purged_changes(alloc, job, row)?;
-    Made::new(alloc, changes, entries)
-}
-
-// The call, and what is told of them.
-fn gone_entries(
-    alloc: Global,
-    e: EngineNo,
-    job: &Job,
-    row: &Row,
-    call: Entry,
-) -> Result<Batch<Entry>, AllocError>
-    ensures { IfOk result (λ entries. entries ≡ call ∷ purged_entries e job.now row.now) }
-{
-    let told = one(alloc, call)?;
-    let rest = purged_entries(alloc, e, job, row)?;
-    with_last(told, rest)
+    let entries = purged_entries(alloc, e, job, row)?;
+    Made::new(alloc, changes, with_first(alloc, call, entries)?)
 }
