@@ -29,7 +29,8 @@ use Rattle.step_ends.specs.Marks.{IsRewritten, marking}
 use Rattle.step_ends.proofs.Rewrites.{length_put, still_chooses, still_rows}
 
 -- a stack under way goes back to where it could go back to before
-open_back : (st : Stack) (x : Status) (past : Past) → x ≡ InProgress → back_after (record st { status = x }) past ≡ past.back
+open_back : (st : Stack) (x : Status) (past : Past) → x ≡ InProgress
+    → back_after (record st { status = x }) past ≡ past.back
 open_back st x past is = subst (λ (y : Status). back_after (record st { status = y }) past ≡ past.back) (sym is) refl
 
 module _ (s : StateData) (e : ℕ) (q : Row) (st : Stack) (w : IsRewritten s.rows q) where
@@ -40,14 +41,16 @@ module _ (s : StateData) (e : ℕ) (q : Row) (st : Stack) (w : IsRewritten s.row
   due_after k = record {
     forward = k.forward;
     asked = k.asked;
-    room = subst (λ (n : ℕ). n + length (plan_back s (record st { status = Failed })).items ≤ row_limit) (sym (length_put q s.rows w.old w.found)) k.room;
+    room = subst (λ (n : ℕ). n + length (plan_back s (record st { status = Failed })).items ≤ row_limit)
+        (sym (length_put q s.rows w.old w.found)) k.room;
   }
 
   pub due_before : IsDue after st → IsDue s st
   due_before k = record {
     forward = k.forward;
     asked = k.asked;
-    room = subst (λ (n : ℕ). n + length (plan_back s (record st { status = Failed })).items ≤ row_limit) (length_put q s.rows w.old w.found) k.room;
+    room = subst (λ (n : ℕ). n + length (plan_back s (record st { status = Failed })).items ≤ row_limit)
+        (length_put q s.rows w.old w.found) k.room;
   }
 
   -- where the stack goes back to, and what its rollback sets
@@ -65,15 +68,18 @@ module _ (s : StateData) (e : ℕ) (q : Row) (st : Stack) (w : IsRewritten s.row
   }
 
   -- what is laid is the same before the mark and behind it
-  settles_same : (nodes : List Node) → settles_at_once nodes s st.name (sets back) ≡ settles_at_once nodes after st.name (sets back)
+  settles_same : (nodes : List Node)
+      → settles_at_once nodes s st.name (sets back) ≡ settles_at_once nodes after st.name (sets back)
   settles_same [] = refl
   settles_same (node ∷ nodes) = refl
 
-  marks_same : (nodes : List Node) → settled_mark nodes s st.name (sets back) ≡ settled_mark nodes after st.name (sets back)
+  marks_same : (nodes : List Node) → settled_mark nodes s st.name
+      (sets back) ≡ settled_mark nodes after st.name (sets back)
   marks_same [] = refl
   marks_same (node ∷ nodes) = refl
 
-  follows_back : (cs : List Change) (es : List Entry) (lays : Lays s st.name back.items) → cs ≡ laid_changes s st.name back.items (sets back) lays
+  follows_back : (cs : List Change) (es : List Entry) (lays : Lays s st.name back.items)
+      → cs ≡ laid_changes s st.name back.items (sets back) lays
       → es ≡ laid_entries s st.name back.items (sets back) lays → FollowsFailure after e st cs es
   follows_back cs es lays c d =
       let (standing, briefs) = still_rows s.rows q w st.name lays.standing lays.standing_are in
@@ -84,7 +90,8 @@ module _ (s : StateData) (e : ℕ) (q : Row) (st : Stack) (w : IsRewritten s.row
         lays = record {
           chosen = lays.chosen;
           rows = lays.rows;
-          chooses = still_chooses s after q w refl st.name s.next.trav s.next.row back.items lays.chosen lays.rows lays.chooses;
+          chooses = still_chooses s after q w refl st.name s.next.trav s.next.row back.items lays.chosen
+              lays.rows lays.chooses;
           standing = _;
           standing_are = standing;
           graph = lays.graph;
@@ -98,24 +105,32 @@ module _ (s : StateData) (e : ℕ) (q : Row) (st : Stack) (w : IsRewritten s.row
             ∷ change.PutPast (sets back).past
             ∷ (map change.PutRow lays.rows
             ++ (change.PutGraph st.name lays.graph
-            ∷ (map change.Send (first_letters s st.name back.items (sets back) lays) ++ mark)))) (settles_same lays.graph.nodes);
+            ∷ (map change.Send (first_letters s st.name back.items (sets back) lays) ++ mark))))
+            (settles_same lays.graph.nodes);
         entries = d ∙ ap (λ (mark : List Entry).
             entry_of (Engine e) (what.Command st.name s.next.trav Rollback (Some back) false)
             ∷ (rows_entry (Engine e) (map Set lays.rows)
-            ++ (mail_entry (Engine e) (map Sent (first_letters s st.name back.items (sets back) lays)) ++ mark))) (marks_same lays.graph.nodes);
+            ++ (mail_entry (Engine e) (map Sent (first_letters s st.name back.items
+            (sets back) lays)) ++ mark))) (marks_same lays.graph.nodes);
       }
 
-  pub follows_after : stack_at s.stacks st.name ≡ Some st → st.status ≡ InProgress → (cs : List Change) (es : List Entry)
+  pub follows_after : stack_at s.stacks st.name ≡ Some st → st.status ≡ InProgress
+      → (cs : List Change) (es : List Entry)
       → FollowsFailure s e st cs es → FollowsFailure after e st cs es
-  follows_after found running cs es k = subst Follows (sym (same_some k.failed st k.is found)) of_stack k.lays k.changes k.entries
+  follows_after found running cs es k = subst Follows (sym
+      (same_some k.failed st k.is found)) of_stack k.lays k.changes k.entries
     where
       Follows : Stack → Type 0
-      Follows x = (lays : Lays s x.name (plan_back s x).items) → cs ≡ laid_changes s x.name (plan_back s x).items (rollback_sets s x (Engine e)) lays
-          → es ≡ laid_entries s x.name (plan_back s x).items (rollback_sets s x (Engine e)) lays → FollowsFailure after e st cs es
+      Follows x = (lays : Lays s x.name (plan_back s x).items)
+          → cs ≡ laid_changes s x.name (plan_back s x).items (rollback_sets s x (Engine e)) lays
+          → es ≡ laid_entries s x.name (plan_back s x).items (rollback_sets s x (Engine e)) lays
+          → FollowsFailure after e st cs es
 
       same : plan_back s st ≡ back
       same = ap plan_of (open_back st st.status (past_of s st.name) running)
 
       of_stack : Follows st
-      of_stack = subst (λ (p : PlanData). (lays : Lays s st.name p.items) → cs ≡ laid_changes s st.name p.items (sets p) lays
-          → es ≡ laid_entries s st.name p.items (sets p) lays → FollowsFailure after e st cs es) (sym same) (follows_back cs es)
+      of_stack = subst (λ (p : PlanData). (lays : Lays s st.name p.items)
+          → cs ≡ laid_changes s st.name p.items (sets p) lays
+          → es ≡ laid_entries s st.name p.items (sets p) lays
+          → FollowsFailure after e st cs es) (sym same) (follows_back cs es)

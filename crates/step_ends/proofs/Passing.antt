@@ -6,6 +6,7 @@ pub IfOk-both : {T E : Type 0} (r : Result T E) (P Q : T → Type 0) → IfOk r 
 IfOk-both (Ok y) P Q p q = (p, q)
 IfOk-both (Err e) P Q p q = p
 
-pub IfOk-three : {T E : Type 0} (r : Result T E) (P Q R : T → Type 0) → IfOk r P → IfOk r Q → IfOk r R → IfOk r (λ y. P y × Q y × R y)
+pub IfOk-three : {T E : Type 0} (r : Result T E) (P Q R : T → Type 0) → IfOk r P → IfOk r Q → IfOk r R
+    → IfOk r (λ y. P y × Q y × R y)
 IfOk-three (Ok y) P Q R p q x = (p, q, x)
 IfOk-three (Err e) P Q R p q x = p

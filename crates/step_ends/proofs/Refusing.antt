@@ -44,15 +44,19 @@ no_rise None b says fails = absurd (both_ways b fails (says _))
 no_rise (Some r) b says fails = (r.now, refl, beyond b (r.now.key + 1) (2 ^ 62) says fails)
 
 -- where it would be unlocked, or a number would be drawn past the last
-pub release_high : (s : StateData) (f : ℕ) (row : Option Row) (r : Row) (letters : List Letter) → row ≡ Some r → 2 ^ 62 ≤ r.key + 1
+pub release_high : (s : StateData) (f : ℕ) (row : Option Row) (r : Row) (letters : List Letter)
+    → row ≡ Some r → 2 ^ 62 ≤ r.key + 1
     → IsWorn (released_changes s f row letters)
-release_high s f row r letters is high = subst (λ (o : Option Row). IsWorn (released_changes s f o letters)) (sym is) (record {
-  change = change.PutRow (unlocked r);
-  among = drawn_keeps s.next letters _ _ (contains_head (change.PutRow (unlocked r)) (change.EndJob f ∷ map change.Send letters));
-  overflows = key (unlocked r) high;
-})
+release_high s f row r letters is high = subst (λ (o : Option Row). IsWorn (released_changes s f o letters))
+    (sym is) (record {
+      change = change.PutRow (unlocked r);
+      among = drawn_keeps s.next letters _ _ (contains_head (change.PutRow (unlocked r))
+          (change.EndJob f ∷ map change.Send letters));
+      overflows = key (unlocked r) high;
+    })
 
-pub drawn_worn : (s : StateData) (letters : List Letter) (rest : List Change) → s.next.letter ≤ 2 ^ 62 → 2 ^ 62 < s.next.letter + length letters
+pub drawn_worn : (s : StateData) (letters : List Letter) (rest : List Change) → s.next.letter ≤ 2 ^ 62
+    → 2 ^ 62 < s.next.letter + length letters
     → IsWorn (draw_letters s.next letters rest)
 drawn_worn s [] rest range over = absurd (past range over)
   where
@@ -66,7 +70,8 @@ pub release_turn : (s : StateData) (e f : ℕ) (j : Job) (made : Made)
     → es ≡ released_entries e f k.row k.letters → Move s e Nothing None cs es)
     → IsRelease s e f j made → IsTurn s e Nothing made
 release_turn s e f j made move k =
-    let turn : Turn s e Nothing made.changes made.entries = plain None (move k.releases _ _ k.changes k.entries) unfailed in
+    let turn : Turn s e Nothing made.changes made.entries = plain None
+    (move k.releases _ _ k.changes k.entries) unfailed in
     record { turn = turn; lasts = quiet_not_worn s e Nothing _ _ (λ a is. cc) turn k.lasts }
 
 pub release_refusal : (s : StateData) (e f : ℕ) (j : Job) (r : Refusal)
@@ -84,7 +89,8 @@ release_refusal s e f j r move (release_worn is k w) = turn_worn is (record {
 })
 
 -- the rollback's refusal, on the state before the mark, is that behind the mark
-pub behind_refusal : (s : StateData) (e : ℕ) (st : Stack) (r : Refusal) → stack_at s.stacks st.name ≡ Some st → st.status ≡ InProgress → IsDue s st
+pub behind_refusal : (s : StateData) (e : ℕ) (st : Stack) (r : Refusal) → stack_at s.stacks st.name ≡ Some st
+    → st.status ≡ InProgress → IsDue s st
     → OrMemory (WearsOutBehind s e st) r → IsBehindRefusal s e st r
 behind_refusal s e st r found running due (inl is) = behind_memory is
 behind_refusal s e st r found running due (inr k) = behind_worn k.is k.changes k.entries (λ q w. record {

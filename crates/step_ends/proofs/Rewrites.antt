@@ -16,7 +16,8 @@ use Rattle.table_laws.proofs.Rows.{row-key, row_else, row_here, row_put, same_or
 use Rattle.step_ends.specs.Marks.{IsRewritten}
 
 -- as many rows as before
-pub length_put : (q : Row) (rows : List Row) → (r : Row) → row_at rows q.no ≡ Some r → length (put_row q rows) ≡ length rows
+pub length_put : (q : Row) (rows : List Row) → (r : Row) → row_at rows q.no ≡ Some r
+    → length (put_row q rows) ≡ length rows
 unfolding at put
 length_put q [] r found = cc
 length_put q (x ∷ xs) r found = elim (eqb_tells x.no q.no) [
@@ -32,14 +33,16 @@ contains_map f (y ∷ ys) x c = elim (contains_cases y x ys c) [
   | inr later ↦ contains_there (f y) (f x) (map f ys) (contains_map f ys x later)
 ]
 
-map_contains : {A B : Type 0} (f : A → B) (xs : List A) (y : B) → Contains (map f xs) y → (x : A) × Contains xs x × (f x ≡ y)
+map_contains : {A B : Type 0} (f : A → B) (xs : List A) (y : B) → Contains (map f xs) y
+    → (x : A) × Contains xs x × (f x ≡ y)
 map_contains f [] y c = absurd (contains_none y c)
 map_contains f (x ∷ xs) y c = elim (contains_cases (f x) y (map f xs) c) [
   | inl is ↦ (x, contains_head x xs, is)
   | inr later ↦ let (z, among, is) = map_contains f xs y later in (z, contains_there x z xs among, is)
 ]
 
-map_same : {A B : Type 0} (f : A → A) (g : A → B) (xs : List A) → ((x : A) → Contains xs x → g (f x) ≡ g x) → map g (map f xs) ≡ map g xs
+map_same : {A B : Type 0} (f : A → A) (g : A → B) (xs : List A) → ((x : A) → Contains xs x → g (f x) ≡ g x)
+    → map g (map f xs) ≡ map g xs
 map_same f g [] same = refl
 map_same f g (x ∷ xs) same =
     rw (same x (contains_head x xs), map_same f g xs (λ y among. same y (contains_there x y xs among))) refl
@@ -64,11 +67,13 @@ module _ (rows : List Row) (q : Row) (w : IsRewritten rows q) where
         let was = subst (λ (y : Row). IsCurrent y) (sym same) is in
         let on = ap (λ (y : Row). y.stack) same in
         let named = ap (λ (y : Row). y.name) same in
-        subst (λ (k : ℕ). k ≤ n) here (greatest q.no w.old w.found (sym w.stack ∙ (on ∙ stack_is)) (sym w.name ∙ (named ∙ name_is)) (old_current was))
+        subst (λ (k : ℕ). k ≤ n) here (greatest q.no w.old w.found (sym w.stack ∙ (on
+        ∙ stack_is)) (sym w.name ∙ (named ∙ name_is)) (old_current was))
     | inr (_, was) ↦ greatest m x was stack_is name_is is
   ]
 
-  still_current : (stack name : List ℕ) (r : Row) → IsCurrentOf rows stack name r → (x : Row) × IsCurrentOf (put_row q rows) stack name x × (x.no ≡ r.no)
+  still_current : (stack name : List ℕ) (r : Row) → IsCurrentOf rows stack name r
+      → (x : Row) × IsCurrentOf (put_row q rows) stack name x × (x.no ≡ r.no)
   still_current stack name r k = elim (same_or_not r.no q.no) [
     | inl is ↦ (q, rewritten is, sym is)
     | inr not ↦ (
@@ -90,14 +95,16 @@ module _ (rows : List Row) (q : Row) (w : IsRewritten rows q) where
         stack_is = w.stack ∙ (ap (λ (y : Row). y.stack) same ∙ k.stack_is);
         name_is = w.name ∙ (ap (λ (y : Row). y.name) same ∙ k.name_is);
         current = new_current (subst (λ (y : Row). IsCurrent y) (sym same) k.current);
-        greatest = subst (λ (n : ℕ). (m : ℕ) (x : Row) → row_at (put_row q rows) m ≡ Some x → x.stack ≡ stack → x.name ≡ name → IsCurrent x → m ≤ n)
+        greatest = subst (λ (n : ℕ). (m : ℕ) (x : Row) → row_at (put_row q rows) m ≡ Some x → x.stack ≡ stack
+            → x.name ≡ name → IsCurrent x → m ≤ n)
             is (still_greatest stack name r.no k.greatest);
       }
 
   still_none : (stack name : List ℕ) → HasNoCurrent rows stack name → HasNoCurrent (put_row q rows) stack name
   still_none stack name absent m x found stack_is name_is is = elim (row_put q rows found) [
     | inl (here, same) ↦ absent q.no w.old w.found (sym w.stack ∙ (ap (λ (y : Row). y.stack) same ∙ stack_is))
-        (sym w.name ∙ (ap (λ (y : Row). y.name) same ∙ name_is)) (old_current (subst (λ (y : Row). IsCurrent y) (sym same) is))
+        (sym w.name ∙ (ap (λ (y : Row). y.name) same
+        ∙ name_is)) (old_current (subst (λ (y : Row). IsCurrent y) (sym same) is))
     | inr (_, was) ↦ absent m x was stack_is name_is is
   ]
 
@@ -132,7 +139,8 @@ module _ (rows : List Row) (q : Row) (w : IsRewritten rows q) where
 
   -- the rows of a stack
   pub still_rows : (stack : List ℕ) (standing : List Row) → AreRowsOf rows stack standing
-      → AreRowsOf (put_row q rows) stack (map swapped standing) × (map brief_of (map swapped standing) ≡ map brief_of standing)
+      → AreRowsOf (put_row q rows) stack (map swapped standing) × (map brief_of
+      (map swapped standing) ≡ map brief_of standing)
   still_rows stack standing k = (record { rising = rising; each = each; only = only }, briefs)
     where
       among : (x : Row) → Contains standing x → row_at rows x.no ≡ Some x
@@ -144,31 +152,40 @@ module _ (rows : List Row) (q : Row) (w : IsRewritten rows q) where
       rising : IsRising (map row_key (map swapped standing))
       rising = subst IsRising (sym (map_same swapped row_key standing (λ x c. swapped_key x))) k.rising
 
-      each : (n : ℕ) (x : Row) → row_at (put_row q rows) n ≡ Some x → x.stack ≡ stack → Contains (map swapped standing) x
+      each : (n : ℕ) (x : Row) → row_at (put_row q rows) n ≡ Some x → x.stack ≡ stack
+          → Contains (map swapped standing) x
       each n x at on = elim (row_put q rows at) [
         | inl (here, same) ↦
             let old_no : w.old.no ≡ q.no = row-key rows q.no w.old w.found in
             let c = k.each q.no w.old w.found (sym w.stack ∙ (ap (λ (y : Row). y.stack) same ∙ on)) in
-            subst (Contains (map swapped standing)) (swapped_here w.old old_no ∙ same) (contains_map swapped standing w.old c)
+            subst (Contains (map swapped standing)) (swapped_here w.old old_no
+            ∙ same) (contains_map swapped standing w.old c)
         | inr (apart, was) ↦
             let no_is : x.no ≡ n = row-key rows n x was in
-            subst (Contains (map swapped standing)) (swapped_else x (λ e. apart (sym e ∙ no_is))) (contains_map swapped standing x (k.each n x was on))
+            subst (Contains (map swapped standing)) (swapped_else x (λ e. apart (sym e
+            ∙ no_is))) (contains_map swapped standing x (k.each n x was on))
       ]
 
       only : (x : Row) → Contains (map swapped standing) x → (row_at (put_row q rows) x.no ≡ Some x) × (x.stack ≡ stack)
-      only x c = let (y, among_y, is) = map_contains swapped standing x c in subst (λ (z : Row). (row_at (put_row q rows) z.no ≡ Some z) × (z.stack ≡ stack)) is (of y among_y)
+      only x c = let (y, among_y, is) = map_contains swapped standing x c in subst (λ (z : Row). (row_at
+          (put_row q rows) z.no ≡ Some z) × (z.stack ≡ stack)) is (of y among_y)
         where
-          of : (y : Row) → Contains standing y → (row_at (put_row q rows) (swapped y).no ≡ Some (swapped y)) × ((swapped y).stack ≡ stack)
+          of : (y : Row) → Contains standing y
+              → (row_at (put_row q rows) (swapped y).no ≡ Some (swapped y)) × ((swapped y).stack ≡ stack)
           of y c = let (at, on) = k.only y c in elim (same_or_not y.no q.no) [
-            | inl is ↦ subst (λ (z : Row). (row_at (put_row q rows) z.no ≡ Some z) × (z.stack ≡ stack)) (sym (swapped_here y is))
+            | inl is ↦ subst (λ (z : Row). (row_at (put_row q rows) z.no ≡ Some z) × (z.stack ≡ stack))
+                (sym (swapped_here y is))
                 (row_here q rows, w.stack ∙ (ap (λ (z : Row). z.stack) (stood y at is) ∙ on))
-            | inr not ↦ subst (λ (z : Row). (row_at (put_row q rows) z.no ≡ Some z) × (z.stack ≡ stack)) (sym (swapped_else y not))
+            | inr not ↦ subst (λ (z : Row). (row_at (put_row q rows) z.no ≡ Some z) × (z.stack ≡ stack))
+                (sym (swapped_else y not))
                 (row_else q rows y.no (λ e. not (sym e)) ∙ at, on)
           ]
 
 -- what a command chooses for its items
-pub still_chooses : (s t : StateData) (q : Row) (w : IsRewritten s.rows q) → t.rows ≡ put_row q s.rows → (stack : List ℕ) (trav next : ℕ) (items : List Item)
-    (chosen : List ℕ) (rows : List Row) → Chooses s stack trav next items chosen rows → Chooses t stack trav next items chosen rows
+pub still_chooses : (s t : StateData) (q : Row) (w : IsRewritten s.rows q) → t.rows ≡ put_row q s.rows
+    → (stack : List ℕ) (trav next : ℕ) (items : List Item)
+    (chosen : List ℕ) (rows : List Row) → Chooses s stack trav next items chosen rows
+    → Chooses t stack trav next items chosen rows
 still_chooses s t q w table stack trav next items chosen rows (none n) = none next
 still_chooses s t q w table stack trav next items chosen rows (current n item more r others rest k c) =
     let (x, is, same) = still_current s.rows q w stack item.name r k in
@@ -176,5 +193,6 @@ still_chooses s t q w table stack trav next items chosen rows (current n item mo
     (current next item more x others rest (subst (λ (l : List Row). IsCurrentOf l stack item.name x) (sym table) is)
     (still_chooses s t q w table stack trav next more others rest c))
 still_chooses s t q w table stack trav next items chosen rows (fresh n item more others rest k c) =
-    fresh next item more others rest (subst (λ (l : List Row). HasNoCurrent l stack item.name) (sym table) (still_none s.rows q w stack item.name k))
+    fresh next item more others rest (subst (λ (l : List Row). HasNoCurrent l stack item.name) (sym table)
+    (still_none s.rows q w stack item.name k))
     (still_chooses s t q w table stack trav (next + 1) more others rest c)

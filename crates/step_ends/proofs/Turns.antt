@@ -27,27 +27,39 @@ use Rattle.step_ends.specs.declared.falling.Failure.{Failure}
 
 -- a change among others wears them out
 pub worn_behind : (xs ys : List Change) → IsWorn ys → IsWorn (xs ++ ys)
-worn_behind xs ys w = record { change = w.change; among = Contains-append_right xs ys w.change w.among; overflows = w.overflows }
+worn_behind xs ys w = record {
+  change = w.change;
+  among = Contains-append_right xs ys w.change w.among;
+  overflows = w.overflows;
+}
 
 pub worn_before : (xs ys : List Change) → IsWorn xs → IsWorn (xs ++ ys)
-worn_before xs ys w = record { change = w.change; among = Contains-append_left xs ys w.change w.among; overflows = w.overflows }
+worn_before xs ys w = record {
+  change = w.change;
+  among = Contains-append_left xs ys w.change w.among;
+  overflows = w.overflows;
+}
 
 -- what is behind the numbers that are drawn
-pub drawn_keeps : (next : _) (letters : List Letter) (rest : List Change) (c : Change) → Contains rest c → Contains (draw_letters next letters rest) c
+pub drawn_keeps : (next : _) (letters : List Letter) (rest : List Change) (c : Change) → Contains rest c
+    → Contains (draw_letters next letters rest) c
 drawn_keeps next [] rest c at = at
 drawn_keeps next (l ∷ ls) rest c at = contains_there _ c rest at
 
 -- the key of the row that fails can't rise
-pub failure_worn : (s : StateData) (e : ℕ) (r : Row) (letters : List Letter) (failed : Option Stack) → 2 ^ 62 ≤ r.key + 1
+pub failure_worn : (s : StateData) (e : ℕ) (r : Row) (letters : List Letter) (failed : Option Stack)
+    → 2 ^ 62 ≤ r.key + 1
     → IsWorn (failed_changes s e r letters failed)
 failure_worn s e r letters failed high = record {
   change = change.PutRow (failed_row r);
-  among = drawn_keeps s.next letters _ _ (contains_head (change.PutRow (failed_row r)) (change.EndJob e ∷ (map change.Send letters ++ mark_failed failed)));
+  among = drawn_keeps s.next letters _ _ (contains_head (change.PutRow (failed_row r))
+      (change.EndJob e ∷ (map change.Send letters ++ mark_failed failed)));
   overflows = key (failed_row r) high;
 }
 
 -- no number is left for the letters
-pub letters_worn : (s : StateData) (l : Letter) (ls : List Letter) (rest : List Change) → 2 ^ 62 < s.next.letter + length (l ∷ ls)
+pub letters_worn : (s : StateData) (l : Letter) (ls : List Letter) (rest : List Change)
+    → 2 ^ 62 < s.next.letter + length (l ∷ ls)
     → IsWorn (draw_letters s.next (l ∷ ls) rest)
 letters_worn s l ls rest over = record {
   change = _;
@@ -56,44 +68,70 @@ letters_worn s l ls rest over = record {
 }
 
 -- a failure is a turn of the move by which it was told
-pub ended_turn : (s : StateData) (e : ℕ) (given : Given) (r : Row) (letters : List Letter) (failed : Option Stack) (why : Failure)
+pub ended_turn : (s : StateData) (e : ℕ) (given : Given) (r : Row) (letters : List Letter)
+    (failed : Option Stack) (why : Failure)
     (cs : List Change) (es : List Entry)
-    → Move s e given failed (failed_changes s e r letters failed) (why.call ∷ failed_entries e r letters failed why.reason)
+    → Move s e given failed (failed_changes s e r letters failed)
+    (why.call ∷ failed_entries e r letters failed why.reason)
     → IsEnded s e r letters failed why cs es → Turn s e given cs es
 ended_turn s e given r letters failed why cs es move (ended_plain as_it_is c d) =
     subst (λ (x : List Change). Turn s e given x es) (sym c)
-    (subst (λ (y : List Entry). Turn s e given (failed_changes s e r letters failed) y) (sym d) (plain failed move as_it_is))
+    (subst (λ (y : List Entry). Turn s e given (failed_changes s e r letters failed) y) (sym d)
+    (plain failed move as_it_is))
 ended_turn s e given r letters failed why cs es move (ended_rolls st last lasts is due follows c d) =
     rolls st _ last _ lasts (subst (λ (f : Option Stack). Move s e given f (failed_changes s e r letters failed)
     (why.call ∷ failed_entries e r letters failed why.reason)) is move) due follows c d
 
 -- the same failure, told by another call
-pub told_otherwise : (s : StateData) (e : ℕ) (j : Job) (r : Row) (why other : Failure) (cs : List Change) (es : List Entry)
+pub told_otherwise : (s : StateData) (e : ℕ) (j : Job) (r : Row) (why other : Failure) (cs : List Change)
+    (es : List Entry)
     → IsFallen s e j r why cs es → (fs : List Entry) × IsFallen s e j r other cs fs
 told_otherwise s e j r why other cs es k = by k.ended
   where
     by : IsEnded s e r k.letters k.failed why cs es → (fs : List Entry) × IsFallen s e j r other cs fs
     by (ended_plain as_it_is c d) =
         (_, record { letters = k.letters; failed = k.failed; falls = k.falls; ended = ended_plain as_it_is c refl })
-    by (ended_rolls st last lasts is due follows c d) =
-        (_, record { letters = k.letters; failed = k.failed; falls = k.falls; ended = ended_rolls st last lasts is due follows c refl })
+    by (ended_rolls st last lasts is due follows c d) = (
+      _,
+      record {
+        letters = k.letters;
+        failed = k.failed;
+        falls = k.falls;
+        ended = ended_rolls st last lasts
+            is due follows c refl;
+      },
+    )
 
 -- of an ask, and of a poll
-pub ask_turn : (s : StateData) (e : ℕ) (j : Job) (r : Row) (asked : Request) (given : Answered) (reason : Why) (cs : List Change) (es : List Entry)
+pub ask_turn : (s : StateData) (e : ℕ) (j : Job) (r : Row) (asked : Request) (given : Answered) (reason : Why)
+    (cs : List Change) (es : List Entry)
     → IsCall s e Asking j r → Asks r asked → Refuses r.act asked given reason
-    → IsFallen s e j r (record { call = call_entry e r asked given; reason = reason }) cs es → Turn s e (Answer given) cs es
+    → IsFallen s e j r (record { call = call_entry e r asked given; reason = reason }) cs es
+    → Turn s e (Answer given) cs es
 ask_turn s e j r asked given reason cs es call asks refuses k =
     let calls : Calls s e Asking = record { job = j; row = r; works = call.works; found = call.found } in
-    ended_turn s e (Answer given) r k.letters k.failed _ cs es (ask_failed calls asked given reason k.letters k.failed _ _ asks refuses k.falls refl refl) k.ended
+    ended_turn s e (Answer given) r k.letters k.failed _ cs es
+    (ask_failed calls asked given reason k.letters k.failed _ _ asks refuses k.falls refl refl) k.ended
 
-pub poll_turn : (s : StateData) (e : ℕ) (j : Job) (r : Row) (asked : Request) (given : Answered) (reason : Why) (cs : List Change) (es : List Entry)
+pub poll_turn : (s : StateData) (e : ℕ) (j : Job) (r : Row) (asked : Request) (given : Answered)
+    (reason : Why) (cs : List Change) (es : List Entry)
     → IsCall s e Polling j r → Polls r asked → Refuses r.act asked given reason
-    → IsFallen s e j r (record { call = call_entry e r asked given; reason = reason }) cs es → Turn s e (Answer given) cs es
+    → IsFallen s e j r (record { call = call_entry e r asked given; reason = reason }) cs es
+    → Turn s e (Answer given) cs es
 poll_turn s e j r asked given reason cs es call asks refuses k =
     let calls : Calls s e Polling = record { job = j; row = r; works = call.works; found = call.found } in
-    ended_turn s e (Answer given) r k.letters k.failed _ cs es (poll_failed calls asked given reason k.letters k.failed _ _ asks refuses k.falls refl refl) k.ended
+    ended_turn s e (Answer given) r k.letters k.failed _ cs es
+    (poll_failed calls asked given reason k.letters k.failed _ _ asks refuses k.falls refl refl) k.ended
 
 -- a turn under one answer whose changes are worn wears the call out under each
-pub call_wears : (s : StateData) (e : ℕ) (a b : Answered) (cs : List Change) (es : List Entry) → Turn s e (Answer a) cs es → IsWorn cs
+pub call_wears : (s : StateData) (e : ℕ) (a b : Answered) (cs : List Change) (es : List Entry)
+    → Turn s e (Answer a) cs es → IsWorn cs
     → WearsOut s e (Answer b)
-call_wears s e a b cs es turn worn = record { other = Answer a; like = answers b a; changes = cs; entries = es; turn = turn; worn = worn }
+call_wears s e a b cs es turn worn = record {
+  other = Answer a;
+  like = answers b a;
+  changes = cs;
+  entries = es;
+  turn = turn;
+  worn = worn;
+}

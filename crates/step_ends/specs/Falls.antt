@@ -15,7 +15,8 @@ use Rattle.step_relation.specs.Turns.{FollowsFailure, IsDue, IsPlain, IsWorn}
 use Rattle.step_ends.specs.declared.falling.Failure.{Failure}
 
 -- the row failed, these letters were sent and this stack was marked; where that is due, the rollback followed
-pub data IsEnded (s : StateData) (e : ℕ) (r : Row) (letters : List Letter) (failed : Option Stack) (why : Failure) (cs : List Change) (es : List Entry) : Type 0 where
+pub data IsEnded (s : StateData) (e : ℕ) (r : Row) (letters : List Letter) (failed : Option Stack)
+    (why : Failure) (cs : List Change) (es : List Entry) : Type 0 where
   plain : IsPlain (applied (failed_changes s e r letters failed) s) failed
       → cs ≡ failed_changes s e r letters failed
       → es ≡ why.call ∷ failed_entries e r letters failed why.reason
@@ -28,7 +29,8 @@ pub data IsEnded (s : StateData) (e : ℕ) (r : Row) (letters : List Letter) (fa
       → IsEnded s e r letters failed why cs es
 
 -- the letters and the mark are those that the job's failure brings
-pub record IsFallen (s : StateData) (e : ℕ) (j : Job) (r : Row) (why : Failure) (cs : List Change) (es : List Entry) : Type 0 where
+pub record IsFallen (s : StateData) (e : ℕ) (j : Job) (r : Row) (why : Failure) (cs : List Change)
+    (es : List Entry) : Type 0 where
   pub letters : List Letter
   pub failed : Option Stack
   pub falls : Falls s j letters failed

@@ -22,6 +22,7 @@ pub data IsOfUnknownSize : Answered → Type 0 where
 
 -- where the step of a failure was made and wears nothing out, such an answer that is told alone is a step
 abbrev pub LostAnswerIsAStep : Type 0
-LostAnswerIsAStep = (s : StateData) (e : ℕ) (k : Calls s e Polling) (given : Answered) → k.row.act ≢ Delete → IsOfUnknownSize given
+LostAnswerIsAStep = (s : StateData) (e : ℕ) (k : Calls s e Polling) (given : Answered) → k.row.act ≢ Delete
+    → IsOfUnknownSize given
     → (cs : List Change) (es : List Entry) → Turn s e (Answer answer.Failed) cs es → ¬ IsWorn cs
     → Step s [] (call_entry e k.row request.Poll given ∷ [])

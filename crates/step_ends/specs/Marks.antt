@@ -30,7 +30,8 @@ pub record IsRewritten (rows : List Row) (q : Row) : Type 0 where
   pub replaced_by : q.replaced_by ≡ old.replaced_by
 
 -- the rollback that follows the mark
-pub record RollsBehind (s : StateData) (e : ℕ) (q : Row) (st : Stack) (cs : List Change) (es : List Entry) : Type 0 where
+pub record RollsBehind (s : StateData) (e : ℕ) (q : Row) (st : Stack) (cs : List Change)
+    (es : List Entry) : Type 0 where
   pub due : IsDue (applied (marking e q st) s) st
   pub follows : FollowsFailure (applied (marking e q st) s) e st cs es
 
@@ -43,5 +44,6 @@ IsBehind s e st (Some made) = ((q : Row) → IsRewritten s.rows q → RollsBehin
 -- want of memory, or the rollback would wear something out
 pub data IsBehindRefusal (s : StateData) (e : ℕ) (st : Stack) (r : Refusal) : Type 0 where
   memory : r ≡ Memory → IsBehindRefusal s e st r
-  worn : r ≡ Worn → (cs : List Change) (es : List Entry) → ((q : Row) → IsRewritten s.rows q → RollsBehind s e q st cs es)
+  worn : r ≡ Worn → (cs : List Change) (es : List Entry) → ((q : Row) → IsRewritten s.rows q
+      → RollsBehind s e q st cs es)
       → IsWorn cs → IsBehindRefusal s e st r

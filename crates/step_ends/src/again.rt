@@ -16,7 +16,8 @@ pub fn next_letter(s: &State) -> Option<LetterNo>
     LetterNo::new(s.next().letter.get())
 }
 
-/// The letter for the node that waits for the row, if one does; refuses `Worn` where no number is left.
+/// The letter for the node that waits for the row, if one does; refuses `Worn` where no number is
+/// left.
 pub fn letters_again(
     alloc: Global,
     s: &State,

@@ -14,8 +14,8 @@ use heat_plan::{Answered, EngineNo, Refusal};
 use std::alloc::{AllocError, Global};
 use step_parts::{call_entry, onward_changes, onward_entries, with_first};
 
-/// What follows from the answer to the engine's ask; refuses `Worn` under every answer alike, so that it
-/// can be told before anybody is asked.
+/// What follows from the answer to the engine's ask; refuses `Worn` under every answer alike, so that
+/// it can be told before anybody is asked.
 pub fn asked(alloc: Global, s: &State, e: EngineNo, answer: &Answered) -> Result<Made, Refusal>
     requires calls { Calls s.now.state e Asking }
     requires answer { (k : Calls s.now.state e Asking) → AnswersAsk k.row.act answer.now }

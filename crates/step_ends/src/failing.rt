@@ -11,7 +11,8 @@ use step_parts::{
     rows_entry, sends, seq_of_one, two, with_last,
 };
 
-/// The row is failed and unlocked, the job ends, the letters are sent, and the stack is marked, if it is to be.
+/// The row is failed and unlocked, the job ends, the letters are sent, and the stack is marked, if it
+/// is to be.
 pub fn failed_changes(
     alloc: Global,
     s: &State,

@@ -35,7 +35,8 @@ pub fn fallen(
     why: Failure,
 ) -> Result<Made, Refusal>
     requires { row_at s.now.state.rows job.now.row ≡ Some row.now }
-    ensures made { IfOk result (λ m. IsFallen s.now.state e job.now row.now why m.changes m.entries) }
+    ensures made { IfOk result (λ m.
+        IsFallen s.now.state e job.now row.now why m.changes m.entries) }
     ensures lasts { IfOk result (λ m. ¬ IsWorn m.changes) }
     ensures cause { IfErr result (OrWorn (IsFallen s.now.state e job.now row.now why)) }
 {
@@ -62,7 +63,8 @@ fn leave(
     why: Failure,
 ) -> Result<Made, Refusal>
     requires { s.now.state.next.letter + length letters ≤ 2 ^ 62 }
-    ensures made { IfOk result (λ m. IsEnded s.now.state e row.now letters None why m.changes m.entries) }
+    ensures made { IfOk result (λ m.
+        IsEnded s.now.state e row.now letters None why m.changes m.entries) }
     ensures lasts { IfOk result (λ m. ¬ IsWorn m.changes) }
     ensures cause { IfErr result (OrWorn (IsEnded s.now.state e row.now letters None why)) }
 {
@@ -72,7 +74,8 @@ fn leave(
     ended(alloc, s, e, row, letters.as_slice(), None, why)
 }
 
-// The row fails, the job ends, and the stack, which has no mark, is marked; a rollback follows where it is due.
+// The row fails, the job ends, and the stack, which has no mark, is marked; a rollback follows where
+// it is due.
 fn mark(
     alloc: Global,
     s: &State,
@@ -85,7 +88,8 @@ fn mark(
     requires found { stack_at s.now.state.stacks stack.now.name ≡ Some stack.now }
     requires running { stack.now.status ≡ InProgress }
     requires range { s.now.state.next.letter ≤ 2 ^ 62 }
-    ensures made { IfOk result (λ m. IsEnded s.now.state e row.now [] (Some stack.now) why m.changes m.entries) }
+    ensures made { IfOk result (λ m.
+        IsEnded s.now.state e row.now [] (Some stack.now) why m.changes m.entries) }
     ensures lasts { IfOk result (λ m. ¬ IsWorn m.changes) }
     ensures cause { IfErr result (OrWorn (IsEnded s.now.state e row.now [] (Some stack.now) why)) }
 {
@@ -106,7 +110,8 @@ fn marked(
     why: Failure,
 ) -> Result<Made, Refusal>
     requires { s.now.state.next.letter ≤ 2 ^ 62 }
-    ensures changes { IfOk result (λ m. m.changes ≡ failed_changes s.now.state e row.now [] (Some stack.now)) }
+    ensures changes { IfOk result (λ m.
+        m.changes ≡ failed_changes s.now.state e row.now [] (Some stack.now)) }
     ensures entries { IfOk result (λ m. m.entries ≡
         why.call ∷ failed_entries e row.now [] (Some stack.now) why.reason) }
     ensures lasts { IfOk result (λ m. ¬ IsWorn m.changes) }

@@ -1,6 +1,7 @@
-//! How an engine's work at a row ends: by a release, since nobody needs it any more, by a failure, with the
-//! rollback that may follow, and by what a provider answers. Each function answers the changes and entries
-//! of one case of `Turn` in `step_relation`. None of them changes the state, asks a provider or writes.
+//! How an engine's work at a row ends: by a release, since nobody needs it any more, by a failure, with
+//! the rollback that may follow, and by what a provider answers. Each function answers the changes and
+//! entries of one case of `Turn` in `step_relation`. None of them changes the state, asks a provider or
+//! writes.
 #![tactic(auto)]
 
 ghost use Rattle.step_ends.specs.Lost.{LostAnswerIsAStep};

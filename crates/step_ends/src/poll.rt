@@ -18,8 +18,8 @@ use step_parts::{
     with_first,
 };
 
-/// What follows from the answer to the engine's poll; refuses `Worn` under every answer alike, so that it
-/// can be told before anybody is asked.
+/// What follows from the answer to the engine's poll; refuses `Worn` under every answer alike, so that
+/// it can be told before anybody is asked.
 pub fn polled(alloc: Global, s: &State, e: EngineNo, answer: &Answered) -> Result<Made, Refusal>
     requires calls { Calls s.now.state e Polling }
     requires answer { (k : Calls s.now.state e Polling) → AnswersPoll k.row.act answer.now }

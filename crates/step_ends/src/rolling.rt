@@ -1,5 +1,5 @@
-//! The rollback behind the mark of a failure. It is laid on the state before the mark: the mark changes
-//! nothing that a rollback reads.
+//! The rollback behind the mark of a failure. It is laid on the state before the mark: the mark
+//! changes nothing that a rollback reads.
 ghost use Rattle.std.specs.Prelude.{◌≡◌, IfErr, IfOk, Some};
 ghost use Rattle.heat_plan.specs.declared.phase.Status.TheVariants.{InProgress};
 ghost use Rattle.core_state.specs.State.{stack_at};

@@ -25,4 +25,5 @@ pub returns-clause-cause : goal.returns-clause-cause
 returns-clause-cause c =
     let refuses = refuses_ask _ _ _ _ c.requires.answer c.in_ok-asked_for.ensures c.in_ok-reason.ensures in
     let cause = rw c.in_ok-call.ensures at c.fallen.ensures.cause in
-    IfErr-weaker c.fallen.result _ _ (λ r k. ask_worn _ _ _ _ _ c.args.answer.now _ _ c.requires.call c.in_ok-asked_for.ensures refuses k) cause
+    IfErr-weaker c.fallen.result _ _ (λ r k. ask_worn _ _ _ _ _ c.args.answer.now _ _ c.requires.call
+    c.in_ok-asked_for.ensures refuses k) cause

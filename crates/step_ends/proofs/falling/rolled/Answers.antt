@@ -14,4 +14,5 @@ returns-clause-entries c =
     c.in_ok-joined.ensures.entries ∙ ap (λ (l : List Entry). l ++ c.args.last.entries) c.in_ok-first.ensures.entries
 
 pub returns-clause-lasts : goal.returns-clause-lasts
-returns-clause-lasts c = λ w. unworn_both _ _ c.in_ok-first.ensures.lasts c.requires.lasts (subst IsWorn c.in_ok-joined.ensures.changes w)
+returns-clause-lasts c = λ w. unworn_both _ _ c.in_ok-first.ensures.lasts c.requires.lasts
+    (subst IsWorn c.in_ok-joined.ensures.changes w)

@@ -29,7 +29,8 @@ returns-clause-made c = IfOk-weaker c.made_within.result _ _ (λ m k. record {
   changes = k.0 ∙ c.in_ok-changes.ensures;
   entries = k.1 ∙ c.in_ok-entries.ensures;
   lasts = λ w. k.2 (subst IsWorn k.0 w);
-}) (IfOk-three c.made_within.result _ _ _ c.made_within.ensures.changes c.made_within.ensures.entries c.made_within.ensures.lasts)
+}) (IfOk-three c.made_within.result _ _ _ c.made_within.ensures.changes c.made_within.ensures.entries
+    c.made_within.ensures.lasts)
 
 pub returns-clause-cause : goal.returns-clause-cause
 returns-clause-cause c = IfErr-weaker c.made_within.result _ _ (λ r k. elim k [

@@ -13,5 +13,6 @@ pub answered-requires-clause-call : goal.answered-requires-clause-call
 answered-requires-clause-call c = call_of _ _ _ c.requires.calls _ _ c.job_of-job.ensures c.row_of-row.ensures
 
 pub answered-requires-clause-answer : goal.answered-requires-clause-answer
-answered-requires-clause-answer c = said_of _ c.args.e Polling (λ act. AnswersPoll act c.args.answer.now) c.job_of-job.result.now c.row_of-row.result.now
+answered-requires-clause-answer c = said_of _ c.args.e Polling
+    (λ act. AnswersPoll act c.args.answer.now) c.job_of-job.result.now c.row_of-row.result.now
     c.requires.answer (call_of _ _ _ c.requires.calls _ _ c.job_of-job.ensures c.row_of-row.ensures)

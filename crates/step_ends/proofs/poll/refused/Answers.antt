@@ -25,4 +25,5 @@ pub returns-clause-cause : goal.returns-clause-cause
 returns-clause-cause c =
     let refuses = refuses_poll _ _ _ _ c.requires.answer c.polled_by.ensures c.in_ok-reason.ensures in
     let cause = rw c.in_ok-call.ensures at c.fallen.ensures.cause in
-    IfErr-weaker c.fallen.result _ _ (λ r k. poll_worn _ _ _ _ _ c.args.answer.now _ _ c.requires.call c.polled_by.ensures refuses k) cause
+    IfErr-weaker c.fallen.result _ _ (λ r k. poll_worn _ _ _ _ _ c.args.answer.now _ _ c.requires.call
+    c.polled_by.ensures refuses k) cause

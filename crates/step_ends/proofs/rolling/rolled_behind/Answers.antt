@@ -20,4 +20,5 @@ returns-clause-made c = (
 pub returns-in_err-made-clause-cause : goal.returns-in_err-made-clause-cause
 returns-in_err-made-clause-cause c =
     let p = err_from_is_err_and c.from_residual.result c.from_residual.ensures.1 in
-    rw (p.1, p.2) (behind_refusal _ _ _ _ c.requires.found c.requires.running (c.is_due.ensures.0 c.if-not-is_due.false) c.in_err-made.ensures.cause)
+    rw (p.1, p.2) (behind_refusal _ _ _ _ c.requires.found c.requires.running
+    (c.is_due.ensures.0 c.if-not-is_due.false) c.in_err-made.ensures.cause)
