@@ -5,21 +5,22 @@ ghost use Rattle.step_relation.specs.Asks.{Calls};
 ghost use Rattle.step_relation.specs.Begins.{begun_changes, begun_entries};
 ghost use Rattle.step_relation.specs.Cleanups.{purged_changes, purged_entries};
 ghost use Rattle.step_relation.specs.Given.{Answer};
+ghost use Rattle.step_relation.specs.Rows.{ready_row};
 ghost use Rattle.step_parts.specs.Turns.{IsTurn, IsTurnRefusal};
 ghost use Rattle.step_ends.specs.Answers.{AnswersPoll, CallLasts, IsCall, IsCallRefusal, IsFailing, IsTold};
 
 use crate::calls::{job_of, polled_by, reason_of, row_of};
 use crate::falling::{Failure, fallen};
-use core_state::{Batch, Entry, Job, Made, Row, Stage, State};
-use heat_plan::{Answered, EngineNo, Refusal};
+use core_state::{Batch, Change, Entry, Job, Made, Row, Stage, State};
+use heat_plan::{Answered, EngineNo, Facts, Refusal};
 use std::alloc::{AllocError, Global};
 use step_parts::{
     begun_changes, begun_entries, call_entry, one, purged_changes, purged_entries, ready_row,
-    with_first,
+    with_last,
 };
 
-/// What follows from the answer to the engine's poll; refuses `Worn` under every answer alike, so that
-/// it can be told before anybody is asked.
+/// What follows from the answer to the engine's poll; refuses `Worn` under every answer alike, so that it
+/// can be told before anybody is asked.
 pub fn polled(alloc: Global, s: &State, e: EngineNo, answer: &Answered) -> Result<Made, Refusal>
     requires calls { Calls s.now.state e Polling }
     requires answer { (k : Calls s.now.state e Polling) → AnswersPoll k.row.act answer.now }
@@ -91,11 +92,7 @@ fn told(
     let call = call_entry(e, row, polled_by(row), answer)?;
     match answer {
         Answered::NotYet => waiting(alloc, call),
-        Answered::Ready(facts) => {
-            let first = ready_row(row, facts)?;
-            let second = ready_row(row, facts)?;
-            readied(alloc, e, job, first, second, call)
-        }
+        Answered::Ready(facts) => readied(alloc, e, job, row, facts, call),
         Answered::Gone => gone(alloc, e, job, row, call),
         Answered::Begun | Answered::Quota | Answered::Failed | Answered::Broken(_) => {
             unreachable!()
@@ -108,26 +105,57 @@ fn waiting(alloc: Global, call: Entry) -> Result<Made, AllocError>
     ensures changes { IfOk result (λ m. m.changes ≡ []) }
     ensures entries { IfOk result (λ m. m.entries ≡ call ∷ []) }
 {
-    let changes = Batch::new(alloc);
     let entries = one(alloc, call)?;
-    Made::new(alloc, changes, entries)
+    Made::new(alloc, Batch::new(alloc), entries)
 }
 
-// The row is written as it is once its resource is ready, and its job ends next.
+// A ready resource's facts are stored, and its job ends next.
 fn readied(
     alloc: Global,
     e: EngineNo,
     job: &Job,
-    first: Row,
-    second: Row,
+    row: &Row,
+    facts: &Facts,
     call: Entry,
 ) -> Result<Made, AllocError>
-    ensures changes { IfOk result (λ m. m.changes ≡ begun_changes job.now Ending first) }
-    ensures entries { IfOk result (λ m. m.entries ≡ call ∷ begun_entries e job.now Ending second) }
+    ensures changes { IfOk result (λ m. m.changes ≡ begun_changes job.now Ending (ready_row row.now facts.now)) }
+    ensures entries { IfOk result (λ m. m.entries ≡
+        call ∷ begun_entries e job.now Ending (ready_row row.now facts.now)) }
 {
-    let changes = begun_changes(alloc, job, Stage::Ending, first)?;
-    let entries = begun_entries(alloc, e, job, Stage::Ending, second)?;
-    Made::new(alloc, changes, with_first(alloc, call, entries)?)
+    let entries = ready_entries(alloc, e, job, row, facts, call)?;
+    let changes = ready_changes(alloc, job, row, facts)?;
+    Made::new(alloc, changes, entries)
+}
+
+// The row and the job.
+fn ready_changes(
+    alloc: Global,
+    job: &Job,
+    row: &Row,
+    facts: &Facts,
+) -> Result<Batch<Change>, AllocError>
+    ensures { IfOk result (λ changes. changes ≡ begun_changes job.now Ending (ready_row row.now facts.now)) }
+{
+    let row = ready_row(row, facts)?;
+    begun_changes(alloc, job, Stage::Ending, row)
+}
+
+// The call, and what is told of them.
+fn ready_entries(
+    alloc: Global,
+    e: EngineNo,
+    job: &Job,
+    row: &Row,
+    facts: &Facts,
+    call: Entry,
+) -> Result<Batch<Entry>, AllocError>
+    ensures { IfOk result (λ entries. entries ≡
+        call ∷ begun_entries e job.now Ending (ready_row row.now facts.now)) }
+{
+    let told = one(alloc, call)?;
+    let row = ready_row(row, facts)?;
+    let rest = begun_entries(alloc, e, job, Stage::Ending, row)?;
+    with_last(told, rest)
 }
 
 // A resource is gone: its row goes, and its job ends next.
@@ -135,7 +163,22 @@ fn gone(alloc: Global, e: EngineNo, job: &Job, row: &Row, call: Entry) -> Result
     ensures changes { IfOk result (λ m. m.changes ≡ purged_changes job.now row.now) }
     ensures entries { IfOk result (λ m. m.entries ≡ call ∷ purged_entries e job.now row.now) }
 {
+    let entries = gone_entries(alloc, e, job, row, call)?;
     let changes = purged_changes(alloc, job, row)?;
-    let entries = purged_entries(alloc, e, job, row)?;
-    Made::new(alloc, changes, with_first(alloc, call, entries)?)
+    Made::new(alloc, changes, entries)
+}
+
+// The call, and what is told of them.
+fn gone_entries(
+    alloc: Global,
+    e: EngineNo,
+    job: &Job,
+    row: &Row,
+    call: Entry,
+) -> Result<Batch<Entry>, AllocError>
+    ensures { IfOk result (λ entries. entries ≡ call ∷ purged_entries e job.now row.now) }
+{
+    let told = one(alloc, call)?;
+    let rest = purged_entries(alloc, e, job, row)?;
+    with_last(told, rest)
 }

@@ -1,21 +1,17 @@
-use Rattle.std.proofs.lemmas.Result.{IfErr-weaker}
-use Rattle.step_ends.proofs.Called.{arm_fails, arm_tells, no_arm, told_turn, turn_refusal}
+use Rattle.std.proofs.Common.{◌≡◌, ◌⊎◌, inl, inr, ℕ, List}
+use Rattle.heat_plan.specs.declared.calls.Answered.{Answered}
+use Rattle.heat_plan.specs.declared.calls.Answered.TheVariants as answer
+use Rattle.step_ends.specs.Answers.{IsFailing, by_code, by_failure}
+use Rattle.step_ends.proofs.Called.{told_turn}
 use Rattle.step_ends.proofs.poll.answered.Goals as goal
 
+failing : (given : Answered) → (given ≡ answer.Failed) ⊎ ((code : List ℕ) × (given ≡ answer.Broken code)) → IsFailing given
+failing given (inl is) = by_failure is
+failing given (inr (code, is)) = by_code code is
+
 pub refused-requires-in-Failed-clause-fails : goal.refused-requires-in-Failed-clause-fails
-refused-requires-in-Failed-clause-fails c = arm_fails _ c.in-Failed.is
-
-pub returns-in-Failed-clause-cause : goal.returns-in-Failed-clause-cause
-returns-in-Failed-clause-cause c = IfErr-weaker c.refused-in-Failed.result _ _
-    (λ r k. turn_refusal _ _ c.args.answer.now r k) c.refused-in-Failed.ensures.cause
-
-pub told-requires-clause-fails : goal.told-requires-clause-fails
-told-requires-clause-fails c = arm_tells _ c.in-NotYet.is
+refused-requires-in-Failed-clause-fails c = failing c.args.answer.now c.in-Failed.is
 
 pub returns-in_ok-told-in-NotYet-clause-made : goal.returns-in_ok-told-in-NotYet-clause-made
 returns-in_ok-told-in-NotYet-clause-made c =
-    told_turn _ _ _ _ _ _ c.requires.call c.requires.answer c.in_ok-told-in-NotYet.ensures
-    c.in_ok-refused-in-NotYet.ensures.lasts
-
-pub unreachable-requires : goal.unreachable-requires
-unreachable-requires c = no_arm _ _ c.requires.answer c.in-Begun.is
+    told_turn _ _ _ _ _ _ c.requires.call c.requires.answer c.in_ok-told-in-NotYet.ensures c.in_ok-refused-in-NotYet.ensures.lasts
