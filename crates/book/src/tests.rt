@@ -204,8 +204,8 @@ const CASES: &[(&str, &[u8], u32, &[u8], usize, &[u8])] = &[
         b"cu",
         1,
         b"000",
-        8,
-        b"crmrmrm?m?rmrm+cmrmrmrmm+",
+        11,
+        b"crmrmrm?m?rmrm+cmrmrmrmrmmrm+",
     ),
     (
         "delete, gone",
