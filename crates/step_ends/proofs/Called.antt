@@ -23,9 +23,9 @@ use Rattle.core_state.specs.declared.entry.Why.TheVariants as why
 use Rattle.core_state.specs.declared.made.Made.{Made}
 use Rattle.step_relation.specs.Asks.{Asks, Calls, Polls, Refuses, by_code, by_failure, by_quota, creates, deletes, looks, polls, updates}
 use Rattle.step_relation.specs.Given.{Answer}
-use Rattle.step_relation.specs.Moves.{Move, ask_begun, poll_gone, poll_ready, poll_waits}
+use Rattle.step_relation.specs.Moves.{ask_begun, poll_gone, poll_ready, poll_waits}
 use Rattle.step_relation.specs.Nexts.{Works}
-use Rattle.step_relation.specs.Turns.{IsWorn, Turn, plain, unfailed}
+use Rattle.step_relation.specs.Turns.{IsWorn, plain, unfailed}
 use Rattle.step_relation.specs.Writes.{call_entry}
 use Rattle.step_parts.specs.Turns.{IsTurn, IsTurnRefusal}
 use Rattle.step_parts.specs.Turns.IsTurnRefusal.{memory as turn_memory, worn as turn_worn}
@@ -105,6 +105,13 @@ refuses_poll r asked given reason answers asks (of_code code is because) =
     subst (λ (a : Answered). Refuses r.act asked a reason) (sym is)
     (subst (λ (w : Why). Refuses r.act asked (answer.Broken code) w) (sym because) (code_polls r asked code (kept_broken r given code answers is) asks))
 
+pub not_begun : (act : Act) (given : Answered) → AnswersPoll act given → given ≢ answer.Begun
+not_begun act given (asking.not_yet is) begun = let f : answer.NotYet ≡ answer.Begun = sym is ∙ begun in cc
+not_begun act given (asking.poll_failed is) begun = let f : answer.Failed ≡ answer.Begun = sym is ∙ begun in cc
+not_begun act given (asking.ready facts kept is) begun = let f : answer.Ready facts ≡ answer.Begun = sym is ∙ begun in cc
+not_begun act given (asking.broken code kept is) begun = let f : answer.Broken code ≡ answer.Begun = sym is ∙ begun in cc
+not_begun act given (asking.gone a is) begun = let f : answer.Gone ≡ answer.Begun = sym is ∙ begun in cc
+
 -- the failure under the plainest answer lasts where this one does
 pub ask_lasts : (s : StateData) (e : ℕ) (j : Job) (r : Row) (asked : Request) (f : Failure) (cs : List Change) (es : List Entry) → IsCall s e Asking j r
     → Asks r asked → IsFallen s e j r f cs es → ¬ IsWorn cs → CallLasts s e
@@ -176,3 +183,43 @@ told_turn s e j r given m call answers (goes is c d) lasts =
     let calls : Calls s e Polling = record { job = j; row = r; works = call.works; found = call.found } in
     subst (λ (a : Answered). IsTurn s e (Answer a) m) (sym is)
     (record { turn = plain None (poll_gone calls _ _ (gone_delete r given answers is) c d) unfailed; lasts = lasts answer.Gone })
+
+-- what a poll asks, by whether the row is at its delete
+pub kept_poll : (r : Row) (asked : Request) → Polls r asked → r.act ≢ Delete → asked ≡ request.Poll
+kept_poll r asked (polls kept) is = refl
+kept_poll r asked (looks act) kept = absurd (kept act)
+
+pub gone_look : (r : Row) (asked : Request) → Polls r asked → r.act ≡ Delete → asked ≡ request.Gone
+gone_look r asked (polls kept) act = absurd (kept act)
+gone_look r asked (looks is) act = refl
+
+-- an answer that fails nothing is one of the others
+pub not_told : (act : Act) (given : Answered) → AnswersPoll act given → ¬ IsFailing given
+    → (given ≡ answer.Begun) ⊎ ((given ≡ answer.Quota) ⊎ ((given ≡ answer.Failed) ⊎ ((code : List ℕ) × (given ≡ answer.Broken code)))) → ⊥
+not_told act given answers fine (inl is) = not_begun act given answers is
+not_told act given answers fine (inr (inl is)) = no_quota act given answers is
+not_told act given answers fine (inr (inr (inl is))) = fine (asking.by_failure is)
+not_told act given answers fine (inr (inr (inr (code, is)))) = fine (asking.by_code code is)
+
+-- of the answers of an arm, each fails or none does
+pub arm_fails : (given : Answered) → (given ≡ answer.Failed) ⊎ ((code : List ℕ) × (given ≡ answer.Broken code)) → IsFailing given
+arm_fails given (inl is) = asking.by_failure is
+arm_fails given (inr (code, is)) = asking.by_code code is
+
+apart : (given : Answered) → IsFailing given → (given ≡ answer.NotYet) ⊎ (((facts : Facts) × (given ≡ answer.Ready facts)) ⊎ (given ≡ answer.Gone)) → ⊥
+apart given (asking.by_failure is) (inl e) = let f : answer.Failed ≡ answer.NotYet = sym is ∙ e in cc
+apart given (asking.by_failure is) (inr (inl (facts, e))) = let f : answer.Failed ≡ answer.Ready facts = sym is ∙ e in cc
+apart given (asking.by_failure is) (inr (inr e)) = let f : answer.Failed ≡ answer.Gone = sym is ∙ e in cc
+apart given (asking.by_quota is) (inl e) = let f : answer.Quota ≡ answer.NotYet = sym is ∙ e in cc
+apart given (asking.by_quota is) (inr (inl (facts, e))) = let f : answer.Quota ≡ answer.Ready facts = sym is ∙ e in cc
+apart given (asking.by_quota is) (inr (inr e)) = let f : answer.Quota ≡ answer.Gone = sym is ∙ e in cc
+apart given (asking.by_code code is) (inl e) = let f : answer.Broken code ≡ answer.NotYet = sym is ∙ e in cc
+apart given (asking.by_code code is) (inr (inl (facts, e))) = let f : answer.Broken code ≡ answer.Ready facts = sym is ∙ e in cc
+apart given (asking.by_code code is) (inr (inr e)) = let f : answer.Broken code ≡ answer.Gone = sym is ∙ e in cc
+
+pub arm_tells : (given : Answered) → (given ≡ answer.NotYet) ⊎ (((facts : Facts) × (given ≡ answer.Ready facts)) ⊎ (given ≡ answer.Gone)) → ¬ IsFailing given
+arm_tells given arm fails = apart given fails arm
+
+pub no_arm : (act : Act) (given : Answered) → AnswersPoll act given → (given ≡ answer.Begun) ⊎ (given ≡ answer.Quota) → ⊥
+no_arm act given answers (inl is) = not_begun act given answers is
+no_arm act given answers (inr is) = no_quota act given answers is

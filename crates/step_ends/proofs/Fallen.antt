@@ -1,7 +1,5 @@
 -- A failure's step, put together.
-use Rattle.std.proofs.Common.{◌≡◌, ◌≢◌, ◌⊎◌, inl, inr, ◌≤◌, ◌<◌, ◌+◌, ◌^◌, ◌∙◌, ℕ, List, [], ◌∷◌, ◌++◌, None, Option, Some, refl, sym, ap, subst, length, arith}
-use Rattle.std.specs.Prelude.{Contains}
-use Rattle.std.proofs.lemmas.Option.{none-some}
+use Rattle.std.proofs.Common.{◌≡◌, ◌≢◌, ◌⊎◌, inl, inr, ◌≤◌, ◌^◌, ◌∙◌, ℕ, List, [], ◌∷◌, ◌++◌, None, Option, Some, refl, sym, ap, subst}
 use Rattle.std.proofs.lemmas.List.Elements.{Contains-append_cases}
 use Rattle.heat_plan.specs.declared.phase.Status.{Status}
 use Rattle.heat_plan.specs.declared.phase.Status.TheVariants.{Complete, Failed, InProgress}
@@ -17,14 +15,13 @@ use Rattle.core_state.specs.State.{StateData, stack_at}
 use Rattle.core_state.specs.declared.change.Change.{Change}
 use Rattle.core_state.specs.declared.entry.Entry.{Entry}
 use Rattle.core_state.specs.declared.graph.Graph.{Graph}
-use Rattle.core_state.specs.declared.made.Made.{Made}
 use Rattle.core_state.specs.declared.stack.Stack.{Stack}
 use Rattle.step_relation.specs.Asks.{Falls, failed_changes, failed_entries, marked, marks, overrun}
 use Rattle.step_relation.specs.Freshness.{IsOverrun}
 use Rattle.step_relation.specs.Rows.{failed_row}
 use Rattle.step_relation.specs.Turns.{IsDue, IsWorn, stays, unfailed}
 use Rattle.step_reads.specs.Work.{IsFreshOf, fresh_of}
-use Rattle.table_laws.proofs.Rows.{same_some, stack-key}
+use Rattle.table_laws.proofs.Rows.{stack-key}
 use Rattle.step_ends.specs.Falls.{IsEnded, IsFallen, OrWorn, plain, rolls}
 use Rattle.step_ends.specs.Falls.OrWorn.{memory as fall_memory, worn as fall_worn}
 use Rattle.step_ends.specs.Marks.{IsBehindRefusal, IsRewritten, RollsBehind, marking}
@@ -33,7 +30,7 @@ use Rattle.step_ends.specs.Releases.{IsAgainRefusal}
 use Rattle.step_ends.specs.Releases.IsAgainRefusal.{memory as again_memory, worn as again_worn}
 use Rattle.step_ends.specs.declared.falling.Failure.{Failure}
 use Rattle.step_ends.proofs.Refusing.{drawn_worn}
-use Rattle.step_ends.proofs.Turns.{failure_worn, worn_before, worn_behind}
+use Rattle.step_ends.proofs.Turns.{worn_before, worn_behind}
 
 -- two lists, neither of them worn
 pub unworn_both : (xs ys : List Change) → ¬ IsWorn xs → ¬ IsWorn ys → ¬ IsWorn (xs ++ ys)

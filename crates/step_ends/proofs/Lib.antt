@@ -6,3 +6,4 @@ pub mod Passing
 pub mod Refusing
 pub mod Fallen
 pub mod Called
+pub mod LostLemmas

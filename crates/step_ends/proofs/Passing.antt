@@ -1,5 +1,5 @@
 -- What is handed on.
-use Rattle.std.specs.Prelude.{IfErr, IfOk, Result}
+use Rattle.std.specs.Prelude.{IfOk, Result}
 use Rattle.std.proofs.Common.{Err, Ok}
 
 pub IfOk-both : {T E : Type 0} (r : Result T E) (P Q : T → Type 0) → IfOk r P → IfOk r Q → IfOk r (λ y. P y × Q y)

@@ -1,11 +1,9 @@
 -- Why a release, a rollback and a failure are refused.
-use Rattle.std.proofs.Common.{◌≡◌, ◌≢◌, ◌⊎◌, inl, inr, ◌≤◌, ◌<◌, ◌+◌, ◌^◌, ◌∙◌, ℕ, Bool, false, List, [], ◌∷◌, ◌++◌, None, Option, Some, Bor, refl, sym, ap, subst, length, map, arith}
+use Rattle.std.proofs.Common.{◌≡◌, inl, inr, ◌≤◌, ◌<◌, ◌+◌, ◌^◌, ℕ, Bool, false, List, [], ◌∷◌, None, Option, Some, Bor, refl, sym, subst, length, map, arith}
 use Rattle.std.specs.Prelude.{IfSome, IsTrue, option_map}
 use Rattle.std.proofs.lemmas.Bool.{both_ways}
-use Rattle.heat_plan.specs.declared.calls.Answered.{Answered}
 use Rattle.heat_plan.specs.declared.phase.Status.TheVariants.{InProgress}
 use Rattle.heat_plan.specs.declared.refusal.Refusal.{Refusal}
-use Rattle.heat_plan.specs.declared.refusal.Refusal.TheVariants as refusal
 use Rattle.row_table.specs.Rows.{row_at}
 use Rattle.row_table.specs.declared.row.Row.{Row}
 use Rattle.mail_table.specs.declared.mail.Job.{Job}
@@ -17,11 +15,11 @@ use Rattle.core_state.specs.declared.entry.Entry.{Entry}
 use Rattle.core_state.specs.declared.made.Made.{Made}
 use Rattle.core_state.specs.declared.stack.Stack.{Stack}
 use Rattle.step_relation.specs.Freshness.{IsOverrun}
-use Rattle.step_relation.specs.Given.{Answer, Nothing, same}
+use Rattle.step_relation.specs.Given.{Nothing, same}
 use Rattle.step_relation.specs.Moves.{Move}
 use Rattle.step_relation.specs.Rows.{unlocked}
 use Rattle.step_relation.specs.Takes.{Releases, released_changes, released_entries}
-use Rattle.step_relation.specs.Turns.{IsDue, IsWorn, Turn, WearsOut, key, plain, unfailed}
+use Rattle.step_relation.specs.Turns.{IsDue, IsWorn, Turn, key, plain, unfailed}
 use Rattle.step_relation.specs.Writes.{draw_letters}
 use Rattle.step_parts.specs.Rooms.{MayRise}
 use Rattle.step_parts.specs.Turns.{IsTurn, IsTurnRefusal, memory as turn_memory, worn as turn_worn}

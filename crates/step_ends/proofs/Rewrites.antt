@@ -1,5 +1,5 @@
 -- A command finds the same rows where one was rewritten.
-use Rattle.std.proofs.Common.{◌≡◌, ◌≢◌, ◌⊎◌, inl, inr, ◌≤◌, ◌<◌, ◌+◌, ◌∙◌, ℕ, zero, suc, List, [], ◌∷◌, Bool, true, false, cond, None, Option, Some, refl, sym, ap, subst, length, map, arith}
+use Rattle.std.proofs.Common.{◌≡◌, ◌≢◌, inl, inr, ◌≤◌, ◌+◌, ◌∙◌, ℕ, suc, List, [], ◌∷◌, cond, Some, refl, sym, ap, subst, length, map}
 use Rattle.std.specs.Prelude.{Contains, nat_eq}
 use Rattle.std.proofs.lemmas.Bool.Decides.{Decides-eqb, eqb_tells}
 use Rattle.heat_plan.specs.Tables.{at, put}

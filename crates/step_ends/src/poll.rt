@@ -1,19 +1,17 @@
 //! The answer to a poll: not yet, ready, gone, or it fails.
-ghost use Rattle.std.specs.Prelude.{◌≡◌, ◌∷◌, IfErr, IfOk};
-ghost use Rattle.heat_plan.specs.declared.calls.Answered.TheVariants.{Ready};
+ghost use Rattle.std.specs.Prelude.{◌≡◌, ◌∷◌, [], IfErr, IfOk};
 ghost use Rattle.mail_table.specs.declared.mail.Stage.TheVariants.{Ending, Polling};
 ghost use Rattle.step_relation.specs.Asks.{Calls};
 ghost use Rattle.step_relation.specs.Begins.{begun_changes, begun_entries};
 ghost use Rattle.step_relation.specs.Cleanups.{purged_changes, purged_entries};
 ghost use Rattle.step_relation.specs.Given.{Answer};
-ghost use Rattle.step_relation.specs.Rows.{ready_row};
 ghost use Rattle.step_parts.specs.Turns.{IsTurn, IsTurnRefusal};
 ghost use Rattle.step_ends.specs.Answers.{AnswersPoll, CallLasts, IsCall, IsCallRefusal, IsFailing, IsTold};
 
 use crate::calls::{job_of, polled_by, reason_of, row_of};
 use crate::falling::{Failure, fallen};
 use core_state::{Batch, Entry, Job, Made, Row, Stage, State};
-use heat_plan::{Answered, EngineNo, Facts, Refusal};
+use heat_plan::{Answered, EngineNo, Refusal};
 use std::alloc::{AllocError, Global};
 use step_parts::{
     begun_changes, begun_entries, call_entry, one, purged_changes, purged_entries, ready_row,
@@ -92,8 +90,12 @@ fn told(
 {
     let call = call_entry(e, row, polled_by(row), answer)?;
     match answer {
-        Answered::NotYet => Made::new(alloc, Batch::new(alloc), one(alloc, call)?),
-        Answered::Ready(facts) => readied(alloc, e, job, row, facts, call),
+        Answered::NotYet => waiting(alloc, call),
+        Answered::Ready(facts) => {
+            let first = ready_row(row, facts)?;
+            let second = ready_row(row, facts)?;
+            readied(alloc, e, job, first, second, call)
+        }
         Answered::Gone => gone(alloc, e, job, row, call),
         Answered::Begun | Answered::Quota | Answered::Failed | Answered::Broken(_) => {
             unreachable!()
@@ -101,21 +103,30 @@ fn told(
     }
 }
 
-// A ready resource's facts are stored, and its job ends next.
+// Nothing changes.
+fn waiting(alloc: Global, call: Entry) -> Result<Made, AllocError>
+    ensures changes { IfOk result (λ m. m.changes ≡ []) }
+    ensures entries { IfOk result (λ m. m.entries ≡ call ∷ []) }
+{
+    let changes = Batch::new(alloc);
+    let entries = one(alloc, call)?;
+    Made::new(alloc, changes, entries)
+}
+
+// The row is written as it is once its resource is ready, and its job ends next.
 fn readied(
     alloc: Global,
     e: EngineNo,
     job: &Job,
-    row: &Row,
-    facts: &Facts,
+    first: Row,
+    second: Row,
     call: Entry,
 ) -> Result<Made, AllocError>
-    ensures changes { IfOk result (λ m. m.changes ≡ begun_changes job.now Ending (ready_row row.now facts.now)) }
-    ensures entries { IfOk result (λ m. m.entries ≡
-        call ∷ begun_entries e job.now Ending (ready_row row.now facts.now)) }
+    ensures changes { IfOk result (λ m. m.changes ≡ begun_changes job.now Ending first) }
+    ensures entries { IfOk result (λ m. m.entries ≡ call ∷ begun_entries e job.now Ending second) }
 {
-    let changes = begun_changes(alloc, job, Stage::Ending, ready_row(row, facts)?)?;
-    let entries = begun_entries(alloc, e, job, Stage::Ending, ready_row(row, facts)?)?;
+    let changes = begun_changes(alloc, job, Stage::Ending, first)?;
+    let entries = begun_entries(alloc, e, job, Stage::Ending, second)?;
     Made::new(alloc, changes, with_first(alloc, call, entries)?)
 }
 

@@ -1,6 +1,4 @@
-use Rattle.std.proofs.Common.{◌≡◌, List, [], ◌∷◌, arith, refl, subst, sym}
-use Rattle.mail_table.specs.declared.mail.Letter.{Letter}
-use Rattle.step_relation.specs.Resends.{Resends}
+use Rattle.std.proofs.Common.{[], arith, refl, subst, sym}
 use Rattle.step_ends.specs.Releases.{AreAgain, worn}
 use Rattle.step_ends.proofs.again.letters_again.Goals as goal
 

@@ -1,4 +1,3 @@
-use Rattle.std.proofs.Common.{◌≡◌}
 use Rattle.step_relation.specs.Asks.{creates, deletes, updates}
 use Rattle.step_ends.proofs.calls.asked_for.Goals as goal
 

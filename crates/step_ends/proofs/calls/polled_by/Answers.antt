@@ -1,4 +1,3 @@
-use Rattle.std.proofs.Common.{◌≡◌}
 use Rattle.step_relation.specs.Asks.{looks, polls}
 use Rattle.step_ends.proofs.ActLemmas.{no_delete}
 use Rattle.step_ends.proofs.calls.polled_by.Goals as goal

@@ -1,4 +1,4 @@
-use Rattle.std.proofs.Common.{◌≡◌, ap}
+use Rattle.std.proofs.Common.{ap}
 use Rattle.core_state.specs.declared.entry.Why.TheVariants as why
 use Rattle.step_ends.specs.Answers.{of_code}
 use Rattle.step_ends.proofs.calls.reason_of.Goals as goal

@@ -1,4 +1,4 @@
-use Rattle.std.proofs.Common.{◌≡◌, ◌+◌, ◌^◌, None, refl}
+use Rattle.std.proofs.Common.{◌+◌, ◌^◌, None, refl}
 use Rattle.std.proofs.lemmas.Result.{IfErr-weaker, IfOk-weaker}
 use Rattle.step_relation.specs.Turns.{unfailed}
 use Rattle.step_ends.specs.Falls.{plain}

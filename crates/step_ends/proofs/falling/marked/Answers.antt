@@ -1,4 +1,4 @@
-use Rattle.std.proofs.Common.{◌≡◌, ◌+◌, ◌^◌, [], Some, inr, refl}
+use Rattle.std.proofs.Common.{◌+◌, ◌^◌, [], Some, inr, refl}
 use Rattle.step_ends.proofs.Refusing.{beyond}
 use Rattle.step_ends.proofs.Turns.{failure_worn}
 use Rattle.step_ends.proofs.falling.marked.Goals as goal

@@ -1,4 +1,3 @@
-use Rattle.std.proofs.Common.{◌≡◌, refl}
 use Rattle.std.proofs.lemmas.Result.{err_from_is_err_and}
 use Rattle.step_ends.proofs.Refusing.{again_refusal}
 use Rattle.step_ends.proofs.overruns.release.Goals as goal

@@ -1,6 +1,5 @@
-use Rattle.std.proofs.Common.{◌≡◌, ◌⊎◌, ◌∙◌, inl, inr, refl, subst, sym, List}
+use Rattle.std.proofs.Common.{◌∙◌, inl, inr, refl, subst, sym}
 use Rattle.std.proofs.lemmas.Result.{IfErr-weaker, IfOk-weaker}
-use Rattle.core_state.specs.declared.change.Change.{Change}
 use Rattle.step_relation.specs.Turns.{IsWorn}
 use Rattle.step_ends.specs.Releases.{memory, worn}
 use Rattle.step_ends.proofs.Passing.{IfOk-three}

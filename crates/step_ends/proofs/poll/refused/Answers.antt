@@ -1,6 +1,4 @@
-use Rattle.std.proofs.Common.{◌≡◌, refl, sym, subst}
 use Rattle.std.proofs.lemmas.Result.{IfErr-weaker, IfOk-weaker}
-use Rattle.step_ends.specs.Falls.{IsFallen, OrWorn}
 use Rattle.step_ends.proofs.Called.{poll_lasts, poll_worn, refuses_poll}
 use Rattle.step_ends.proofs.Passing.{IfOk-both}
 use Rattle.step_ends.proofs.Turns.{poll_turn}
