@@ -1,3 +1,4 @@
+pub mod Spans
 pub mod Sets
 pub mod Still
 pub mod Jobs
@@ -10,5 +11,11 @@ pub mod Finishing
 pub mod Ended
 pub mod Onward
 pub mod Moving
+pub mod Marked
 pub mod Rolling
 pub mod Turning
+pub mod Listed
+pub mod Existing
+pub mod Told
+pub mod Full
+pub mod Few

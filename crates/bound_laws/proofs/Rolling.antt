@@ -1,15 +1,13 @@
 -- A rollback: what stood for it pays for its letters and nodes, and for the jobs that are late then.
-use Rattle.std.proofs.Common.{◌≡◌, ◌≢◌, ◌⊎◌, inl, inr, ◌<◌, ◌≤◌, ℕ, zero, suc, ◌+◌, true, false, List, [], ◌∷◌, ◌++◌, length, map, Option, Some, None, refl, sym, ap, subst, ◌∙◌, arith}
+use Rattle.std.proofs.Common.{◌≡◌, ◌≢◌, ◌⊎◌, inl, inr, ◌<◌, ◌≤◌, ℕ, ◌+◌, true, false, List, [], ◌∷◌, ◌++◌, length, map, Option, Some, None, refl, sym, ap, subst, ◌∙◌, arith}
 use Rattle.std.specs.Prelude.{Contains, slice_get}
 use Rattle.std.proofs.lemmas.List.Elements.{Contains-append_cases}
 use Rattle.std.proofs.lemmas.List.Sorted.{length_permutation}
 use Rattle.std.proofs.lemmas.Option.{slice_get_within}
 use Rattle.heat_plan.specs.Plans.{PlanData}
 use Rattle.heat_plan.specs.declared.item.Item.{Item}
-use Rattle.heat_plan.specs.declared.phase.Status.{Status}
-use Rattle.heat_plan.specs.declared.phase.Status.TheVariants.{Complete, Failed, InProgress}
+use Rattle.heat_plan.specs.declared.phase.Status.TheVariants.{Failed, InProgress}
 use Rattle.heat_plan.specs.declared.token.Token.{Token}
-use Rattle.dep_graph.specs.Lists.{IsRising}
 use Rattle.traversal_graph.specs.Nodes.{cleanup_nodes, update_nodes}
 use Rattle.traversal_graph.specs.declared.brief.RowBrief.{RowBrief}
 use Rattle.traversal_graph.specs.declared.shape.Node.{Node}
@@ -23,7 +21,7 @@ use Rattle.mail_table.specs.declared.mail.Stage.{Stage}
 use Rattle.mail_table.specs.declared.mail.Stage.TheVariants.{Asking, Ending, Polling, Taken}
 use Rattle.core_state.specs.Changes.{applied, fresh_graph}
 use Rattle.core_state.specs.Reads.{IsReady}
-use Rattle.core_state.specs.State.{StateData, graph_at, past_at, put_graph, put_past, stack_at}
+use Rattle.core_state.specs.State.{StateData, graph_at, past_at, put_graph, put_past}
 use Rattle.core_state.specs.declared.entry.Actor.TheVariants.{Engine}
 use Rattle.core_state.specs.declared.graph.Graph.{Graph}
 use Rattle.core_state.specs.declared.past.Past.{Past}
@@ -41,86 +39,16 @@ use Rattle.next_laws.proofs.Listings.{cons_cases, in_head, in_tail, no_member}
 use Rattle.turn_laws.proofs.Decide.{Decided, member_or_not, not_or}
 use Rattle.workable_laws.proofs.Laid.{letters_length, new_rows, rows_found_in}
 use Rattle.bound_laws.specs.Bound.{IsWork, PollsFall}
-use Rattle.bound_laws.specs.Counts.{AreOnce, Counts}
+use Rattle.bound_laws.specs.Counts.{Counts}
 use Rattle.bound_laws.specs.Rolls.{MayRoll, RollItem, RollJob, RollRow}
 use Rattle.bound_laws.specs.Work.{IsLate, IsUnready}
-use Rattle.bound_laws.proofs.Forms.{RowForm, is_all, jobs_cut, own_gone}
+use Rattle.bound_laws.proofs.Forms.{is_all, jobs_cut, own_gone}
+use Rattle.bound_laws.proofs.Marked.{Marks, back_open, updates_length}
 use Rattle.bound_laws.proofs.Jobs.{JobsWere, RowsWere, left_falls}
 use Rattle.bound_laws.proofs.Own.{ends_sum, other_polls, stage_sum}
 use Rattle.bound_laws.proofs.Rows.{current_target, target_current}
-use Rattle.bound_laws.proofs.Sets.{Picked, at_most, picked, some_fewer, some_more, those, within}
-
--- what a move leaves that marks a stack as failed
-pub record Marks (s u : StateData) (e : ℕ) (j : Job) (st : Stack) : Type 0 where
-  pub its : job_at s.jobs e ≡ Some j
-  pub live : Contains s.live e
-  pub lives : u.live ≡ s.live
-  pub jobs : u.jobs ≡ cut_job e s.jobs
-  pub letters : u.letters ≡ s.letters
-  pub pasts : u.pasts ≡ s.pasts
-  pub rows : RowForm s u
-  pub next : s.next.row ≤ u.next.row
-  pub in_table : stack_at s.stacks st.name ≡ Some st
-  pub under : st.status ≡ InProgress
-
--- the numbers below a bound, each once
-upto : ℕ → List ℕ
-upto zero = []
-upto (suc n) = n ∷ upto n
-
-upto_below : (n k : ℕ) → Contains (upto n) k → k < n
-unfolding upto
-upto_below zero k c = absurd (no_member k c)
-upto_below (suc n) k c = elim (cons_cases (upto n) n k c) [ inl is ↦ omega (arith, is) | inr later ↦ let lt = upto_below n k later in omega (arith, lt) ]
-
-in_upto : (n k : ℕ) → k < n → Contains (upto n) k
-unfolding upto
-in_upto zero k lt = absurd (omega (arith, lt))
-in_upto (suc n) k lt = elim (same_or_not k n) [
-  | inl is ↦ subst (Contains (n ∷ upto n)) (sym is) (in_head (upto n) n)
-  | inr ne ↦ in_tail (upto n) n k (in_upto n k (omega (arith, lt, ne)))
-]
-
-upto_once : (n : ℕ) → AreOnce (upto n)
-unfolding upto
-upto_once zero = tt
-upto_once (suc n) = ((λ c. let lt = upto_below n n c in omega (arith, lt)), upto_once n)
-
-upto_length : (n : ℕ) → length (upto n) ≡ n
-unfolding upto
-upto_length zero = refl
-upto_length (suc n) = ap suc (upto_length n)
-
-rising_once : (ks : List ℕ) → IsRising ks → AreOnce ks
-rising_once [] up = tt
-rising_once (y ∷ ks) up = (
-  (λ c. let (j, lt, is) = c in let less = up 0 (suc j) y (omega arith) (omega (arith, lt)) in omega (arith, less, is)),
-  rising_once ks (λ p q d lt inside. up (suc p) (suc q) d (omega (arith, lt)) (omega (arith, inside))),
-)
-
-rising_rows : (rs : List Row) → IsRising (map row_key rs) → AreOnce (map row_key rs)
-rising_rows rs up = rising_once (map row_key rs) up
-
-length-map : {A B : Type 0} (f : A → B) (xs : List A) → length (map f xs) ≡ length xs
-length-map f [] = refl
-length-map f (x ∷ xs) = ap suc (length-map f xs)
-
-length-append : {A : Type 0} (xs ys : List A) → length (xs ++ ys) ≡ length xs + length ys
-length-append [] ys = omega arith
-length-append (x ∷ xs) ys = let e = length-append xs ys in omega (arith, e)
-
-updates_length : (items : List Item) (ns : List ℕ) → length (update_nodes items ns) ≤ length items
-updates_length [] ns = omega arith
-updates_length (item ∷ items) [] = omega arith
-updates_length (item ∷ items) (n ∷ ns) = let le = updates_length items ns in omega (arith, le)
-
--- what a stack without a mark would go back to
-back_open : (st : Stack) (p : Past) → st.status ≡ InProgress → back_after st p ≡ p.back
-back_open st p under = by st.status under where
-  by : (x : Status) → x ≡ InProgress → back_after (record st { status = x }) p ≡ p.back
-  by InProgress is = refl
-  by Complete is = cc
-  by Failed is = cc
+use Rattle.bound_laws.proofs.Sets.{Picked, at_most, both_once, picked, some_fewer, some_more, those, within}
+use Rattle.bound_laws.proofs.Spans.{beside, beside_length, beside_once, beside_was, in_beside, in_upto, length-append, length-map, rising_once, upto, upto_below, upto_length, upto_once}
 
 module _ (before after : Token → ℕ) (s u : StateData) (e : ℕ) (given : Given) (falls : PollsFall before after s e given) (hs : Standing s) (j : Job) (st : Stack)
     (mk : Marks s u e j st) (on : (past_of u st.name).rollback ≡ true) (lays : Lays u st.name (plan_back u (record st { status = Failed })).items)
@@ -197,14 +125,14 @@ module _ (before after : Token → ℕ) (s u : StateData) (e : ℕ) (given : Giv
   never : (x : Stack) → ¬ MayRoll t own x
   never x k = let off_ = off in let on_ = k.rollback in cc
 
-  beside : (name : List ℕ) (x : Stack) → MayRoll t name x → name ≢ own
-  beside name x k is = never x (subst (λ (y : List ℕ). MayRoll t y x) is k)
+  not_own : (name : List ℕ) (x : Stack) → MayRoll t name x → name ≢ own
+  not_own name x k is = never x (subst (λ (y : List ℕ). MayRoll t y x) is k)
 
   past_same : (name : List ℕ) → name ≢ own → past_of t name ≡ past_of s name
   past_same name ne = ap (past_or name) (elsewhere.pasts name ne)
 
   may : (name : List ℕ) (x : Stack) → MayRoll t name x → MayRoll s name x
-  may name x k = let ne = beside name x k in record {
+  may name x k = let ne = not_own name x k in record {
     in_table = sym (elsewhere.stacks name ne) ∙ k.in_table;
     unmarked = k.unmarked;
     rollback = ap (λ (p : Past). p.rollback) (sym (past_same name ne)) ∙ k.rollback;
@@ -260,27 +188,6 @@ module _ (before after : Token → ℕ) (s u : StateData) (e : ℕ) (given : Giv
         | inr other ↦ (inner.only z other).0
       ]) in
       let l = length-append lays.leaves inner.list in let k = upto_length size in omega (arith, le, l, k)
-    where
-      both_once : (ys zs : List ℕ) → AreOnce ys → AreOnce zs → ((z : ℕ) → Contains ys z → Contains zs z → ⊥) → AreOnce (ys ++ zs)
-      both_once [] zs p q apart = q
-      both_once (y ∷ ys) zs p q apart = (
-        (λ c. elim (Contains-append_cases ys zs y c) [ inl l ↦ p.0 l | inr r ↦ apart y (in_head ys y) r ]),
-        both_once ys zs p.1 q (λ z l r. apart z (in_tail ys y z l) r),
-      )
-
-  abbrev places : List ℕ → List (List ℕ × ℕ)
-  places ks = map (λ (x : ℕ). (own, x)) ks
-
-  places_length : (ks : List ℕ) → length (places ks) ≡ length ks
-  places_length [] = refl
-  places_length (y ∷ ks) = ap suc (places_length ks)
-
-  in_places : (ks : List ℕ) (i : ℕ) → Contains ks i → Contains (places ks) (own, i)
-  in_places [] i c = absurd (no_member i c)
-  in_places (y ∷ ks) i c = elim (cons_cases ks y i c) [
-    | inl is ↦ subst (λ (z : ℕ). Contains ((own, y) ∷ places ks) (own, z)) (sym is) (in_head (places ks) (own, y))
-    | inr later ↦ in_tail (places ks) (own, y) (own, i) (in_places ks i later)
-  ]
 
   graph_mine : (g : Graph) → graph_at t.graphs own ≡ Some g → g ≡ fresh_graph own lays.graph
   graph_mine g at = same_some g (fresh_graph own lays.graph) (subst (λ (l : List Graph). graph_at l own ≡ Some g) graphs at) (graph_here (fresh_graph own lays.graph) u.graphs)
@@ -302,11 +209,11 @@ module _ (before after : Token → ℕ) (s u : StateData) (e : ℕ) (given : Giv
 
   nodes_sum : b.nodes ≤ a.nodes + length inner.list
   nodes_sum =
-      let le = some_more b.nodes_are a.nodes_are (places inner.list) (λ x k. elim (text_or_not x.0 own) [
+      let le = some_more b.nodes_are a.nodes_are (beside own inner.list) (λ x k. elim (text_or_not x.0 own) [
         | inr ne ↦ inl (node_was x ne k)
-        | inl is ↦ inr (subst (Contains (places inner.list)) (sym (paired x is)) (in_places inner.list x.1 (inner_is x is k)))
+        | inl is ↦ inr (subst (Contains (beside own inner.list)) (sym (paired x is)) (in_beside own inner.list x.1 (inner_is x is k)))
       ]) in
-      let l = places_length inner.list in omega (arith, le, l)
+      let l = beside_length own inner.list in omega (arith, le, l)
     where
       inner_is : (x : List ℕ × ℕ) → x.0 ≡ own → IsUnready t x → Contains inner.list x.1
       inner_is x is k =
@@ -331,43 +238,29 @@ module _ (before after : Token → ℕ) (s u : StateData) (e : ℕ) (given : Giv
 
   items_sum : b.rolls_are.items + length items ≤ a.rolls_are.items
   items_sum =
-      let le = some_fewer b.rolls_are.items_are a.rolls_are.items_are (places (upto (length items))) (once_places (upto (length items)) (upto_once (length items)))
+      let le = some_fewer b.rolls_are.items_are a.rolls_are.items_are (beside own (upto (length items))) (beside_once own (upto (length items)) (upto_once (length items)))
       (λ x k. record { stack = k.stack; may = may x.0 k.stack k.may; within = subst (λ (p : PlanData). x.1 < length p.items) (back_same x.0 k.stack k.may) k.within })
-      (λ x c. let (i, at, is) = place_was (upto (length items)) x c in (
+      (λ x c. let (mine, at) = beside_was own (upto (length items)) x c in let is = paired x mine in (
         subst (RollItem s) (sym is) (record {
           stack = st;
           may = may_own;
-          within = (let lt = upto_below (length items) i at in
-              subst (λ (l : List Item). i < length l) items_same lt);
+          within = (let lt = upto_below (length items) x.1 at in
+              subst (λ (l : List Item). x.1 < length l) items_same lt);
         }),
         λ k. never k.stack (subst (λ (y : List ℕ × ℕ). MayRoll t y.0 k.stack) is k.may),
       )) in
-      let l = places_length (upto (length items)) in let k = upto_length (length items) in omega (arith, le, l, k)
+      let l = beside_length own (upto (length items)) in let k = upto_length (length items) in omega (arith, le, l, k)
     where
       back_same : (name : List ℕ) (x : Stack) → MayRoll t name x → plan_back t x ≡ plan_back s x
       back_same name x k = let key = stack-key t.stacks name x k.in_table in
-          ap (λ (p : Past). plan_of (back_after x p)) (past_same x.name (λ is. beside name x k (sym key ∙ is)))
-
-      place_was : (ks : List ℕ) (x : List ℕ × ℕ) → Contains (places ks) x → (y : ℕ) × Contains ks y × (x ≡ (own, y))
-      place_was [] x c = absurd (no_member x c)
-      place_was (y ∷ ks) x c = elim (cons_cases (places ks) (own, y) x c) [
-        | inl is ↦ (y, in_head ks y, is)
-        | inr later ↦ let (z, at, is) = place_was ks x later in (z, in_tail ks y z at, is)
-      ]
-
-      once_places : (ks : List ℕ) → AreOnce ks → AreOnce (places ks)
-      once_places [] o = tt
-      once_places (y ∷ ks) o = (
-        (λ c. let (z, at, is) = place_was ks (own, y) c in let e : y ≡ z = ap (λ (p : List ℕ × ℕ). p.1) is in o.0 (subst (Contains ks) (sym e) at)),
-        once_places ks o.1,
-      )
+          ap (λ (p : Past). plan_of (back_after x p)) (past_same x.name (λ is. not_own name x k (sym key ∙ is)))
 
   rows_sum : b.rolls_are.rows + length lays.standing ≤ a.rolls_are.rows
   rows_sum =
-      let le = some_fewer b.rolls_are.rows_are a.rolls_are.rows_are (map row_key lays.standing) (rising_rows lays.standing lays.standing_are.rising)
+      let le = some_fewer b.rolls_are.rows_are a.rolls_are.rows_are (map row_key lays.standing) (rising_once (map row_key lays.standing) lays.standing_are.rising)
       (λ i k. record {
         row = k.row;
-        found = elsewhere.rows i k.row (beside k.row.stack k.stack k.may) k.found;
+        found = elsewhere.rows i k.row (not_own k.row.stack k.stack k.may) k.found;
         stack = k.stack;
         may = may k.row.stack k.stack k.may;
       })
@@ -388,7 +281,7 @@ module _ (before after : Token → ℕ) (s u : StateData) (e : ℕ) (given : Giv
 
       not_there : (i : ℕ) (r o : Row) → i ≡ r.no → row_at s.rows r.no ≡ Some o → o.stack ≡ own → RollRow t i → ⊥
       not_there i r o is there stacks k =
-          let ne = beside k.row.stack k.stack k.may in
+          let ne = not_own k.row.stack k.stack k.may in
           let was = elsewhere.rows i k.row ne k.found in
           let same : k.row ≡ o = same_some k.row o was (subst (λ (y : ℕ). row_at s.rows y ≡ Some o) (sym is) there) in
           ne (ap (λ (x : Row). x.stack) same ∙ stacks)
@@ -414,14 +307,14 @@ module _ (before after : Token → ℕ) (s u : StateData) (e : ℕ) (given : Giv
       let x = some_fewer b.rolls_are.jobs_are a.rolls_are.jobs_are mine.all mine.once
       (λ f k. record {
         job = k.job;
-        its = elsewhere.jobs f k.job (beside k.job.letter.stack k.stack k.may) k.its;
+        its = elsewhere.jobs f k.job (not_own k.job.letter.stack k.stack k.may) k.its;
         stack = k.stack;
         may = may k.job.letter.stack k.stack k.may;
       })
       (λ f among. let (rolls, own_) = (mine.each f).0 among in (
         rolls,
         λ k.
-            let ne = beside k.job.letter.stack k.stack k.may in
+            let ne = not_own k.job.letter.stack k.stack k.may in
             let same = same_some k.job own_.0 (elsewhere.jobs f k.job ne k.its) own_.1 in
             ne (ap (λ (y : Job). y.letter.stack) same ∙ own_.2),
       )) in
@@ -443,7 +336,7 @@ module _ (before after : Token → ℕ) (s u : StateData) (e : ℕ) (given : Giv
   roll_letters_fall : b.rolls_are.letters ≤ a.rolls_are.letters
   roll_letters_fall = at_most b.rolls_are.letters_are a.rolls_are.letters_are (λ i k. record {
     letter = k.letter;
-    at = elsewhere.letters i k.letter (beside k.letter.stack k.stack k.may) k.at;
+    at = elsewhere.letters i k.letter (not_own k.letter.stack k.stack k.may) k.at;
     stack = k.stack;
     may = may k.letter.stack k.stack k.may;
     newest = k.newest;
@@ -453,12 +346,12 @@ module _ (before after : Token → ℕ) (s u : StateData) (e : ℕ) (given : Giv
   roll_nodes_fall = at_most b.rolls_are.nodes_are a.rolls_are.nodes_are (λ x k. record {
     stack = k.stack;
     may = may x.0 k.stack k.may;
-    node = node_was x (beside x.0 k.stack k.may) k.node;
+    node = node_was x (not_own x.0 k.stack k.may) k.node;
   })
 
   far_falls : b.rolls_are.far ≤ a.rolls_are.far
   far_falls = at_most b.rolls_are.far_are a.rolls_are.far_are (λ x f.
-      let ne = beside x.0 f.stack f.may in
+      let ne = not_own x.0 f.stack f.may in
       let current = target_current t ht x f.stack f.graph f.name f.chosen f.row f.may.in_table f.its_graph f.its_node f.to f.found in
       let found = elsewhere.rows f.row.no f.row (λ is. ne (sym current.stack_is ∙ is)) f.found in
       let its_graph = sym (elsewhere.graphs x.0 ne) ∙ f.its_graph in

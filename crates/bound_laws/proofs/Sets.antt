@@ -5,10 +5,7 @@ use Rattle.std.proofs.lemmas.List.Elements.{Contains-append_cases, Contains-appe
 use Rattle.next_laws.proofs.Listings.{cons_cases, in_head, in_tail, no_member}
 use Rattle.turn_laws.proofs.Decide.{Decided}
 use Rattle.bound_laws.specs.Counts.{AreOnce, Counts}
-
-length-append : {A : Type 0} (xs ys : List A) → length (xs ++ ys) ≡ length xs + length ys
-length-append [] ys = omega arith
-length-append (x ∷ xs) ys = let e = length-append xs ys in omega (arith, e)
+use Rattle.bound_laws.proofs.Spans.{length-append}
 
 -- the list without one of its members
 record Without {A : Type 0} (ys : List A) (x : A) : Type 0 where
@@ -41,6 +38,14 @@ within (x ∷ xs) ys once all =
     let le = within xs w.rest once.1 (λ z c. w.keeps z (all z (in_tail xs x z c)) (λ is. once.0 (subst (Contains xs) is c))) in
     let e = w.shorter in omega (arith, le, e)
 
+-- two lists that have nothing in common
+pub both_once : {A : Type 0} (ys zs : List A) → AreOnce ys → AreOnce zs → ((z : A) → Contains ys z → Contains zs z → ⊥) → AreOnce (ys ++ zs)
+both_once [] zs a b apart = b
+both_once (y ∷ ys) zs a b apart = (
+  (λ c. elim (Contains-append_cases ys zs y c) [ inl l ↦ a.0 l | inr r ↦ apart y (in_head ys y) r ]),
+  both_once ys zs a.1 b (λ z l r. apart z (in_tail ys y z l) r),
+)
+
 module _ {A : Type 0} {P Q : A → Type 0} {n m : ℕ} (p : Counts P n) (q : Counts Q m) where
   pub at_most : ((x : A) → P x → Q x) → n ≤ m
   at_most all = let le = within p.all q.all p.once (λ x c. (q.each x).1 (all x ((p.each x).0 c))) in
@@ -72,13 +77,21 @@ module _ {A : Type 0} {P Q : A → Type 0} {n m : ℕ} (p : Counts P n) (q : Cou
         | inl old ↦ (q.each z).1 (all z ((p.each z).0 old))
         | inr new ↦ (q.each z).1 (none z new).0
       ]) in let a = p.count in let b = q.count in let l = length-append p.all xs in omega (arith, le, a, b, l)
-    where
-      both_once : (ys zs : List A) → AreOnce ys → AreOnce zs → ((z : A) → Contains ys z → Contains zs z → ⊥) → AreOnce (ys ++ zs)
-      both_once [] zs a b apart = b
-      both_once (y ∷ ys) zs a b apart = (
-        (λ c. elim (Contains-append_cases ys zs y c) [ inl l ↦ a.0 l | inr r ↦ apart y (in_head ys y) r ]),
-        both_once ys zs a.1 b (λ z l r. apart z (in_tail ys y z l) r),
-      )
+
+-- two kinds that have nothing in common
+pub joined : {A : Type 0} {P Q : A → Type 0} {n m : ℕ} → Counts P n → Counts Q m → ((x : A) → P x → Q x → ⊥) → Counts (λ x. P x ⊎ Q x) (n + m)
+joined {A = A} {P = P} {Q = Q} p q apart = record {
+  all = p.all ++ q.all;
+  once = both_once p.all q.all p.once q.once (λ x l r. apart x ((p.each x).0 l) ((q.each x).0 r));
+  each = λ x. (of x, has x);
+  count = (let l = length-append p.all q.all in let a = p.count in let b = q.count in omega (arith, l, a, b));
+} where
+  of : (x : A) → Contains (p.all ++ q.all) x → P x ⊎ Q x
+  of x c = elim (Contains-append_cases p.all q.all x c) [ inl l ↦ inl ((p.each x).0 l) | inr r ↦ inr ((q.each x).0 r) ]
+
+  has : (x : A) → P x ⊎ Q x → Contains (p.all ++ q.all) x
+  has x (inl k) = Contains-append_left p.all q.all x ((p.each x).1 k)
+  has x (inr k) = Contains-append_right p.all q.all x ((q.each x).1 k)
 
 -- those of a kind that are of another too
 pub record Picked {A : Type 0} (R : A → Type 0) (xs : List A) : Type 0 where

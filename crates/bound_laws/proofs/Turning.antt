@@ -36,7 +36,8 @@ use Rattle.bound_laws.specs.Bound.{IsWork, PollsFall, TurnsLowerWork}
 use Rattle.bound_laws.proofs.Ended.{form_unlocked}
 use Rattle.bound_laws.proofs.Forms.{form_put}
 use Rattle.bound_laws.proofs.Moving.{move_lowers}
-use Rattle.bound_laws.proofs.Rolling.{Marks, rolls}
+use Rattle.bound_laws.proofs.Marked.{Marks}
+use Rattle.bound_laws.proofs.Rolling.{rolls}
 
 applied-append : (xs ys : List Change) (s : StateData) → applied (xs ++ ys) s ≡ applied ys (applied xs s)
 applied-append [] ys s = refl
