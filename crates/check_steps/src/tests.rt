@@ -5,7 +5,8 @@ use crate::found::Found;
 use crate::going_on::{go_on, keep, start, update};
 use crate::leaving::leave;
 use crate::replacing::replace;
-use core_state::{Job, Letter, Made, Point, Row, Stack, Stage, State};
+use crate::taking::{drop_letter, hold, steal};
+use core_state::{Graph, Job, Letter, Made, Point, Row, Stack, Stage, State};
 use heat_plan::{
     Act, EngineNo, Item, Kind, LetterNo, Needs, Parameters, Plan, Policy, Properties, Refusal,
     ResName, RowNo, StackName, StackNo, Status, TravNo, WORN,
@@ -13,6 +14,8 @@ use heat_plan::{
 use heat_value::{Path, Seq, Text};
 use std::alloc::Global;
 use std::test::Fail;
+use step_reads::Meant;
+use traversal_graph::{Node, TravGraph};
 
 /// How many changes and entries were made, or why none was.
 fn told(made: Result<Made, Refusal>) -> Result<(usize, usize), Refusal> {
@@ -142,8 +145,8 @@ fn point(rt: &impl AllocGlobal) -> Result<Point, Fail> {
 /// How many changes and entries each begin makes, or why it makes none.
 type Begins = [Result<(usize, usize), Refusal>; 7];
 
-/// What each begin makes of a row with this key: created, kept, updated, gone on with, left, replaced,
-/// and failed by a fault.
+/// What each begin makes of a row with this key: created, kept, updated, gone on with, left,
+/// replaced, and failed by a fault.
 fn begins(rt: &impl AllocGlobal, key: u64) -> Result<Begins, Fail> {
     let job = job(rt)?;
     begins_of(rt, key, &job)
@@ -227,5 +230,72 @@ fn a_key_that_can_rise_no_more_is_worn_where_it_would(rt: HostRuntime) -> Result
     let worn = Err(Refusal::Worn);
     let seen = begins(&rt, WORN - 1)?;
     assert_eq!(rt; seen, [two, two, two, Ok((1, 1)), worn, worn, worn]);
+    Ok(())
+}
+
+/// How many changes and entries each taking makes.
+type Takings = [Result<(usize, usize), Refusal>; 3];
+
+/// What each taking makes: dropped, held, and taken from the engine 2.
+fn takings(rt: &impl AllocGlobal) -> Result<Takings, Fail> {
+    let job = job(rt)?;
+    takings_of(rt, &job)
+}
+
+fn takings_of(rt: &impl AllocGlobal, job: &Job) -> Result<Takings, Fail> {
+    let row = row(rt, 1)?;
+    takings_at(rt, job, &row)
+}
+
+fn takings_at(rt: &impl AllocGlobal, job: &Job, row: &Row) -> Result<Takings, Fail> {
+    let stack = stack(rt)?;
+    takings_in(rt, job, row, &stack)
+}
+
+fn takings_in(rt: &impl AllocGlobal, job: &Job, row: &Row, stack: &Stack) -> Result<Takings, Fail> {
+    let lost = engine(2)?;
+    let graph = no_graph(rt)?;
+    Ok(all_takings(rt.alloc(), job, row, stack, &graph, lost))
+}
+
+/// A graph of no node.
+fn no_graph(rt: &impl AllocGlobal) -> Result<Graph, Fail> {
+    Ok(Graph {
+        stack: stack_name(rt)?,
+        graph: TravGraph {
+            nodes: Seq::new(rt.alloc()),
+            edges: Seq::new(rt.alloc()),
+        },
+        points: Seq::new(rt.alloc()),
+    })
+}
+
+fn all_takings(
+    alloc: Global,
+    job: &Job,
+    row: &Row,
+    stack: &Stack,
+    graph: &Graph,
+    lost: EngineNo,
+) -> Takings {
+    let node = Node::C(row.no);
+    let meant = Meant {
+        target: row.no,
+        stack,
+        graph,
+        node: &node,
+        row: Some(row),
+    };
+    [
+        told(drop_letter(alloc, job.engine, &job.letter)),
+        told(hold(alloc, job.engine, &job.letter, &meant)),
+        told(steal(alloc, job.engine, &job.letter, &meant, lost)),
+    ]
+}
+
+#[test]
+fn each_taking_is_made(rt: HostRuntime) -> Result<(), Fail> {
+    let seen = takings(&rt)?;
+    assert_eq!(rt; seen, [Ok((1, 1)), Ok((3, 2)), Ok((4, 2))]);
     Ok(())
 }
