@@ -13,3 +13,4 @@ pub mod Engined
 pub mod Doing
 pub mod Beginnings
 pub mod LostAlone
+pub mod OneItem

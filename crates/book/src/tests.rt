@@ -204,8 +204,8 @@ const CASES: &[(&str, &[u8], u32, &[u8], usize, &[u8])] = &[
         b"cu",
         1,
         b"000",
-        8,
-        b"crmrmrm?m?rmrm+cmrmrmrmm+",
+        11,
+        b"crmrmrm?m?rmrm+cmrmrmrmrmmrm+",
     ),
     (
         "delete, gone",
@@ -277,13 +277,13 @@ fn a_note_stands_in_the_history(rt: HostRuntime) -> Result<(), Fail> {
     Ok(())
 }
 
-/// Whether the first of two engines is stopped and then lost, and a third is enlisted.
+/// Whether the first of two engines is stopped, but not once more, and a third is enlisted.
 fn engines(book: Book<ScriptedCloud>) -> bool {
     let mut book = book;
     let two = book.live().len() == 2;
     let e = book.live().first().copied();
-    let lost = match e {
-        Some(e) => book.stop(e).is_ok() && book.turn(e) == Turn::Lost,
+    let stopped = match e {
+        Some(e) => book.stop(e).is_ok() && book.stop(e).is_err(),
         None => false,
     };
     let enlisted = match book.enlist() {
@@ -293,7 +293,7 @@ fn engines(book: Book<ScriptedCloud>) -> bool {
     let idle = turn_first(&mut book) == Some(Turn::Idle);
     let told = book.entries().len() == 2;
     let _ = book.give_back();
-    two && lost && enlisted && idle && told
+    two && stopped && enlisted && idle && told
 }
 
 #[test]
