@@ -36,9 +36,8 @@ turn_to old new result one (turned.quiet given cs es is quiet step lasts tied ma
 turn_to old new result one (turned.called k given cs es rest is step lasts first makes told) =
     to.stepped cs es (record { given = Answer given; made = step; lasts = lasts; tied = answer given })
     (record { state = makes.state; entries = makes.entries }) is
-turn_to old new result one (turned.unstored k given lost es rest is step some lasts first makes told) =
-    to.memory _ (to.unstored given lost es _ step some
-    (record { rest = rest; entries = first; is_call = (token_of k.calls.row, k.asked, given, refl) }) makes.state refl) makes.entries is
+turn_to old new result one (turned.unstored k given is unknown step makes told) =
+    to.memory _ (to.unstored (token_of k.calls.row) k.asked given unknown step makes.state refl) makes.entries is
 turn_to old new result one (turned.unmade is un) =
     to.memory [] (to.unmade un.state refl) (un.entries ∙ sym (append-none old.entries)) is
 turn_to old new result one (turned.idle is rests un) = to.idle (book_rests old.state one rests) (same_page old new un) is
@@ -49,7 +48,7 @@ turn_to old new result one (turned.worn is by un) = to.worn by (same_page old ne
 pub found : (old new : Scene) (result : turn_type) → old.state.live ≡ 1 ∷ [] → Turned 1 old new result → result ≡ turn.Lost → ⊥
 found old new result one (turned.quiet given cs es is quiet step lasts tied makes same) lost = cc
 found old new result one (turned.called k given cs es rest is step lasts first makes told) lost = cc
-found old new result one (turned.unstored k given some es rest is step other lasts first makes told) lost = cc
+found old new result one (turned.unstored k given is unknown step makes told) lost = cc
 found old new result one (turned.unmade is un) lost = cc
 found old new result one (turned.idle is rests un) lost = cc
 found old new result one (turned.lost is gone un) lost = never_lost old.state one gone

@@ -1,16 +1,21 @@
 -- Turns of the live engine, and the work that is left.
-use Rattle.std.specs.Prelude.{◌≡◌, ◌≢◌, ◌≤◌, ◌+◌, ◌*◌, ℕ, List, [], ◌∷◌, ◌++◌, length}
+use Rattle.std.specs.Prelude.{◌≡◌, ◌≤◌, ◌+◌, ◌*◌, ℕ, List, [], ◌∷◌, ◌++◌, length}
 use Rattle.heat_plan.specs.declared.calls.Answered.{Answered}
+use Rattle.heat_plan.specs.declared.calls.Request.{Request}
+use Rattle.heat_plan.specs.declared.token.Token.{Token}
 use Rattle.core_state.specs.declared.change.Change.{Change}
+use Rattle.core_state.specs.declared.entry.Actor.TheVariants.{Engine}
 use Rattle.core_state.specs.declared.entry.Entry.{Entry}
+use Rattle.core_state.specs.declared.entry.What.TheVariants as what
 use Rattle.mail_table.specs.declared.mail.Job.{Job}
 use Rattle.mail_table.specs.declared.mail.Stage.{Stage}
 use Rattle.mail_table.specs.declared.mail.Stage.TheVariants.{Taken, Asking, Polling, Ending}
 use Rattle.core_state.specs.Changes.{applied}
 use Rattle.core_state.specs.State.{StateData}
-use Rattle.step_relation.specs.Given.{Answer, Given}
+use Rattle.step_relation.specs.Given.{Given}
 use Rattle.step_relation.specs.Runs.{IsTied}
-use Rattle.step_relation.specs.Steps.{BeginsWithCall}
+use Rattle.step_relation.specs.Steps.{Step}
+use Rattle.step_ends.specs.Lost.{IsOfUnknownSize}
 use Rattle.step_relation.specs.Turns.{Turn, WearsOut}
 use Rattle.book.specs.declared.turning.Turn.{Turn as turn_type}
 use Rattle.book.specs.declared.turning.Turn.TheVariants as turn
@@ -50,11 +55,15 @@ pub data Turns (first : StateData) : StateData → List Entry → ℕ → Type 0
       → Turns first mid before made → TurnOf mid cs after → last ≡ applied cs mid → all ≡ before ++ after
       → count ≡ made + 1 → Turns first last all count
 
+-- the engine 1 made this call, and was given this answer
+abbrev pub called : Token → Request → Answered → Entry
+called token request given = record { by = Engine 1; what = what.Call token request given }
+
 -- a turn that found no memory: nothing was done, or the call alone was told whose answer couldn't be stored
 pub data Lacks (old new : StateData) (es : List Entry) : Type 0 where
   unmade : new ≡ old → es ≡ [] → Lacks old new es
-  unstored : (given : Answered) (lost : List Change) (all : List Entry) (call : Entry) → Turn old 1 (Answer given) lost all → lost ≢ []
-      → BeginsWithCall all call → new ≡ old → es ≡ call ∷ [] → Lacks old new es
+  unstored : (token : Token) (request : Request) (given : Answered) → IsOfUnknownSize given
+      → Step old [] (called token request given ∷ []) → new ≡ old → es ≡ called token request given ∷ [] → Lacks old new es
 
 -- what one turn comes to
 pub data TurnTo (old new : Page) (result : turn_type) : Type 0 where
