@@ -7,3 +7,4 @@ pub mod PlanLemmas
 pub mod BodyLemmas
 pub mod LineLemmas
 pub mod MeaningLemmas
+pub mod Alone
