@@ -8,3 +8,6 @@ pub mod BodyLemmas
 pub mod LineLemmas
 pub mod MeaningLemmas
 pub mod Alone
+pub mod BodyParts
+pub mod OneBody
+pub mod OneReading

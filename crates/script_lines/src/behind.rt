@@ -13,7 +13,9 @@ pub const MOST_TURNS: u64 = 1_000_000;
 pub fn lone_word(rest: &[u8]) -> Option<&[u8]>
     ensures { MatchOption result ((w : List ℕ) → ¬ IsLone rest.now w) (λ w. IsLone rest.now w.now) }
 {
-    let (word, last) = first_word(rest)?;
+    let Some((word, last)) = first_word(rest) else {
+        return None;
+    };
     if !is_blank(last) {
         return None;
     }
@@ -36,8 +38,12 @@ pub fn word_and_text(rest: &[u8]) -> Option<(&[u8], &[u8])>
     ensures { MatchOption result ((w t : List ℕ) → ¬ IsWordAndText rest.now w t)
         (λ p. IsWordAndText rest.now p.0.now p.1.now) }
 {
-    let (word, more) = first_word(rest)?;
-    let text = text_behind(more)?;
+    let Some((word, more)) = first_word(rest) else {
+        return None;
+    };
+    let Some(text) = text_behind(more) else {
+        return None;
+    };
     Some((word, text))
 }
 

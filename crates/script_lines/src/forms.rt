@@ -1,5 +1,6 @@
 //! The forms of lines, each by its first word.
 ghost use Rattle.std.specs.Prelude.{◌≡◌, ◌≢◌, IfOk, IfErr, Ok, Err};
+ghost use Rattle.heat_plan.specs.Names.{IsStackName};
 ghost use Rattle.script_lines.specs.Readings.{body_line, stack_line, engine_line, lone_line as the_lone_line, ReadsBody, ReadsStack, ReadsEngine, ReadsAlone, ReadsTypes, ReadsRun, ReadsBehind, ReadsWords};
 
 use crate::behind::{count, engine_no, lone_word, text_behind, word_and_text};
@@ -45,11 +46,9 @@ fn body_read(alloc: Global, verb: BodyVerb, rest: &[u8]) -> Result<Line, Misread
     let Some((stack, text)) = word_and_text(rest) else {
         return Err(Misread::L03);
     };
-    let Some(stack) = StackName::read(alloc, stack)? else {
-        return Err(Misread::L04);
-    };
+    let name = stack_of(alloc, stack)?;
     match body_of(alloc, text) {
-        Ok(body) => Ok(with_body(verb, stack, body)),
+        Ok(body) => Ok(with_body(verb, name, body)),
         Err(why) => Err(why),
     }
 }
@@ -64,6 +63,18 @@ fn with_body(verb: BodyVerb, stack: StackName, body: Body) -> Line
     }
 }
 
+// The name of a stack.
+fn stack_of(alloc: Global, word: &[u8]) -> Result<StackName, Misread>
+    ensures ok { IfOk result (λ n. (n ≡ word.now) × IsStackName word.now) }
+    ensures fault { IfErr result (λ e. e ≢ Misread.Memory
+        → (¬ IsStackName word.now) × (e ≡ Misread.L04)) }
+{
+    match StackName::read(alloc, word)? {
+        Some(name) => Ok(name),
+        None => Err(Misread::L04),
+    }
+}
+
 // A stack's name alone.
 fn stack_read(alloc: Global, verb: StackVerb, rest: &[u8]) -> Result<Line, Misread>
     ensures ok { IfOk result (λ l. ReadsStack verb rest.now (Ok l)) }
@@ -72,10 +83,8 @@ fn stack_read(alloc: Global, verb: StackVerb, rest: &[u8]) -> Result<Line, Misre
     let Some(stack) = lone_word(rest) else {
         return Err(Misread::L03);
     };
-    match StackName::read(alloc, stack)? {
-        Some(stack) => Ok(with_stack(verb, stack)),
-        None => Err(Misread::L04),
-    }
+    let name = stack_of(alloc, stack)?;
+    Ok(with_stack(verb, name))
 }
 
 // What is asked of a stack.
