@@ -1,5 +1,5 @@
 -- What stands behind a word is one word, or one text, at most.
-use Rattle.std.proofs.Common.{◌≡◌, ◌∙◌, ◌<◌, ℕ, List, length, sym, subst}
+use Rattle.std.proofs.Common.{◌≡◌, ◌<◌, ℕ, List, length, sym, subst}
 use Rattle.script_lines.specs.Words.{AreSpaces, BeginsWith, StandsBehindSpaces}
 use Rattle.script_lines.specs.Behind.{IsLone, IsText, IsWordAndText}
 use Rattle.script_lines.proofs.WordLemmas.{no_word, word_unique, text_unique}

@@ -1,12 +1,11 @@
 -- A line is read as one thing.
-use Rattle.std.proofs.Common.{◌≡◌, ◌∙◌, ◌<◌, ◌^◌, ℕ, List, Result, Ok, Err, Some, refl, sym, ap, subst, decimal, arith}
+use Rattle.std.proofs.Common.{◌≡◌, ◌∙◌, ℕ, List, Result, Ok, Err, Some, sym, ap, subst, decimal, arith}
 use Rattle.std.proofs.lemmas.Fmt.{decimal_injective}
 use Rattle.heat_value.specs.Meaning.{data_of}
 use Rattle.heat_value.specs.Reading.{IsReadAs}
 use Rattle.heat_value.specs.declared.value.Value.{Value}
 use Rattle.heat_plan.specs.Names.{IsStackName}
 use Rattle.heat_plan.specs.Numbers.{IsNumber}
-use Rattle.script_lines.specs.Words.{AreSpaces}
 use Rattle.script_lines.specs.Behind.{IsLone, IsCount}
 use Rattle.script_lines.specs.Requested.{BodyData, IsNoValue, IsBodyText, IsNoBody}
 use Rattle.script_lines.specs.Heads.{head_of}

@@ -1,5 +1,5 @@
 -- The keys of a body, the sorts of their values, and the first that is wrong.
-use Rattle.std.specs.Prelude.{◌≡◌, ◌⊎◌, ℕ, List, Bool, Option, Some, None, codes, bytes_eq, if◌then◌else◌, ⊤}
+use Rattle.std.specs.Prelude.{◌≡◌, ◌⊎◌, ℕ, List, Option, Some, None, codes, bytes_eq, if◌then◌else◌, ⊤}
 use Rattle.heat_value.specs.Data.{Data, null, flag, whole, words, items, fields, Members, no_members, member}
 use Rattle.script_lines.specs.declared.sort.Sort.{Sort}
 use Rattle.script_lines.specs.declared.sort.Sort.TheVariants.{Any, Object, Texts, Flag}

@@ -1,5 +1,5 @@
 -- What a body asks for, and what is wrong with one.
-use Rattle.std.specs.Prelude.{◌≡◌, ◌≢◌, ℕ, List, [], ◌∷◌, Bool, true, false, Option, Some, None, codes, not}
+use Rattle.std.specs.Prelude.{◌≡◌, ◌≢◌, ℕ, List, [], ◌∷◌, Bool, false, Option, Some, None, codes, not}
 use Rattle.heat_value.specs.Data.{Data, null, flag, whole, words, items, fields, Members, no_members, lookup}
 use Rattle.heat_value.specs.Reading.{IsReadAs, HasNoReading, IsTooDeep, HasBadNumber}
 use Rattle.heat_value.specs.declared.path.Step.{Step}

@@ -1,4 +1,3 @@
-use Rattle.std.proofs.Common.{sym}
 use Rattle.script_lines.proofs.Alone.{lone_begins, lone_ends}
 use Rattle.script_lines.proofs.behind.lone_word.Goals as goal
 
