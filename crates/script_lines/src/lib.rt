@@ -12,6 +12,8 @@ mod fault;
 mod forms;
 mod head;
 mod line;
+#[cfg(test)]
+mod line_tests;
 mod misread;
 mod request;
 mod resources;
