@@ -11,3 +11,4 @@ pub mod Alone
 pub mod BodyParts
 pub mod OneBody
 pub mod OneReading
+pub mod PlainLemmas

@@ -8,3 +8,4 @@ pub mod Behind
 pub mod BodyKeys
 pub mod Requested
 pub mod Readings
+pub mod Plain

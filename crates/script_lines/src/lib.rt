@@ -7,6 +7,7 @@
 
 mod behind;
 mod body;
+mod boxes;
 mod command;
 mod fault;
 mod forms;
@@ -15,6 +16,7 @@ mod line;
 #[cfg(test)]
 mod line_tests;
 mod misread;
+mod plain;
 mod request;
 mod resources;
 mod shapes;
@@ -29,4 +31,5 @@ pub use command::Command;
 pub use fault::LineFault;
 pub use line::Line;
 pub use misread::Misread;
+pub use plain::plain_resources;
 pub use request::Body;

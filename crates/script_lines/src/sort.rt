@@ -83,14 +83,15 @@ fn are_texts(fields: &Props) -> bool
     ensures { IsTrue result ↔ AreTexts fields.now }
 {
     for member in fields.as_slice() {
-        if !is_text(&member.value) {
+        if !is_words(&member.value) {
             return false;
         }
     }
     true
 }
 
-fn is_text(value: &Value) -> bool
+/// Whether a value is a text.
+pub fn is_words(value: &Value) -> bool
     ensures { IsTrue result ↔ IsText (data_of value.now) }
 {
     match value {
