@@ -9,3 +9,4 @@ pub mod BodyKeys
 pub mod Requested
 pub mod Readings
 pub mod Plain
+pub mod Unknown
