@@ -7,3 +7,8 @@ pub mod PlanLemmas
 pub mod BodyLemmas
 pub mod LineLemmas
 pub mod MeaningLemmas
+pub mod Alone
+pub mod BodyParts
+pub mod OneBody
+pub mod OneReading
+pub mod PlainLemmas

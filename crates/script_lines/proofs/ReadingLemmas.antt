@@ -69,7 +69,7 @@ mutual
   depth-json_members (member k d ms) = rw (depth-json_of d, depth-json_members ms) refl
 
 -- bytes have at most one reading
-reading_unique : (bytes : List ℕ) (d e : json.Data) → IsReading bytes d → IsReading bytes e → d ≡ e
+pub reading_unique : (bytes : List ℕ) (d e : json.Data) → IsReading bytes d → IsReading bytes e → d ≡ e
 reading_unique bytes d e a b = let found : Some d ≡ Some e = sym a.1 ∙ b.1 in cc
 
 pub value_unique : (bytes : List ℕ) (d e : Data) → IsReadAs bytes d → IsReadAs bytes e → d ≡ e

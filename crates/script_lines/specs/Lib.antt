@@ -2,3 +2,11 @@ pub mod Words
 pub mod Bodies
 pub mod Lines
 pub mod Faults
+pub mod Misreads
+pub mod Heads
+pub mod Behind
+pub mod BodyKeys
+pub mod Requested
+pub mod Readings
+pub mod Plain
+pub mod Unknown

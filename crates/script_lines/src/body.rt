@@ -74,8 +74,8 @@ fn template_of(value: &Value) -> Option<&Props>
     fields_of(only(fields_of(value)?, "template")?)
 }
 
-// The resources of a template.
-fn resources_of(template: &Props) -> Option<&Props>
+/// The resources of a template.
+pub fn resources_of(template: &Props) -> Option<&Props>
     ensures { MatchOption result ((rs : Members) → ¬ HasResources template.now rs)
         (λ rs. HasResources template.now rs.now) }
 {

@@ -93,8 +93,8 @@ fn given_of(resource: &Props) -> Option<&Props>
     }
 }
 
-// Whether each key is that of a property, and each value a scalar.
-fn are_plain(given: &Props) -> bool
+/// Whether each key is that of a property, and each value a scalar.
+pub fn are_plain(given: &Props) -> bool
     ensures { IsTrue result ↔ ArePlain given.now }
 {
     for member in given.as_slice() {
