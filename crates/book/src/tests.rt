@@ -88,12 +88,12 @@ fn cloud(alloc: Global, most: u32, letters: &[u8]) -> Result<ScriptedCloud, Allo
 
 /// One turn of the first live engine; none where no engine is live.
 fn turn_first<P: Provider>(book: &mut Book<P>) -> Option<Turn> {
-    let live = book.live();
-    if live.is_empty() {
-        return None;
+    let e = *book.live().first()?;
+    if e.get() < book.state().next().engine.get() {
+        Some(book.turn(e))
+    } else {
+        None
     }
-    let e = live[0];
-    Some(book.turn(e))
 }
 
 /// How many turns are made until none is.

@@ -77,9 +77,13 @@ fn refuse(alloc: Global, book: &mut Book<SimCloud>, code: &str) {
 }
 
 /// One turn of the live engine.
-fn turn(book: &mut Book<SimCloud>) -> Turn {
-    let e = book.live()[0];
-    book.turn(e)
+fn turn(book: &mut Book<SimCloud>) -> Option<Turn> {
+    let e = *book.live().first()?;
+    if e.get() < book.state().next().engine.get() {
+        Some(book.turn(e))
+    } else {
+        None
+    }
 }
 
 fn drive(alloc: Global, book: &mut Book<SimCloud>, creates: u8, turns: u8) {
