@@ -36,41 +36,45 @@ waiting_fits : (r : Row) (asked : Request) → Polls r asked → MayAnswer asked
 waiting_fits r _ (call.polls ne) = may.poll_waits
 waiting_fits r _ (looks is) = gone_waits
 
-refusal_fits : (act : Act) (asked : Request) (given : Answered) (reason : Why) → Refuses act asked given reason → MayAnswer asked given
+refusal_fits : (act : Act) (asked : Request) (given : Answered) (reason : Why) → Refuses act asked given reason
+    → MayAnswer asked given
 refusal_fits act _ _ _ (by_quota kind props) = create_quota kind props
 refusal_fits act asked _ _ (by_failure _) = failed asked
 refusal_fits act _ _ _ (by_code code) = poll_broken code
 
-move_suits : (s : StateData) (e : ℕ) (given : Given) (marked : Option Stack) (cs : List Change) (es : List Entry) → Move s e given marked cs es
-    → Suits s e given
-move_suits s e given marked cs es (take_dropped l _ _ t _ _ _) = takes l t
-move_suits s e given marked cs es (take_free k _ _ _ _ _) = takes k.letter k.next
-move_suits s e given marked cs es (take_stolen k _ _ _ _ _ _ _ _) = takes k.letter k.next
-move_suits s e given marked cs es (begin_overrun j _ _ w k _ _) = overruns j w k.overrun
-move_suits s e given marked cs es (begin_faulted k code path _ _ _ _ _ _) = faults k code path
-move_suits s e given marked cs es (begin_init k props effect _ _ _ _ _) = prepares k props effect
-move_suits s e given marked cs es (begin_same k props effect _ _ _ _ _ _ _) = prepares k props effect
-move_suits s e given marked cs es (begin_in_place k props effect _ _ _ _ _ _ _) = prepares k props effect
-move_suits s e given marked cs es (begin_resumed k props effect _ _ _ _ _ _ _) = prepares k props effect
-move_suits s e given marked cs es (begin_failed k props effect _ _ _ _ _ _ _) = prepares k props effect
-move_suits s e given marked cs es (begin_replaced k props effect _ _ _ _ _ _) = prepares k props effect
-move_suits s e given marked cs es (clean_gone k _ _ _ _ _) = cleans k
-move_suits s e given marked cs es (clean_kept k _ _ _ _ _ _ _) = cleans k
-move_suits s e given marked cs es (clean_init k _ _ _ _ _ _ _ _) = cleans k
-move_suits s e given marked cs es (clean_stuck k _ _ _ _ _ _ _ _) = cleans k
-move_suits s e given marked cs es (clean_retained k _ _ _ _ _ _ _ _ _ _) = cleans k
-move_suits s e given marked cs es (clean_deleted k _ _ _ _ _ _ _ _ _ _) = cleans k
-move_suits s e given marked cs es (ask_begun k asked _ _ a _ _) = asks k asked _ a (begun_fits k.row asked a)
-move_suits s e given marked cs es (ask_failed k asked g reason _ _ _ _ a x _ _ _) = asks k asked g a (refusal_fits k.row.act asked g reason x)
-move_suits s e given marked cs es (poll_waits k asked _ _ a _ _) = may.polls k asked _ a (waiting_fits k.row asked a)
-move_suits s e given marked cs es (poll_ready k facts _ _ ne _ _) = may.polls k request.Poll _ (call.polls ne) (may.poll_ready facts)
-move_suits s e given marked cs es (poll_gone k _ _ is _ _) = may.polls k request.Gone _ (looks is) gone
-move_suits s e given marked cs es (poll_failed k asked g reason _ _ _ _ a x _ _ _) = may.polls k asked g a (refusal_fits k.row.act asked g reason x)
-move_suits s e given marked cs es (finish_overrun j _ _ w _ _ _) = ends j w
-move_suits s e given marked cs es (finish k _ _ _ _ _) = ends k.job k.works
-move_suits s e given marked cs es (finish_last k _ _ _ _ _) = ends k.job k.works
-move_suits s e given marked cs es (takeover_overrun f j _ _ t _ _ _) = takes_over f j t
-move_suits s e given marked cs es (takeover_fresh f k _ _ _ _) = takes_over f k.job k.next
+move_suits : (s : StateData) (e : ℕ) (given : Given) (marked : Option Stack) (cs : List Change) (es : List Entry)
+    → Move s e given marked cs es → Suits s e given
+move_suits s e _ _ _ _ (take_dropped l _ _ t _ _ _) = takes l t
+move_suits s e _ _ _ _ (take_free k _ _ _ _ _) = takes k.letter k.next
+move_suits s e _ _ _ _ (take_stolen k _ _ _ _ _ _ _ _) = takes k.letter k.next
+move_suits s e _ _ _ _ (begin_overrun j _ _ w k _ _) = overruns j w k.overrun
+move_suits s e _ _ _ _ (begin_faulted k code path _ _ _ _ _ _) = faults k code path
+move_suits s e _ _ _ _ (begin_init k props effect _ _ _ _ _) = prepares k props effect
+move_suits s e _ _ _ _ (begin_same k props effect _ _ _ _ _ _ _) = prepares k props effect
+move_suits s e _ _ _ _ (begin_in_place k props effect _ _ _ _ _ _ _) = prepares k props effect
+move_suits s e _ _ _ _ (begin_resumed k props effect _ _ _ _ _ _ _) = prepares k props effect
+move_suits s e _ _ _ _ (begin_failed k props effect _ _ _ _ _ _ _) = prepares k props effect
+move_suits s e _ _ _ _ (begin_replaced k props effect _ _ _ _ _ _) = prepares k props effect
+move_suits s e _ _ _ _ (clean_gone k _ _ _ _ _) = cleans k
+move_suits s e _ _ _ _ (clean_kept k _ _ _ _ _ _ _) = cleans k
+move_suits s e _ _ _ _ (clean_init k _ _ _ _ _ _ _ _) = cleans k
+move_suits s e _ _ _ _ (clean_stuck k _ _ _ _ _ _ _ _) = cleans k
+move_suits s e _ _ _ _ (clean_retained k _ _ _ _ _ _ _ _ _ _) = cleans k
+move_suits s e _ _ _ _ (clean_deleted k _ _ _ _ _ _ _ _ _ _) = cleans k
+move_suits s e _ _ _ _ (ask_begun k asked _ _ a _ _) = asks k asked _ a (begun_fits k.row asked a)
+move_suits s e _ _ _ _ (ask_failed k asked g reason _ _ _ _ a x _ _ _) =
+    asks k asked g a (refusal_fits k.row.act asked g reason x)
+move_suits s e _ _ _ _ (poll_waits k asked _ _ a _ _) = may.polls k asked _ a (waiting_fits k.row asked a)
+move_suits s e _ _ _ _ (poll_ready k facts _ _ ne _ _) =
+    may.polls k request.Poll _ (call.polls ne) (may.poll_ready facts)
+move_suits s e _ _ _ _ (poll_gone k _ _ is _ _) = may.polls k request.Gone _ (looks is) gone
+move_suits s e _ _ _ _ (poll_failed k asked g reason _ _ _ _ a x _ _ _) =
+    may.polls k asked g a (refusal_fits k.row.act asked g reason x)
+move_suits s e _ _ _ _ (finish_overrun j _ _ w _ _ _) = ends j w
+move_suits s e _ _ _ _ (finish k _ _ _ _ _) = ends k.job k.works
+move_suits s e _ _ _ _ (finish_last k _ _ _ _ _) = ends k.job k.works
+move_suits s e _ _ _ _ (takeover_overrun f j _ _ t _ _ _) = takes_over f j t
+move_suits s e _ _ _ _ (takeover_fresh f k _ _ _ _) = takes_over f k.job k.next
 
 pub turn_suits : TurnSuits
 turn_suits s e given cs es (plain marked m _) = move_suits s e given marked cs es m
@@ -94,10 +98,11 @@ module _ (s : StateData) (e : ℕ) where
   next_busy kind (at_job j stage w) idle = has_job j w.its idle
   next_busy kind (by_left f j t) idle = idle.none_left f j t.left
 
-  by_place : (given : Given) (marked : Option Stack) (cs : List Change) (es : List Entry) → Placed s e given marked cs es
-      → Contains s.live e × ¬ IsIdle s e
+  by_place : (given : Given) (marked : Option Stack) (cs : List Change) (es : List Entry)
+      → Placed s e given marked cs es → Contains s.live e × ¬ IsIdle s e
   by_place given marked cs es p = (next_live p.kind p.next, next_busy p.kind p.next)
 
 pub turn_is_live : TurnIsLive
 turn_is_live s e given cs es (plain marked m _) = by_place s e given marked cs es (placed s e given marked cs es m)
-turn_is_live s e given cs es (rolls st first _ firsts _ m _ _ _ _) = by_place s e given (Some st) first firsts (placed s e given (Some st) first firsts m)
+turn_is_live s e given cs es (rolls st first _ firsts _ m _ _ _ _) =
+    by_place s e given (Some st) first firsts (placed s e given (Some st) first firsts m)

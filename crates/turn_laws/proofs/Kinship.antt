@@ -38,29 +38,32 @@ module _ (s : StateData) (e : ℕ) where
   no_begin_clean : Cleans s e → Begins s e → ⊥
   no_begin_clean c k =
       let same : c.job ≡ k.job = works_one s e Taken Taken c.job k.job c.works k.works in
-      let (_, _, nodes) = names_one s c.job.letter k.job.letter (ap (λ (j : Job). j.letter) same) c.stack k.stack c.graph k.graph
-      (C c.number) (U k.name k.chosen) c.names k.names in
+      let (_, _, nodes) = names_one s c.job.letter k.job.letter (ap (λ (j : Job). j.letter) same) c.stack k.stack
+      c.graph k.graph (C c.number) (U k.name k.chosen) c.names k.names in
       cc
 
-  -- what suits, by what it is given: nothing, where there is nothing to begin and no call; what comes of an item; or an answer
+  -- what suits: nothing, where there is nothing to begin and no call; what comes of an item; or an answer
   data Sort : Given → Type 0 where
     still : (kind : Kind) → IsNext s e kind → kind ≢ AtJob Asking → kind ≢ AtJob Polling → ¬ Begins s e → Sort Nothing
     begins : (k : Begins s e) (given : Given) → IsOfItem given → Sort given
-    asked : (k : Calls s e Asking) (is : Request) (given : Answered) → Asks k.row is → MayAnswer is given → Sort (Answer given)
-    polled : (k : Calls s e Polling) (is : Request) (given : Answered) → Polls k.row is → MayAnswer is given → Sort (Answer given)
+    asked : (k : Calls s e Asking) (is : Request) (given : Answered) → Asks k.row is → MayAnswer is given
+        → Sort (Answer given)
+    polled : (k : Calls s e Polling) (is : Request) (given : Answered) → Polls k.row is → MayAnswer is given
+        → Sort (Answer given)
 
   no_begin : (kind : Kind) → IsNext s e kind → kind ≢ AtJob Taken → Begins s e → ⊥
   no_begin kind next other k = other (kind_one s e kind (AtJob Taken) next (at_job k.job Taken k.works))
 
   sort_of : (given : Given) → Suits s e given → Sort given
   sort_of _ (takes l t) =
-      still ByLetter (by_letter l t) (λ e. cc) (λ e. cc) (no_begin ByLetter (by_letter l t) (λ e. cc))
+      still ByLetter (by_letter l t) (λ x. cc) (λ x. cc) (no_begin ByLetter (by_letter l t) (λ x. cc))
   sort_of _ (takes_over f j t) =
-      still ByLeft (by_left f j t) (λ e. cc) (λ e. cc) (no_begin ByLeft (by_left f j t) (λ e. cc))
-  sort_of _ (overruns j w over) = still (AtJob Taken) (at_job j Taken w) (λ e. cc) (λ e. cc) (no_begin_overrun j w over)
-  sort_of _ (cleans k) = still (AtJob Taken) (at_job k.job Taken k.works) (λ e. cc) (λ e. cc) (no_begin_clean k)
+      still ByLeft (by_left f j t) (λ x. cc) (λ x. cc) (no_begin ByLeft (by_left f j t) (λ x. cc))
+  sort_of _ (overruns j w over) = still (AtJob Taken) (at_job j Taken w) (λ x. cc) (λ x. cc) (no_begin_overrun j w over)
+  sort_of _ (cleans k) = still (AtJob Taken) (at_job k.job Taken k.works) (λ x. cc) (λ x. cc) (no_begin_clean k)
   sort_of _ (ends j w) =
-      still (AtJob Ending) (at_job j Ending w) (λ e. cc) (λ e. cc) (no_begin (AtJob Ending) (at_job j Ending w) (λ e. cc))
+      still (AtJob Ending) (at_job j Ending w) (λ x. cc) (λ x. cc)
+      (no_begin (AtJob Ending) (at_job j Ending w) (λ x. cc))
   sort_of _ (prepares k props effect) = begins k _ (prepared props effect)
   sort_of _ (faults k code path) = begins k _ (faulted code path)
   sort_of _ (asks k is given a m) = asked k is given a m
@@ -84,11 +87,13 @@ module _ (s : StateData) (e : ℕ) where
 
   asked_one : (k q : Calls s e Asking) (a b : Request) → Asks k.row a → Asks q.row b → b ≡ a
   asked_one k q a b x y =
-      let (_, rows) = call_one s e Asking k q in sym (asks_one k.row a b x (subst (λ (r : Row). Asks r b) (sym rows) y))
+      let (_, rows) = call_one s e Asking k q in
+      sym (asks_one k.row a b x (subst (λ (r : Row). Asks r b) (sym rows) y))
 
   polled_one : (k q : Calls s e Polling) (a b : Request) → Polls k.row a → Polls q.row b → b ≡ a
   polled_one k q a b x y =
-      let (_, rows) = call_one s e Polling k q in sym (polls_one k.row a b x (subst (λ (r : Row). Polls r b) (sym rows) y))
+      let (_, rows) = call_one s e Polling k q in
+      sym (polls_one k.row a b x (subst (λ (r : Row). Polls r b) (sym rows) y))
 
   kin : (a b : Given) → Sort a → Sort b → IsKin a b
   kin _ _ (still kind n no_ask no_poll none) (still _ _ _ _ _) = nothing

@@ -15,7 +15,8 @@ use Rattle.turn_laws.specs.Suits.{MayAnswer, Suits}
 
 -- what a turn was given suits the engine's next step
 abbrev pub TurnSuits : Type 0
-TurnSuits = (s : StateData) (e : ℕ) (given : Given) (cs : List Change) (es : List Entry) → Turn s e given cs es → Suits s e given
+TurnSuits = (s : StateData) (e : ℕ) (given : Given) (cs : List Change) (es : List Entry)
+    → Turn s e given cs es → Suits s e given
 
 -- a turn is of a live engine that isn't idle
 abbrev pub TurnIsLive : Type 0
