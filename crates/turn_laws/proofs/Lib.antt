@@ -8,3 +8,5 @@ pub mod Layings
 pub mod Fates
 pub mod Turning
 pub mod Nexts
+pub mod Fitting
+pub mod Kinship

@@ -2,6 +2,7 @@
 //! body and stands for its clauses.
 #![tactic(auto)]
 
+ghost use Rattle.turn_laws.specs.Fits.{SuitsIsOneKind, TurnIsLive, TurnSuits};
 ghost use Rattle.turn_laws.specs.HasTurn.{NextExists, TurnExists};
 
 /// Whatever the state, a turn exists for whatever suits an engine's next step.
@@ -13,4 +14,17 @@ pub fn a_turn_exists()
 /// idle, and never both.
 pub fn a_next_step_exists()
     ensures { NextExists }
+{}
+
+/// What a turn was given suits the engine's next step, and the engine is live and not idle: no turn
+/// exists but for what suits.
+pub fn a_turn_is_of_what_is_next()
+    ensures suits { TurnSuits }
+    ensures live { TurnIsLive }
+{}
+
+/// All that suits an engine's next step is of one kind: nothing; an item's properties or their fault;
+/// or the answers that one request may have.
+pub fn what_is_next_is_of_one_kind()
+    ensures { SuitsIsOneKind }
 {}
