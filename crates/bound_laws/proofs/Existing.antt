@@ -234,7 +234,14 @@ module _ (left : Token → ℕ) (s : StateData) where
       by_row t to None none = inr (λ k. let there = subst (λ (i : ℕ). row_at s.rows i ≡ Some k.row) (number t to k) k.found in cc)
       by_row t to (Some r) found = elim (far_or_not st r) [
         | inl far ↦ (let key : r.no ≡ t = row-key s.rows t r found in inl (record {
-          stack = st; may = may; graph = g; name = name; chosen = chosen; row = r; its_graph = c; its_node = d;
+          stack = st;
+          may = may;
+          graph = g;
+          name = name;
+          chosen = chosen;
+          row = r;
+          its_graph = c;
+          its_node = d;
           to = subst (IsTarget s.rows x.0 (U name chosen)) (sym key) to;
           found = subst (λ (i : ℕ). row_at s.rows i ≡ Some r) (sym key) found;
           far = far;

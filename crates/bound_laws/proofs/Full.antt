@@ -17,12 +17,30 @@ full_exists s =
     let none : Token → ℕ = λ t. 0 in
     let l = letters_told none s in let k = nodes_told none s in let x = left_told none s in
     let a = stage_told none s Taken in let b = stage_told none s Asking in let p = stage_told none s Polling in let c = stage_told none s Ending in
-    let d = late_told none s in let r = rolls_told none s in
-    (69 * l.0 + 69 * k.0 + 70 * x.0 + 68 * a.0 + 67 * b.0 + 66 * p.0 + c.0 + 69 * d.0 + 69 * r.0, record {
-      letters = l.0; nodes = k.0; stopped = x.0; taken = a.0; asking = b.0; polling = p.0; ending = c.0; late = d.0; rolls = r.0;
-      letters_are = l.1; nodes_are = k.1; stopped_are = x.1; taken_are = a.1; asking_are = b.1; polling_are = p.1; ending_are = c.1; late_are = d.1; rolls_are = r.1;
-      sum = refl;
-    })
+    let d = late_told none s in let r = rolls_told none s in (
+      69 * l.0 + 69 * k.0 + 70 * x.0 + 68 * a.0 + 67 * b.0 + 66 * p.0 + c.0 + 69 * d.0 + 69 * r.0,
+      record {
+        letters = l.0;
+        nodes = k.0;
+        stopped = x.0;
+        taken = a.0;
+        asking = b.0;
+        polling = p.0;
+        ending = c.0;
+        late = d.0;
+        rolls = r.0;
+        letters_are = l.1;
+        nodes_are = k.1;
+        stopped_are = x.1;
+        taken_are = a.1;
+        asking_are = b.1;
+        polling_are = p.1;
+        ending_are = c.1;
+        late_are = d.1;
+        rolls_are = r.1;
+        sum = refl;
+      },
+    )
 
 pub work_less : WorkIsLess
 work_less left s n m few a b =
@@ -93,20 +111,36 @@ module _ (s : StateData) (n : ℕ) (z : Sizes s) (w : IsFullWork s n) where
   bounded =
       let l = at_most w.letters_are z.letters_are (λ x k. k) in
       let o = at_most w.nodes_are z.nodes_are (λ x k. record {
-        stack = k.stack; graph = k.graph; node = k.node; in_table = k.in_table; its_graph = k.its_graph; its_node = k.its_node;
+        stack = k.stack;
+        graph = k.graph;
+        node = k.node;
+        in_table = k.in_table;
+        its_graph = k.its_graph;
+        its_node = k.its_node;
       }) in
       let j = at_most (joined w.stopped_are live not_left) z.jobs_are jobs_of in
       let d = at_most (joined w.stopped_are w.late_are (λ e k q. k.stopped q.live)) z.jobs_are late_of in
       let r = w.rolls_are in
       let rl = at_most r.letters_are z.letters_are (λ x k. record { letter = k.letter; at = k.at }) in
       let ro = at_most r.nodes_are z.nodes_are (λ x q. let k = q.node in record {
-        stack = k.stack; graph = k.graph; node = k.node; in_table = k.in_table; its_graph = k.its_graph; its_node = k.its_node;
+        stack = k.stack;
+        graph = k.graph;
+        node = k.node;
+        in_table = k.in_table;
+        its_graph = k.its_graph;
+        its_node = k.its_node;
       }) in
       let rj = at_most r.jobs_are z.jobs_are (λ x k. record { job = k.job; its = k.its }) in
       let ri = at_most r.items_are z.items_are (λ x k. k) in
       let rr = at_most r.rows_are z.rows_are (λ x k. record { row = k.row; found = k.found }) in
       let rf = at_most r.far_are z.updates_are (λ x k. record {
-        stack = k.stack; graph = k.graph; name = k.name; chosen = k.chosen; in_table = k.may.in_table; its_graph = k.its_graph; its_node = k.its_node;
+        stack = k.stack;
+        graph = k.graph;
+        name = k.name;
+        chosen = k.chosen;
+        in_table = k.may.in_table;
+        its_graph = k.its_graph;
+        its_node = k.its_node;
       }) in
       let e = w.sum in let g = r.sum in
       omega (arith, l, o, j, d, rl, ro, rj, ri, rr, rf, e, g)

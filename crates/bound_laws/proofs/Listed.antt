@@ -10,12 +10,15 @@ use Rattle.bound_laws.proofs.Spans.{beside, beside_length, beside_once, beside_w
 
 -- those of a list that are of the kind
 pub among : {A : Type 0} (P : A → Type 0) → ((x : A) → Decided (P x)) → (xs : List A) → AreOnce xs → ((x : A) → P x → Contains xs x) → (n : ℕ) × Counts P n
-among P d xs once all = let p = picked P d xs once in (length p.list, record {
-  all = p.list;
-  once = p.once;
-  each = λ x. ((λ c. (p.only x c).1), (λ is. p.has x (all x is) is));
-  count = refl;
-})
+among P d xs once all = let p = picked P d xs once in (
+  length p.list,
+  record {
+    all = p.list;
+    once = p.once;
+    each = λ x. ((λ c. (p.only x c).1), (λ is. p.has x (all x is) is));
+    count = refl;
+  },
+)
 
 pub below : (P : ℕ → Type 0) → ((n : ℕ) → Decided (P n)) → (b : ℕ) → ((n : ℕ) → P n → n < b) → (n : ℕ) × Counts P n
 below P d b within = among P d (upto b) (upto_once b) (λ n is. in_upto b n (within n is))

@@ -55,12 +55,24 @@ module _ (left : Token → ℕ) (s : StateData) where
   pub rolls_told : (n : ℕ) × RollWork s n
   rolls_told =
       let l = roll_letters_told in let k = roll_nodes_told in let j = by_jobs left s (RollJob s) (roll_job_or_not left s) (λ e q. (q.job, q.its)) in
-      let i = roll_items_told in let r = roll_rows_told in let f = roll_far_told in
-      (l.0 + k.0 + j.0 + i.0 + r.0 + f.0, record {
-        letters = l.0; nodes = k.0; jobs = j.0; items = i.0; rows = r.0; far = f.0;
-        letters_are = l.1; nodes_are = k.1; jobs_are = j.1; items_are = i.1; rows_are = r.1; far_are = f.1;
-        sum = refl;
-      })
+      let i = roll_items_told in let r = roll_rows_told in let f = roll_far_told in (
+        l.0 + k.0 + j.0 + i.0 + r.0 + f.0,
+        record {
+          letters = l.0;
+          nodes = k.0;
+          jobs = j.0;
+          items = i.0;
+          rows = r.0;
+          far = f.0;
+          letters_are = l.1;
+          nodes_are = k.1;
+          jobs_are = j.1;
+          items_are = i.1;
+          rows_are = r.1;
+          far_are = f.1;
+          sum = refl;
+        },
+      )
 
   pub left_told : (n : ℕ) × Counts (IsLeft s) n
   left_told = by_jobs left s (IsLeft s) (left_or_not left s) (λ e q. (q.job, q.its))
@@ -72,12 +84,30 @@ module _ (left : Token → ℕ) (s : StateData) where
   told =
       let l = letters_told in let k = nodes_told in let x = left_told in
       let a = stage_told Taken in let b = stage_told Asking in let p = polls_told in let c = stage_told Ending in
-      let d = late_told in let r = rolls_told in
-      (69 * l.0 + 69 * k.0 + 70 * x.0 + 68 * a.0 + 67 * b.0 + p.0 + c.0 + 69 * d.0 + 69 * r.0, record {
-        letters = l.0; nodes = k.0; stopped = x.0; taken = a.0; asking = b.0; polls = p.0; ending = c.0; late = d.0; rolls = r.0;
-        letters_are = l.1; nodes_are = k.1; stopped_are = x.1; taken_are = a.1; asking_are = b.1; polls_are = p.1; ending_are = c.1; late_are = d.1; rolls_are = r.1;
-        sum = refl;
-      })
+      let d = late_told in let r = rolls_told in (
+        69 * l.0 + 69 * k.0 + 70 * x.0 + 68 * a.0 + 67 * b.0 + p.0 + c.0 + 69 * d.0 + 69 * r.0,
+        record {
+          letters = l.0;
+          nodes = k.0;
+          stopped = x.0;
+          taken = a.0;
+          asking = b.0;
+          polls = p.0;
+          ending = c.0;
+          late = d.0;
+          rolls = r.0;
+          letters_are = l.1;
+          nodes_are = k.1;
+          stopped_are = x.1;
+          taken_are = a.1;
+          asking_are = b.1;
+          polls_are = p.1;
+          ending_are = c.1;
+          late_are = d.1;
+          rolls_are = r.1;
+          sum = refl;
+        },
+      )
 
 pub work_exists : WorkExists
 work_exists left s = told left s
@@ -110,10 +140,10 @@ work_one left s n m a b =
 pub polls_few : PollsAreFew
 polls_few left s n k w few at =
     let le = within w.polls_are.all (pairs (λ (x : ℕ). 66) at.all) w.polls_are.once (λ x c.
-      let p = (w.polls_are.each x).0 c in
-      let lt = p.below in
-      let f = few (token_of p.row) in
-      in_pairs (λ (y : ℕ). 66) at.all x ((at.each x.0).1 p.at) (omega (arith, lt, f))) in
+    let p = (w.polls_are.each x).0 c in
+    let lt = p.below in
+    let f = few (token_of p.row) in
+    in_pairs (λ (y : ℕ). 66) at.all x ((at.each x.0).1 p.at) (omega (arith, lt, f))) in
     let c = w.polls_are.count in
     let l = pairs_length at.all in
     let e = at.count in

@@ -60,7 +60,10 @@ fn no_plan(alloc: Global) -> Plan {
 /// Makes the create that the line says, or notes that it is refused.
 fn create(alloc: Global, book: &mut Book<SimCloud>) {
     if let Ok(Command::Create(name, plan)) = Command::read(alloc, CREATE) {
-        if book.command(StackCommand::Create(name, plan, false)).is_err() {
+        if book
+            .command(StackCommand::Create(name, plan, false))
+            .is_err()
+        {
             refuse(alloc, book, "E10");
         }
     }

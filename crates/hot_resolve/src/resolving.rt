@@ -3,8 +3,8 @@ ghost use Rattle.std.specs.Prelude.{◌≡◌, IfOk};
 ghost use Rattle.hot_resolve.specs.Resolve.{resolve};
 ghost use Rattle.hot_resolve.specs.Resolutions.{resolved_of};
 
-use heat_value::{Path, Text, TryCopy};
 use heat_plan::{Item, KnownFacts, Plan, Properties};
+use heat_value::{Path, Text, TryCopy};
 use std::alloc::AllocError;
 
 /// An item's properties; or the code of a fault, and where in the properties it stands.
