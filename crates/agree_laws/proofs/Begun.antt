@@ -23,7 +23,8 @@ use Rattle.core_state.specs.declared.entry.Cause.{Cause}
 use Rattle.core_state.specs.declared.entry.Entry.{Entry}
 use Rattle.core_state.specs.declared.stack.Stack.{Stack}
 use Rattle.step_relation.specs.Asks.{Falls, marked, marks, overrun}
-use Rattle.step_relation.specs.Begins.{Begins, begun_changes, begun_entries, left_changes, left_entries, moved_job, next_row, onward_changes, onward_entries, replaced_changes, replaced_entries}
+use Rattle.step_relation.specs.Begins.{Begins, begun_changes, begun_entries, left_changes, left_entries, moved_job}
+use Rattle.step_relation.specs.Begins.{next_row, onward_changes, onward_entries, replaced_changes, replaced_entries}
 use Rattle.step_relation.specs.Cleanups.{purged_changes, purged_entries, retained_changes, retained_entries}
 use Rattle.step_relation.specs.Rows.{created_row, deleted_row, replaced, same_row, token_of, unlocked, updated_row}
 use Rattle.step_relation.specs.Writes.{failed_mark, mark_failed, with_stage}

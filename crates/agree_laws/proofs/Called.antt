@@ -1,7 +1,8 @@
 -- What may be alive behind a call: by the answer, from the states before.
 use Rattle.std.proofs.Common.{arith, cond, inl, inr, refl, subst, sym, ◌∙◌}
 use Rattle.std.proofs.lemmas.List.Elements.{Contains-append_cases}
-use Rattle.std.specs.Prelude.{Bool, Contains, IsSome, List, None, Some, [], false, filter, flat_map, if◌then◌else◌, not, true, ℕ, ◌++◌, ◌∷◌, ◌≡◌, ◌≢◌, ◌⊎◌}
+use Rattle.std.specs.Prelude.{Bool, Contains, IsSome, List, None, Some, [], false, filter, flat_map, if◌then◌else◌, not}
+use Rattle.std.specs.Prelude.{true, ℕ, ◌++◌, ◌∷◌, ◌≡◌, ◌≢◌, ◌⊎◌}
 use Rattle.heat_value.specs.Data.{Members}
 use Rattle.heat_plan.specs.declared.calls.Answered.{Answered}
 use Rattle.heat_plan.specs.declared.calls.Request.{Request}

@@ -1,7 +1,8 @@
 -- What a command lays out: its rows are new, and what may be alive goes on to fit.
 use Rattle.std.proofs.Common.{List, ap, arith, inl, inr, refl, subst, sym, ◌∙◌}
 use Rattle.std.proofs.lemmas.Grind.{fold-append}
-use Rattle.std.specs.Prelude.{Contains, List, None, Some, [], fold, length, map, ℕ, ◌++◌, ◌+◌, ◌<◌, ◌∷◌, ◌≡◌, ◌≢◌, ◌≤◌, ◌⊎◌}
+use Rattle.std.specs.Prelude.{Contains, List, None, Some, [], fold, length, map, ℕ, ◌++◌, ◌+◌, ◌<◌, ◌∷◌, ◌≡◌, ◌≢◌, ◌≤◌}
+use Rattle.std.specs.Prelude.{◌⊎◌}
 use Rattle.heat_plan.specs.declared.item.Item.{Item}
 use Rattle.heat_plan.specs.declared.phase.Act.TheVariants.{Delete}
 use Rattle.heat_plan.specs.declared.phase.Status.TheVariants.{InProgress}
@@ -23,7 +24,8 @@ use Rattle.core_state.specs.declared.entry.MailWrite.TheVariants.{Sent}
 use Rattle.core_state.specs.declared.entry.RowWrite.{RowWrite}
 use Rattle.core_state.specs.declared.entry.RowWrite.TheVariants.{Set}
 use Rattle.core_state.specs.declared.numbers.Numbers.{Numbers}
-use Rattle.step_relation.specs.Commands.{Chooses, Lays, Sets, current, first_letters, fresh, laid_changes, laid_entries, none, past_command, settled_mark, settles_at_once, stack_set}
+use Rattle.step_relation.specs.Commands.{Chooses, Lays, Sets, current, first_letters, fresh, laid_changes, laid_entries}
+use Rattle.step_relation.specs.Commands.{none, past_command, settled_mark, settles_at_once, stack_set}
 use Rattle.step_relation.specs.Rows.{new_row, token_of}
 use Rattle.step_relation.specs.Writes.{mail_entry, mark_complete, rows_entry}
 use Rattle.history.specs.Could.{could_of}
@@ -39,7 +41,8 @@ use Rattle.tell_laws.proofs.Silence.{AreUncalling, could-silent, uncalling-both,
 use Rattle.agree_laws.proofs.Begun.{no_next_row, none_next}
 use Rattle.agree_laws.proofs.Ends.{applied-rows, applied-sends, rows_in, sent_to}
 use Rattle.agree_laws.proofs.Finished.{complete_drop, complete_keep, delete_or_not}
-use Rattle.agree_laws.proofs.Goes.{Goes, SameCould, agrees_goes, released_goes, uncalled_more, uncalling_for, was_given, was_polling}
+use Rattle.agree_laws.proofs.Goes.{Goes, SameCould, agrees_goes, released_goes, uncalled_more, uncalling_for, was_given}
+use Rattle.agree_laws.proofs.Goes.{was_polling}
 use Rattle.agree_laws.proofs.Going.{RowsGo, rows_new, rows_same, rows_then}
 
 -- a state behind a command, but for the mark where there is nothing to do

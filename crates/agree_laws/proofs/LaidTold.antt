@@ -19,9 +19,11 @@ use Rattle.core_state.specs.declared.entry.MailWrite.TheVariants.{Sent}
 use Rattle.core_state.specs.declared.entry.RowWrite.TheVariants.{Set}
 use Rattle.core_state.specs.declared.past.Past.{Past}
 use Rattle.core_state.specs.declared.stack.Stack.{Stack}
-use Rattle.step_relation.specs.Commands.{Lays, Sets, first_letters, laid_changes, laid_entries, settled_mark, settles_at_once, stack_set}
+use Rattle.step_relation.specs.Commands.{Lays, Sets, first_letters, laid_changes, laid_entries, settled_mark}
+use Rattle.step_relation.specs.Commands.{settles_at_once, stack_set}
 use Rattle.step_relation.specs.Freshness.{plan_of}
-use Rattle.step_relation.specs.Orders.{IsForward, back_after, create_sets, of_create, of_update, past_of, past_or, plan_back, rollback_sets, update_sets}
+use Rattle.step_relation.specs.Orders.{IsForward, back_after, create_sets, of_create, of_update, past_of, past_or}
+use Rattle.step_relation.specs.Orders.{plan_back, rollback_sets, update_sets}
 use Rattle.step_relation.specs.Writes.{complete_mark, entry_of, mail_entry, mark_complete, rows_entry}
 use Rattle.history.specs.Last.{IsLast, IsNeverReached, created}
 use Rattle.history.specs.Marked.{Unmarked}

@@ -9,7 +9,12 @@ use Rattle.core_state.specs.declared.entry.Entry.{Entry}
 use Rattle.core_state.specs.declared.stack.Stack.{Stack}
 use Rattle.step_relation.specs.Asks.{fault_of}
 use Rattle.step_relation.specs.Given.{Given}
-use Rattle.step_relation.specs.Moves.{Move, ask_begun, ask_failed, begin_failed, begin_faulted, begin_in_place, begin_init, begin_overrun, begin_replaced, begin_resumed, begin_same, clean_deleted, clean_gone, clean_init, clean_kept, clean_retained, clean_stuck, finish, finish_last, finish_overrun, poll_failed, poll_gone, poll_ready, poll_waits, take_dropped, take_free, take_stolen, takeover_fresh, takeover_overrun}
+use Rattle.step_relation.specs.Moves.{Move, ask_begun, ask_failed, begin_failed, begin_faulted, begin_in_place}
+use Rattle.step_relation.specs.Moves.{begin_init, begin_overrun, begin_replaced, begin_resumed, begin_same}
+use Rattle.step_relation.specs.Moves.{clean_deleted, clean_gone, clean_init, clean_kept, clean_retained, clean_stuck}
+use Rattle.step_relation.specs.Moves.{finish, finish_last, finish_overrun, poll_failed, poll_gone, poll_ready}
+use Rattle.step_relation.specs.Moves.{poll_waits, take_dropped, take_free, take_stolen, takeover_fresh}
+use Rattle.step_relation.specs.Moves.{takeover_overrun}
 use Rattle.step_relation.specs.Takes.{relayed_letter}
 use Rattle.history.specs.Opening.{Opening}
 use Rattle.soundness.specs.Agrees.{Agrees}
@@ -17,8 +22,10 @@ use Rattle.soundness.specs.Groups.{ToldByMoves}
 use Rattle.soundness.specs.MailFits.{asks, polls}
 use Rattle.soundness.specs.Sound.{Sound}
 use Rattle.soundness.specs.Tells.{ReleasedFits, Tells}
-use Rattle.agree_laws.proofs.Asked.{asked_outcome, asks_gone, asks_poll, calls_for, failed_outcome, gone_outcome, ready_outcome, waits_outcome}
-use Rattle.agree_laws.proofs.Begun.{deleted_outcome, faulted_outcome, in_place_outcome, init_outcome, left_outcome, onward_outcome, purged_outcome, replaced_outcome, retained_outcome, same_outcome}
+use Rattle.agree_laws.proofs.Asked.{asked_outcome, asks_gone, asks_poll, calls_for, failed_outcome, gone_outcome}
+use Rattle.agree_laws.proofs.Asked.{ready_outcome, waits_outcome}
+use Rattle.agree_laws.proofs.Begun.{deleted_outcome, faulted_outcome, in_place_outcome, init_outcome, left_outcome}
+use Rattle.agree_laws.proofs.Begun.{onward_outcome, purged_outcome, replaced_outcome, retained_outcome, same_outcome}
 use Rattle.agree_laws.proofs.Finished.{finished_outcome, last_outcome}
 use Rattle.agree_laws.proofs.Outcome.{Outcome, outcome_agrees, outcome_released, outcome_tells}
 use Rattle.agree_laws.proofs.Suits.{at_asking, at_polling}

@@ -23,7 +23,8 @@ use Rattle.soundness.specs.Tells.{ReleasedFits, Tells}
 use Rattle.tell_laws.proofs.Silence.{AreUncalling, IsUncalling, IsUnmarking}
 use Rattle.agree_laws.proofs.Asked.{waits_outcome}
 use Rattle.agree_laws.proofs.MoveTold.{move_outcome}
-use Rattle.agree_laws.proofs.Outcome.{CallMade, Outcome, called, outcome_agrees, outcome_released, outcome_tells, uncalled}
+use Rattle.agree_laws.proofs.Outcome.{CallMade, Outcome, called, outcome_agrees, outcome_released, outcome_tells}
+use Rattle.agree_laws.proofs.Outcome.{uncalled}
 use Rattle.agree_laws.proofs.Taken.{goes_still, outcome_plain}
 
 record QuietFacts (it : What) : Type 0 where

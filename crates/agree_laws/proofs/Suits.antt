@@ -1,6 +1,7 @@
 -- What may be alive behind an answer for a row still fits the row, and what a job that polls asked for.
 use Rattle.std.proofs.Common.{ap, inl, inr, refl, subst, sym, ◌∙◌}
-use Rattle.std.specs.Prelude.{Bool, Contains, IsSome, None, Option, Some, false, if◌then◌else◌, true, unwrap_or, ◌≡◌, ◌≢◌, ◌⊎◌}
+use Rattle.std.specs.Prelude.{Bool, Contains, IsSome, None, Option, Some, false, if◌then◌else◌, true, unwrap_or, ◌≡◌}
+use Rattle.std.specs.Prelude.{◌≢◌, ◌⊎◌}
 use Rattle.heat_value.specs.Data.{Members}
 use Rattle.heat_plan.specs.declared.calls.Answered.{Answered}
 use Rattle.heat_plan.specs.declared.calls.Request.{Request}
@@ -17,7 +18,8 @@ use Rattle.step_relation.specs.Asks.{Asks, Polls, creates, deletes, looks, polls
 use Rattle.soundness.specs.Agrees.{IsAliveAs, IsGoing, PollFits, StateFits, absent}
 use Rattle.soundness.specs.Groups.{updates}
 use Rattle.tell_laws.proofs.Marks.{deletes}
-use Rattle.agree_laws.proofs.Called.{after_create, after_create_begun, after_delete_begun, after_gone, after_poll, after_update, after_update_begun}
+use Rattle.agree_laws.proofs.Called.{after_create, after_create_begun, after_delete_begun, after_gone, after_poll}
+use Rattle.agree_laws.proofs.Called.{after_update, after_update_begun}
 use Rattle.heat_plan.specs.declared.calls.Answered.TheVariants as answer
 use Rattle.heat_plan.specs.declared.calls.Request.TheVariants as request
 

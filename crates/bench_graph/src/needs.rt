@@ -34,7 +34,7 @@ pub fn drawn(alloc: Global, shape: Shape) -> Result<usize> {
     Ok(graph.edges.len())
 }
 
-/// The places of the items that one needs, rising.
+// The places of the items that one needs, rising.
 fn needed(alloc: Global, shape: Shape, place: u32) -> Result<Vec<u32>> {
     let rank = rank_of(shape, place);
     let mut places = Vec::new(alloc);
@@ -53,7 +53,7 @@ fn rank_of(shape: Shape, place: u32) -> u32 {
     }
 }
 
-/// The place of the item of a rank: 617 and 953 undo each other.
+// The place of the item of a rank: 617 and 953 undo each other.
 fn place_of(shape: Shape, rank: u32) -> u32 {
     match shape {
         Shape::Rising => rank % COUNT,

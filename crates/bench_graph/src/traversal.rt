@@ -23,7 +23,7 @@ pub fn drawn(alloc: Global, count: u32) -> Result<usize> {
     Ok(graph.edges.len())
 }
 
-/// The ten places below one.
+// The ten places below one.
 fn below(alloc: Global, place: u32) -> Result<Vec<u32>> {
     let mut places = Vec::new(alloc);
     for before in place.saturating_sub(10)..place {

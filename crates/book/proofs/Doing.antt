@@ -13,7 +13,7 @@ use Rattle.core_state.specs.declared.made.Made.{Made}
 use Rattle.core_state.specs.declared.numbers.Numbers.{Numbers}
 use Rattle.step_relation.specs.Orders.{Command}
 use Rattle.step_relation.specs.Orders as orders
-use Rattle.step_relation.specs.Runs.{IsTiedStep}
+use Rattle.step_relation.specs.Runs.{ClosesOnce, IsTiedStep}
 use Rattle.step_relation.specs.Steps.{Step}
 use Rattle.step_relation.specs.Steps as step
 use Rattle.step_relation.specs.Turns.{IsWorn, trav}
@@ -53,12 +53,14 @@ does_of Is Refuses answer made old new first result ok err (made_as.memory same 
 pub record IsSilentStep (s : StateData) (cs : List Change) (es : List Entry) : Type 0 where
   pub it : Step s cs es
   pub tied : IsTiedStep unjudged s cs es it
+  pub once : (h : List Entry) → ClosesOnce h s cs es it
   pub silent : AreUncalling es
 
 pub stop_step : (s : StateData) (e : ℕ) (cs : List Change) (es : List Entry) → Stops s e cs es → IsSilentStep s cs es
 stop_step s e cs es k = record {
   it = step.stop e k.live k.changes k.entries;
   tied = tt;
+  once = λ h. tt;
   silent = subst AreUncalling (sym k.entries) (tt, tt);
 }
 
@@ -66,6 +68,7 @@ pub enlist_step : (s : StateData) (cs : List Change) (es : List Entry) → Enlis
 enlist_step s cs es k = record {
   it = step.enlist k.few k.below k.changes k.entries;
   tied = tt;
+  once = λ h. tt;
   silent = subst AreUncalling (sym k.entries) (tt, tt);
 }
 
@@ -83,6 +86,7 @@ pub order_step : (s : StateData) (c : StackCommand) (cs : List Change) (es : Lis
 order_step s c cs es k = record {
   it = step.command k.command k.lasts;
   tied = tt;
+  once = λ h. tt;
   silent = command_silent s cs es k.command;
 }
 
@@ -95,7 +99,7 @@ module _ (first : StateData) (origin : Cloud) where
       → Does Is Refuses answer (page s h) (page t i) result → IsKept first origin t i c
   kept_done s t h i c Is Refuses answer result kept steps (done cs es is writes ends) =
       let k = steps cs es is in
-      grows_silently first origin s t h i es cs c c kept k.it k.tied k.silent writes.state writes.entries (unasked c)
+      grows_silently first origin s t h i es cs c c kept k.it k.tied (k.once h) k.silent writes.state writes.entries (unasked c)
   kept_done s t h i c Is Refuses answer result kept steps (refused r why same ends) =
       stays first origin s t h i c c kept (ap (λ (p : Page). p.state) same) (ap (λ (p : Page). p.entries) same)
       (unasked c)

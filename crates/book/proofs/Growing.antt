@@ -19,7 +19,7 @@ use Rattle.core_state.specs.declared.entry.Actor.{Actor}
 use Rattle.core_state.specs.declared.entry.Actor.TheVariants.{Main}
 use Rattle.core_state.specs.declared.entry.Entry.{Entry}
 use Rattle.core_state.specs.declared.entry.What.{What}
-use Rattle.step_relation.specs.Runs.{IsTiedStep, Run, begins, goes_on}
+use Rattle.step_relation.specs.Runs.{ClosesOnce, IsTiedStep, Run, begins, goes_on}
 use Rattle.step_relation.specs.Steps.{IsNote, Step, note, shows, notes, ran, turned}
 use Rattle.step_relation.specs.Writes.{entry_of}
 use Rattle.history.specs.Could.{Allows, could}
@@ -49,13 +49,14 @@ module _ (first : StateData) (origin : Cloud) where
   -- a step that tells of no call
   pub grows_silently : (s t : StateData) (h i es : List Entry) (cs : List Change) (c d : Cloud)
       → IsKept first origin s h c
-      → (step : Step s cs es) → IsTiedStep unjudged s cs es step → AreUncalling es → t ≡ applied cs s → i ≡ h ++ es
+      → (step : Step s cs es) → IsTiedStep unjudged s cs es step → ClosesOnce h s cs es step
+      → AreUncalling es → t ≡ applied cs s → i ≡ h ++ es
       → IsAsBefore c d → IsKept first origin t i d
-  grows_silently s t h i es cs c d kept step tied silent is_t is_i same = record {
+  grows_silently s t h i es cs c d kept step tied once silent is_t is_i same = record {
     engines = kept.engines;
     opens = kept.opens;
     none = kept.none;
-    run = goes_on unjudged s t cs h es i kept.run step (here unjudged unjudged [] refl) tied is_t is_i;
+    run = goes_on unjudged s t cs h es i kept.run step (here unjudged unjudged [] refl) tied once is_t is_i;
     agrees = subst (λ (k : List Entry). Allows (state_of origin) k d) (sym is_i)
         (silence_allows (opening_at first origin) h c d kept.agrees es silent
         (λ token. state-stays token c d same.stays));
@@ -69,16 +70,16 @@ module _ (first : StateData) (origin : Cloud) where
   pub grows_by_call : (s t : StateData) (h i es rest : List Entry) (cs : List Change) (c d : Cloud) (actor : Actor)
       (token : Token)
       (asked : Request) (given : Answered) → IsKept first origin s h c → (step : Step s cs es)
-      → IsTiedStep unjudged s cs es step
+      → IsTiedStep unjudged s cs es step → ClosesOnce h s cs es step
       → es ≡ entry_of actor (what.Call token asked given) ∷ rest → AreUncalling rest → t ≡ applied cs s → i ≡ h ++ es
       → Answers token asked given c d → d.trace ≡ c.trace ++ Called token asked given ∷ []
       → IsKept first origin t i d
-  grows_by_call s t h i es rest cs c d actor token asked given kept step tied is_es silent is_t is_i answers trace =
+  grows_by_call s t h i es rest cs c d actor token asked given kept step tied once is_es silent is_t is_i answers trace =
       record {
         engines = kept.engines;
         opens = kept.opens;
         none = kept.none;
-        run = goes_on unjudged s t cs h es i kept.run step (here unjudged unjudged [] refl) tied is_t is_i;
+        run = goes_on unjudged s t cs h es i kept.run step (here unjudged unjudged [] refl) tied once is_t is_i;
         agrees = subst (λ (k : List Entry). Allows (state_of origin) k d) (sym told_is)
             (call_allows (opening_at first origin) h c d kept.agrees rest actor token asked given silent answers);
         trace = trace ∙ ap (λ (xs : List Traced). xs ++ Called token asked given ∷ []) kept.trace
@@ -111,7 +112,7 @@ module _ (first : StateData) (origin : Cloud) where
   pub kept_noted : (s : StateData) (h i : List Entry) (c : Cloud) (it : What) → IsNote it → IsKept first origin s h c
       → i ≡ h ++ entry_of Main it ∷ [] → IsKept first origin s i c
   kept_noted s h i c it noted kept is_i =
-      grows_silently s s h i (entry_of Main it ∷ []) [] c c kept (note it noted refl refl) tt
+      grows_silently s s h i (entry_of Main it ∷ []) [] c c kept (note it noted refl refl) tt tt
       (uncalled_note it noted, tt) refl is_i (unasked c)
 
   -- an opened book

@@ -10,7 +10,9 @@ use Rattle.soundness.specs.Laws.{opening_at}
 use Rattle.soundness.specs.Sound.{Sound}
 use Rattle.headline_laws.proofs.Empty.{empty_is_sound}
 use Rattle.whole_laws.proofs.Whole.{runs_headline, runs_sound}
-use Rattle.book.specs.Kept.{HasHeadline, IsKept, Shown, registries}
+use Rattle.dep_graph.specs.Lists.{IsRising}
+use Rattle.book.specs.Kept.{HasHeadline, IsKept, IsSoundBook, Shown, registries}
+use Rattle.book.proofs.Rising.{Rises, engines_rise, is_rising, run_rises}
 
 -- a list that has something isn't empty
 filled : {A : Type 0} (xs : List A) (x : A) → Contains xs x → xs ≢ []
@@ -32,6 +34,11 @@ module _ (first : StateData) (origin : Cloud) (s : StateData) (h : List Entry) (
   pub sound : Sound (opening_at first origin) h s
   sound = runs_sound registries (opening_at first origin) s h first_sound kept.run possible
 
+  -- and the live engines stand by rising number
+  pub rising : IsRising s.live
+  rising = is_rising s.live (run_rises registries (opening_at first origin) first_sound
+      (subst (λ (x : StateData). Rises x.live) (sym kept.opens) (engines_rise 1 kept.engines)) s h kept.run possible)
+
 -- the main theorem of what a book shows
 pub headline_of : {P : Type 0} (cloud_of : P → Cloud) (b : Shown P)
     → IsKept b.opening (cloud_of b.origin) b.state b.entries (cloud_of b.cloud) → HasHeadline cloud_of b
@@ -40,4 +47,14 @@ headline_of cloud_of b kept = record {
       (first_sound b.opening (cloud_of b.origin) b.state b.entries (cloud_of b.cloud) kept) kept.run
       (possible b.opening (cloud_of b.origin) b.state b.entries (cloud_of b.cloud) kept);
   agrees = kept.agrees;
+}
+
+-- and its state is sound
+pub sound_book : {P : Type 0} (cloud_of : P → Cloud) (b : Shown P)
+    → IsKept b.opening (cloud_of b.origin) b.state b.entries (cloud_of b.cloud) → IsSoundBook cloud_of b
+sound_book cloud_of b kept = record {
+  engines = kept.engines;
+  opens = kept.opens;
+  none = kept.none;
+  sound = sound b.opening (cloud_of b.origin) b.state b.entries (cloud_of b.cloud) kept;
 }

@@ -5,11 +5,13 @@ pub mod Growing
 pub mod Headlines
 pub mod Conditions
 pub mod Telling
+pub mod Lefts
 pub mod Tolds
 pub mod KeptTurned
 pub mod QuietTurns
 pub mod Calling
 pub mod Engined
+pub mod Rising
 pub mod Doing
 pub mod Beginnings
 pub mod LostAlone

@@ -24,16 +24,19 @@ use Rattle.step_relation.specs.Asks.{Asks, creates, deletes, updates}
 use Rattle.heat_plan.specs.declared.calls.Answered.TheVariants as answer
 use Rattle.heat_plan.specs.declared.calls.Request.TheVariants as request
 use Rattle.book.specs.Requests.{HasAsked, HasLooked, HasPolled}
-use Rattle.book.specs.Scenes.{Told}
+use Rattle.book.specs.Scenes.{Polls, Told}
+use Rattle.book.proofs.Lefts.{failed_polls, gone_polls, lowers_polls, others_keep, spares, stays_polls, takes_polls}
 
 -- a call that is told, and whose answer isn't Failed
 by_notes : (token : Token) (asked : Request) (given : Answered) (old new : Cloud) → given ≢ answer.Failed
-    → Answers token asked given old new → Notes (Called token asked given) old new → Told token asked given old new
-by_notes token asked given old new fine moves noted = record {
+    → Answers token asked given old new → Polls token given old new → Notes (Called token asked given) old new
+    → Told token asked given old new
+by_notes token asked given old new fine moves polls noted = record {
   answers = moves;
   trace = noted.trace;
   faults = noted.faults;
   cause = λ failed. absurd (fine failed);
+  polls = polls;
 }
 
 by_failure : (token : Token) (asked : Request) (old new : Cloud) → Answers token asked answer.Failed old new
@@ -43,6 +46,7 @@ by_failure token asked old new moves h = record {
   trace = h.noted.trace;
   faults = h.noted.faults;
   cause = λ e. h.cause;
+  polls = failed_polls token old new asked h;
 }
 
 -- a row is asked one thing by its act
@@ -73,13 +77,16 @@ module _ (token : Token) (r : Row) (old new : Cloud) (result : Answer) where
   created_says act begun quota failed memory asked asks = asks_by r asked asks (λ a. HasAsked token a old new result)
       (λ is. record {
         begun = λ e. by_notes token _ answer.Begun old new (λ i. cc)
-            ((calls-move old new token).create r.kind.name r.props (begun e)) (begun e).noted;
+            ((calls-move old new token).create r.kind.name r.props (begun e))
+            (takes_polls token old new (request.Create r.kind.name r.props) answer.Begun (λ i. cc) (begun e).effect)
+            (begun e).noted;
         quota = λ e. (
           r.kind.name,
           r.props,
           refl,
           by_notes token _ answer.Quota old new (λ i. cc)
-              ((calls-move old new token).quota r.kind.name r.props (quota e)) (quota e).noted,
+              ((calls-move old new token).quota r.kind.name r.props (quota e))
+              (stays_polls token old new answer.Quota (λ i. cc) (quota e).stays) (quota e).noted,
         );
         failed = λ e. by_failure token _ old new
             ((calls-move old new token).create_failed r.kind.name r.props (failed e)) (failed e);
@@ -98,7 +105,8 @@ module _ (token : Token) (r : Row) (old new : Cloud) (result : Answer) where
       (λ is. let e = sym act ∙ is in cc)
       (λ is. subst (λ (p : Members). HasAsked token (request.Update p) old new result) (sym props_are) (record {
         begun = λ e. by_notes token _ answer.Begun old new (λ i. cc)
-            ((calls-move old new token).update props (begun e)) (begun e).noted;
+            ((calls-move old new token).update props (begun e))
+            (takes_polls token old new (request.Update props) answer.Begun (λ i. cc) (begun e).effect) (begun e).noted;
         quota = λ e. absurd (quota e);
         failed = λ e. by_failure token _ old new ((calls-move old new token).update_failed props alive (failed e))
             (failed e);
@@ -116,7 +124,7 @@ module _ (token : Token) (r : Row) (old new : Cloud) (result : Answer) where
       (λ is. let e = sym act ∙ is in cc) (λ is. let e = sym act ∙ is in cc)
       (λ is. record {
         begun = λ e. by_notes token _ answer.Begun old new (λ i. cc) ((calls-move old new token).delete (begun e))
-            (begun e).noted;
+            (takes_polls token old new request.Delete answer.Begun (λ i. cc) (begun e).effect) (begun e).noted;
         quota = λ e. absurd (quota e);
         failed = λ e. by_failure token _ old new ((calls-move old new token).delete_failed (failed e)) (failed e);
         memory = memory;
@@ -131,11 +139,15 @@ module _ (token : Token) (old new : Cloud) where
       → (result ≡ polled.Memory → IsAsBefore old new) → HasPolled token old new result
   poll_says result alive waits ready broken failed memory = record {
     not_yet = λ e. by_notes token _ answer.NotYet old new (λ i. cc)
-        ((calls-move old new token).not_yet alive (waits e)) (waits e).noted;
+        ((calls-move old new token).not_yet alive (waits e)) (lowers_polls token old new (waits e).lowers)
+        (waits e).noted;
     ready = λ facts e. by_notes token _ (answer.Ready facts) old new (λ i. cc)
-        ((calls-move old new token).ready facts (ready facts e)) (ready facts e).noted;
+        ((calls-move old new token).ready facts (ready facts e))
+        (spares token old new (answer.Ready facts) (λ i. cc) (others_keep token old new (ready facts e).others))
+        (ready facts e).noted;
     broken = λ code e. by_notes token _ (answer.Broken code) old new (λ i. cc)
-        ((calls-move old new token).broken code alive (broken code e)) (broken code e).noted;
+        ((calls-move old new token).broken code alive (broken code e))
+        (stays_polls token old new (answer.Broken code) (λ i. cc) (broken code e).stays) (broken code e).noted;
     failed = λ e. by_failure token _ old new ((calls-move old new token).poll_failed alive (failed e)) (failed e);
     memory = memory;
   }
@@ -146,9 +158,9 @@ module _ (token : Token) (old new : Cloud) where
       → (result ≡ looked.Memory → IsAsBefore old new) → HasLooked token old new result
   look_says result gone lingers failed memory = record {
     gone = λ e. by_notes token _ answer.Gone old new (λ i. cc) ((calls-move old new token).gone (gone e))
-        (gone e).noted;
+        (gone_polls token old new (gone e)) (gone e).noted;
     not_yet = λ e. by_notes token _ answer.NotYet old new (λ i. cc) ((calls-move old new token).lingers (lingers e))
-        (lingers e).noted;
+        (lowers_polls token old new (lingers e).lowers) (lingers e).noted;
     failed = λ e. by_failure token _ old new ((calls-move old new token).gone_failed (failed e)) (failed e);
     memory = memory;
   }

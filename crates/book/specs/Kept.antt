@@ -12,6 +12,7 @@ use Rattle.history.specs.Could.{Allows}
 use Rattle.history.specs.Opening.{Opening, bare, first_of}
 use Rattle.soundness.specs.Headline.{Headline}
 use Rattle.soundness.specs.Laws.{opening_at}
+use Rattle.soundness.specs.Sound.{Sound}
 use Rattle.core_state.specs.declared.entry.What.TheVariants as what
 
 -- the state at the opening; the state and the history since; the cloud, now and when the opening had asked it
@@ -84,3 +85,10 @@ opening_of cloud_of b = opening_at b.opening (cloud_of b.origin)
 pub record HasHeadline {P : Type 0} (cloud_of : P → Cloud) (b : Shown P) : Type 0 where
   pub headline : Headline registries (opening_of cloud_of b) b.entries b.state
   pub agrees : Allows (first_of (opening_of cloud_of b)) b.entries (cloud_of b.cloud)
+
+-- it began with nothing, with so many engines over an empty cloud, and its state is sound
+pub record IsSoundBook {P : Type 0} (cloud_of : P → Cloud) (b : Shown P) : Type 0 where
+  pub engines : ℕ
+  pub opens : b.opening ≡ opened engines
+  pub none : HasNone (cloud_of b.origin)
+  pub sound : Sound (opening_of cloud_of b) b.entries b.state

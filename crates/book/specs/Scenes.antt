@@ -1,5 +1,5 @@
 -- The state, the history and the cloud at one moment, and what a call makes of them.
-use Rattle.std.specs.Prelude.{List, [], ◌++◌, ◌∷◌, ◌≡◌, ◌≤◌}
+use Rattle.std.specs.Prelude.{List, [], suc, ◌++◌, ◌∷◌, ◌≡◌, ◌≢◌, ◌≤◌}
 use Rattle.heat_value.specs.Counts.{Rose}
 use Rattle.heat_plan.specs.declared.calls.Answered.{Answered}
 use Rattle.heat_plan.specs.declared.calls.Request.{Request}
@@ -27,12 +27,18 @@ scene state entries cloud = record { state = state; entries = entries; cloud = c
 abbrev pub scene_of : {P : Type 0} → (P → Cloud) → Shown P → Scene
 scene_of cloud_of b = scene b.state b.entries (cloud_of b.cloud)
 
+-- NotYet comes only where polls are left for the token, and takes one; other tokens keep theirs
+pub record Polls (token : Token) (given : Answered) (old new : Cloud) : Type 0 where
+  pub waits : given ≡ answer.NotYet → suc (new.left token) ≡ old.left token
+  pub others : (t : Token) → t ≢ token → new.left t ≡ old.left t
+
 -- a call with its answer: what it made of the cloud
 pub record Told (token : Token) (asked : Request) (given : Answered) (old new : Cloud) : Type 0 where
   pub answers : Answers token asked given old new
   pub trace : new.trace ≡ old.trace ++ Called token asked given ∷ []
   pub faults : old.faults ≤ new.faults
   pub cause : given ≡ answer.Failed → Rose old.faults new.faults
+  pub polls : Polls token given old new
 
 -- the changes are made, and the entries told
 pub record Makes (cs : List Change) (es : List Entry) (old new : Scene) : Type 0 where

@@ -1,6 +1,7 @@
 //! The book: what it shows, and its calls.
 ghost use Rattle.std.specs.Prelude.{◌≡◌, ◌++◌, ◌∷◌, ◌↔◌, ◌-◌, ◌^◌, ◌≤◌, ◌<◌, [], ℕ, Bool, List};
 ghost use Rattle.std.specs.Prelude.{min, IsTrue, OnOk, OnErr, Contains};
+ghost use Rattle.dep_graph.specs.Lists.{IsRising};
 ghost use Rattle.heat_plan.specs.Plans.{PlanData};
 ghost use Rattle.heat_plan.specs.declared.token.Token.{Token as token_type};
 ghost use Rattle.core_state.specs.declared.entry.Actor.TheVariants.{Main};
@@ -11,7 +12,7 @@ ghost use Rattle.command_steps.specs.Answers.{Cancels, Creates, Deletes, Updates
 ghost use Rattle.takeover_steps.specs.Engines.{Enlists, Stops};
 ghost use Rattle.provider.specs.Calls.{ListsNone};
 ghost use Rattle.provider.specs.Changes.{IsAsBefore};
-ghost use Rattle.book.specs.Kept.{Shown, IsKept, IsSameBook, HasRun, HasHeadline};
+ghost use Rattle.book.specs.Kept.{Shown, IsKept, IsSameBook, HasRun, HasHeadline, IsSoundBook};
 ghost use Rattle.book.specs.Openings.{HasOpened, HasStranger};
 ghost use Rattle.book.specs.Makings.{Does};
 ghost use Rattle.book.specs.Quiet.{IsIdle, number_of, page};
@@ -187,9 +188,10 @@ impl<P: Provider> Book<P> {
     }
 
     /// What every book keeps: its history is that of a run, which the cloud has followed, and the
-    /// main theorem holds of it. It does nothing.
+    /// main theorem holds of it. Its state is sound. It does nothing.
     pub fn promises(&self)
         ensures run { HasRun P.cloud self.now }
+        ensures sound { IsSoundBook P.cloud self.now }
         ensures headline { HasHeadline P.cloud self.now }
     {
         let _ = &self.entries;
@@ -220,6 +222,7 @@ impl<P: Provider> Book<P> {
     pub fn live(&self) -> &[EngineNo]
         ensures value { result.now ≡ self.now.state.live }
         ensures drawn { (e : ℕ) → Contains result.now e → e < self.now.state.next.engine }
+        ensures rising { IsRising result.now }
     {
         self.state.live()
     }

@@ -1,5 +1,6 @@
 -- How jobs and rows are written, as the counts see it.
-use Rattle.std.proofs.Common.{◌≡◌, ◌⊎◌, inl, inr, ℕ, ◌+◌, ◌*◌, List, Option, Some, None, refl, sym, ap, subst, ◌∙◌, arith}
+use Rattle.std.proofs.Common.{◌≡◌, ◌⊎◌, inl, inr, ℕ, ◌+◌, ◌*◌, List, Option, Some, None, refl, sym, ap, subst, ◌∙◌}
+use Rattle.std.proofs.Common.{arith}
 use Rattle.std.specs.Prelude.{Contains}
 use Rattle.heat_plan.specs.declared.phase.Status.TheVariants.{InProgress}
 use Rattle.heat_plan.specs.declared.token.Token.{Token}
@@ -22,12 +23,15 @@ use Rattle.bound_laws.proofs.Own.{job_sum}
 use Rattle.bound_laws.proofs.Rows.{IsFar, RowsNear, near_cut, near_put, near_same}
 
 -- whether a stack's rollback may come
-pub may_or_not : (s : StateData) (name : List ℕ) → ((st : Stack) × MayRoll s name st) ⊎ ((st : Stack) → ¬ MayRoll s name st)
+pub may_or_not : (s : StateData) (name : List ℕ)
+    → ((st : Stack) × MayRoll s name st) ⊎ ((st : Stack) → ¬ MayRoll s name st)
 may_or_not s name = by (stack_at s.stacks name) refl where
-  by : (o : Option Stack) → stack_at s.stacks name ≡ o → ((st : Stack) × MayRoll s name st) ⊎ ((st : Stack) → ¬ MayRoll s name st)
+  by : (o : Option Stack) → stack_at s.stacks name ≡ o
+      → ((st : Stack) × MayRoll s name st) ⊎ ((st : Stack) → ¬ MayRoll s name st)
   by None none = inr (λ st k. let at = k.in_table in cc)
   by (Some st) at = elim (progress_or_not st.status) [
-    | inr not ↦ inr (λ x k. not (subst (λ (y : Stack). y.status ≡ InProgress) (same_some x st k.in_table at) k.unmarked))
+    | inr not ↦
+        inr (λ x k. not (subst (λ (y : Stack). y.status ≡ InProgress) (same_some x st k.in_table at) k.unmarked))
     | inl under ↦ elim (flag_or_not (past_of s name).rollback) [
       | inr off ↦ inr (λ x k. off k.rollback)
       | inl on ↦ inl (st, record { in_table = at; unmarked = under; rollback = on })
@@ -43,7 +47,11 @@ module _ (s t : StateData) (lives : t.live ≡ s.live) where
   live_is f c = subst (λ (l : List ℕ). Contains l f) (sym lives) c
 
   pub jobs_same : (e : ℕ) → t.jobs ≡ s.jobs → JobsWere s t e
-  jobs_same e is = record { else_ = λ f k at ne. subst (λ (l : List Job). job_at l f ≡ Some k) is at; live = live_was; alive = live_is }
+  jobs_same e is = record {
+    else_ = λ f k at ne. subst (λ (l : List Job). job_at l f ≡ Some k) is at;
+    live = live_was;
+    alive = live_is;
+  }
 
   pub jobs_put : (e : ℕ) (j : Job) → j.engine ≡ e → t.jobs ≡ put_job j s.jobs → JobsWere s t e
   jobs_put e j own is = record {
@@ -72,25 +80,32 @@ module _ (s t : StateData) (lives : t.live ≡ s.live) where
     alive = live_is;
   }
 
-pub own_is : (t : StateData) (jobs : List Job) (e : ℕ) (j : Job) → j.engine ≡ e → t.jobs ≡ put_job j jobs → (q : Job) → job_at t.jobs e ≡ Some q → q ≡ j
+pub own_is : (t : StateData) (jobs : List Job) (e : ℕ) (j : Job) → j.engine ≡ e → t.jobs ≡ put_job j jobs → (q : Job)
+    → job_at t.jobs e ≡ Some q → q ≡ j
 own_is t jobs e j own is q at = same_some q j (subst (λ (l : List Job). job_at l e ≡ Some q) is at)
     (subst (λ (f : ℕ). job_at (put_job j jobs) f ≡ Some j) own (job_here j jobs))
 
 pub own_gone : (s t : StateData) (e : ℕ) → t.jobs ≡ cut_job e s.jobs → (q : Job) → ¬ job_at t.jobs e ≡ Some q
-own_gone s t e is q at = let none = job_gone e s.jobs in let some = subst (λ (l : List Job). job_at l e ≡ Some q) is at in cc
+own_gone s t e is q at = let none = job_gone e s.jobs in
+    let some = subst (λ (l : List Job). job_at l e ≡ Some q) is at in cc
 
 -- rows: each later one was there with its token, and a current one that is far was so
 pub record RowForm (s t : StateData) : Type 0 where
-  pub full : (i : ℕ) (r : Row) → row_at t.rows i ≡ Some r → (o : Row) × (row_at s.rows i ≡ Some o) × (token_of r ≡ token_of o)
+  pub full : (i : ℕ) (r : Row) → row_at t.rows i ≡ Some r → (o : Row) × (row_at s.rows i ≡ Some o)
+      × (token_of r ≡ token_of o)
   pub near : RowsNear s t
 
 pub form_were : (s t : StateData) → RowForm s t → RowsWere s t
 form_were s t f = record { were = λ n r at lt. f.full n r at }
 
 pub form_same : (s t : StateData) → t.rows ≡ s.rows → RowForm s t
-form_same s t is = record { full = λ i r at. (r, subst (λ (l : List Row). row_at l i ≡ Some r) is at, refl); near = near_same s t is }
+form_same s t is = record {
+  full = λ i r at. (r, subst (λ (l : List Row). row_at l i ≡ Some r) is at, refl);
+  near = near_same s t is;
+}
 
-pub form_put : (s t : StateData) (r q : Row) → row_at s.rows q.no ≡ Some r → token_of q ≡ token_of r → t.rows ≡ put_row q s.rows → (IsCurrent q → IsCurrent r)
+pub form_put : (s t : StateData) (r q : Row) → row_at s.rows q.no ≡ Some r → token_of q ≡ token_of r
+    → t.rows ≡ put_row q s.rows → (IsCurrent q → IsCurrent r)
     → ((st : Stack) → MayRoll s q.stack st → IsFar st.trav q → IsFar st.trav r) → RowForm s t
 form_put s t r q at token is current far = record {
   full = λ i x found. elim (row_put q s.rows (subst (λ (l : List Row). row_at l i ≡ Some x) is found)) [
@@ -109,7 +124,8 @@ form_cut s t c is = record {
 -- the whole
 abbrev pub all_work : (left : Token → ℕ) (s : StateData) (n : ℕ) → IsWork left s n → ℕ
 all_work left s n w = 69 * w.letters + 69 * w.nodes + 70 * w.stopped + job_sum left s n w + 69 * w.late
-    + 69 * (w.rolls_are.letters + w.rolls_are.nodes + w.rolls_are.jobs + w.rolls_are.items + w.rolls_are.rows + w.rolls_are.far)
+    + 69 * (w.rolls_are.letters + w.rolls_are.nodes + w.rolls_are.jobs + w.rolls_are.items + w.rolls_are.rows
+    + w.rolls_are.far)
 
 pub is_all : (left : Token → ℕ) (s : StateData) (n : ℕ) (w : IsWork left s n) → n ≡ all_work left s n w
 is_all left s n w = let x = w.sum in let y = w.rolls_are.sum in omega (arith, x, y)

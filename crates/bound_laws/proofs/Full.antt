@@ -7,16 +7,19 @@ use Rattle.core_state.specs.State.{StateData}
 use Rattle.heat_plan.specs.declared.token.Token.{Token}
 use Rattle.table_laws.proofs.Rows.{same_some}
 use Rattle.bound_laws.specs.Counts.{Counts}
+use Rattle.bound_laws.specs.Exists.{FullWorkIsOne}
 use Rattle.bound_laws.specs.Full.{FullWorkExists, IsFullWork, IsJob, Sizes, WorkIsBounded, WorkIsLess}
 use Rattle.bound_laws.specs.Work.{IsAt, IsLate, IsLeft}
 use Rattle.bound_laws.proofs.Sets.{at_most, joined}
-use Rattle.bound_laws.proofs.Told.{late_told, left_told, letters_told, nodes_told, polls_few, rolls_one, rolls_told, stage_told}
+use Rattle.bound_laws.proofs.Told.{late_told, left_told, letters_told, nodes_told, polls_few, rolls_one, rolls_told}
+use Rattle.bound_laws.proofs.Told.{stage_told}
 
 pub full_exists : FullWorkExists
 full_exists s =
     let none : Token → ℕ = λ t. 0 in
     let l = letters_told none s in let k = nodes_told none s in let x = left_told none s in
-    let a = stage_told none s Taken in let b = stage_told none s Asking in let p = stage_told none s Polling in let c = stage_told none s Ending in
+    let a = stage_told none s Taken in let b = stage_told none s Asking in let p = stage_told none s Polling in
+    let c = stage_told none s Ending in
     let d = late_told none s in let r = rolls_told none s in (
       69 * l.0 + 69 * k.0 + 70 * x.0 + 68 * a.0 + 67 * b.0 + 66 * p.0 + c.0 + 69 * d.0 + 69 * r.0,
       record {
@@ -55,6 +58,26 @@ work_less left s n m few a b =
     let r = rolls_one s a.rolls b.rolls a.rolls_are b.rolls_are in
     let e = a.sum in let g = b.sum in
     omega (arith, l, o, x, t, q, p, c, d, r, e, g)
+
+full_at_most : (s : StateData) (n m : ℕ) → IsFullWork s n → IsFullWork s m → n ≤ m
+full_at_most s n m a b =
+    let l = at_most a.letters_are b.letters_are (λ x k. k) in
+    let o = at_most a.nodes_are b.nodes_are (λ x k. k) in
+    let x = at_most a.stopped_are b.stopped_are (λ x k. k) in
+    let t = at_most a.taken_are b.taken_are (λ x k. k) in
+    let q = at_most a.asking_are b.asking_are (λ x k. k) in
+    let p = at_most a.polling_are b.polling_are (λ x k. k) in
+    let c = at_most a.ending_are b.ending_are (λ x k. k) in
+    let d = at_most a.late_are b.late_are (λ x k. k) in
+    let r = rolls_one s a.rolls b.rolls a.rolls_are b.rolls_are in
+    let e = a.sum in let g = b.sum in
+    omega (arith, l, o, x, t, q, p, c, d, r, e, g)
+
+pub full_one : FullWorkIsOne
+full_one s n m a b =
+    let le = full_at_most s n m a b in
+    let ge = full_at_most s m n b a in
+    omega (arith, le, ge)
 
 module _ (s : StateData) (n : ℕ) (z : Sizes s) (w : IsFullWork s n) where
   stage_one : (x y : Stage) (e : ℕ) → IsAt x s e → IsAt y s e → x ≡ y

@@ -1,3 +1,4 @@
+pub mod Falls
 pub mod Spans
 pub mod Sets
 pub mod Still
@@ -12,6 +13,8 @@ pub mod Ended
 pub mod Onward
 pub mod Moving
 pub mod Marked
+pub mod Letters
+pub mod Settled
 pub mod Rolling
 pub mod Turning
 pub mod Listed
@@ -19,3 +22,4 @@ pub mod Existing
 pub mod Told
 pub mod Full
 pub mod Few
+pub mod Remains

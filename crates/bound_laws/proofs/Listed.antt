@@ -6,10 +6,12 @@ use Rattle.next_laws.proofs.Listings.{cons_cases, in_head, in_tail, no_member}
 use Rattle.turn_laws.proofs.Decide.{Decided, member_or_not}
 use Rattle.bound_laws.specs.Counts.{AreOnce, Counts}
 use Rattle.bound_laws.proofs.Sets.{both_once, picked}
-use Rattle.bound_laws.proofs.Spans.{beside, beside_length, beside_once, beside_was, in_beside, in_upto, length-append, upto, upto_length, upto_once}
+use Rattle.bound_laws.proofs.Spans.{beside, beside_length, beside_once, beside_was, in_beside, in_upto, length-append}
+use Rattle.bound_laws.proofs.Spans.{upto, upto_length, upto_once}
 
 -- those of a list that are of the kind
-pub among : {A : Type 0} (P : A → Type 0) → ((x : A) → Decided (P x)) → (xs : List A) → AreOnce xs → ((x : A) → P x → Contains xs x) → (n : ℕ) × Counts P n
+pub among : {A : Type 0} (P : A → Type 0) → ((x : A) → Decided (P x)) → (xs : List A) → AreOnce xs
+    → ((x : A) → P x → Contains xs x) → (n : ℕ) × Counts P n
 among P d xs once all = let p = picked P d xs once in (
   length p.list,
   record {
@@ -35,7 +37,10 @@ singled {A = A} same (x ∷ xs) = let rest = singled same xs in elim (member_or_
   | inl there ↦ record {
     list = rest.list;
     once = rest.once;
-    has = λ y c. elim (cons_cases xs x y c) [ inl is ↦ subst (Contains rest.list) (sym is) there | inr later ↦ rest.has y later ];
+    has = λ y c. elim (cons_cases xs x y c) [
+      | inl is ↦ subst (Contains rest.list) (sym is) there
+      | inr later ↦ rest.has y later
+    ];
   }
   | inr new ↦ record {
     list = x ∷ rest.list;
@@ -65,19 +70,23 @@ module _ {A : Type 0} (size : A → ℕ) where
   in_pairs [] p c lt = absurd (no_member p.0 c)
   in_pairs (x ∷ xs) p c lt = elim (cons_cases xs x p.0 c) [
     | inl is ↦ Contains-append_left (beside x (upto (size x))) (pairs xs) p
-        (subst (λ (y : A). Contains (beside y (upto (size y))) p) is (in_beside p.0 (upto (size p.0)) p.1 (in_upto (size p.0) p.1 lt)))
+        (subst (λ (y : A). Contains (beside y (upto (size y))) p) is
+        (in_beside p.0 (upto (size p.0)) p.1 (in_upto (size p.0) p.1 lt)))
     | inr later ↦ Contains-append_right (beside x (upto (size x))) (pairs xs) p (in_pairs xs p later lt)
   ]
 
   pairs_once : (xs : List A) → AreOnce xs → AreOnce (pairs xs)
   unfolding pairs
   pairs_once [] o = tt
-  pairs_once (x ∷ xs) o = both_once (beside x (upto (size x))) (pairs xs) (beside_once x (upto (size x)) (upto_once (size x))) (pairs_once xs o.1)
+  pairs_once (x ∷ xs) o = both_once (beside x (upto (size x))) (pairs xs)
+      (beside_once x (upto (size x)) (upto_once (size x))) (pairs_once xs o.1)
       (λ p l r. o.0 (subst (Contains xs) (beside_was x (upto (size x)) p l).0 (pairs_was xs p r)))
 
-  pub paired : (P : A × ℕ → Type 0) → ((p : A × ℕ) → Decided (P p)) → (xs : List A) → AreOnce xs → ((p : A × ℕ) → P p → Contains xs p.0 × (p.1 < size p.0))
+  pub paired : (P : A × ℕ → Type 0) → ((p : A × ℕ) → Decided (P p)) → (xs : List A) → AreOnce xs
+      → ((p : A × ℕ) → P p → Contains xs p.0 × (p.1 < size p.0))
       → (n : ℕ) × Counts P n
-  paired P d xs once all = among P d (pairs xs) (pairs_once xs once) (λ p is. let (c, lt) = all p is in in_pairs xs p c lt)
+  paired P d xs once all = among P d (pairs xs) (pairs_once xs once)
+      (λ p is. let (c, lt) = all p is in in_pairs xs p c lt)
 
 -- 66 beside each
 pub pairs_length : {A : Type 0} (xs : List A) → length (pairs (λ (x : A). 66) xs) ≡ 66 * length xs

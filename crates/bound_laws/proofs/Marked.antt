@@ -1,4 +1,5 @@
--- What a rollback is read off: a move that marks its stack as failed, its graph's update nodes, and what the stack would go back to.
+-- What a rollback is read off: a move that marks its stack as failed, its graph's update nodes, and what the stack
+-- would go back to.
 use Rattle.std.proofs.Common.{◌≡◌, ◌≤◌, ℕ, List, [], ◌∷◌, length, Some, refl, arith}
 use Rattle.std.specs.Prelude.{Contains}
 use Rattle.heat_plan.specs.declared.item.Item.{Item}

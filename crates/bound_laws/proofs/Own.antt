@@ -1,5 +1,6 @@
 -- The engine's own job: what it stands for where it ends, goes on, or begins.
-use Rattle.std.proofs.Common.{◌≡◌, ◌≢◌, ◌⊎◌, inl, inr, ◌<◌, ◌≤◌, ℕ, ◌+◌, ◌*◌, List, Some, None, sym, ap, subst, ◌∙◌, arith}
+use Rattle.std.proofs.Common.{◌≡◌, ◌≢◌, ◌⊎◌, inl, inr, ◌<◌, ◌≤◌, ℕ, ◌+◌, ◌*◌, List, Some, None, sym, ap, subst, ◌∙◌}
+use Rattle.std.proofs.Common.{arith}
 use Rattle.std.specs.Prelude.{Contains}
 use Rattle.heat_plan.specs.declared.token.Token.{Token}
 use Rattle.row_table.specs.Rows.{row_at}
@@ -16,10 +17,12 @@ use Rattle.step_relation.specs.Rows.{token_of}
 use Rattle.soundness.specs.MailFits.{IsStale, IsUnderWay, polls}
 use Rattle.soundness.specs.Sound.{Standing}
 use Rattle.table_laws.proofs.Rows.{row-key, same_some}
-use Rattle.bound_laws.specs.Bound.{IsWork, PollsFall}
+use Rattle.bound_laws.specs.Bound.{IsWork}
 use Rattle.bound_laws.specs.Rolls.{MayRoll}
 use Rattle.bound_laws.specs.Work.{IsAt, IsPoll}
-use Rattle.bound_laws.proofs.Jobs.{JobsWere, RowsWere, at_comes, at_falls, at_goes, late_falls, late_goes, left_falls, poll_goes, polls_come, polls_fall, roll_falls, roll_goes, two_polls_go}
+use Rattle.bound_laws.proofs.Falls.{PollsFall}
+use Rattle.bound_laws.proofs.Jobs.{JobsWere, RowsWere, at_comes, at_falls, at_goes, late_falls, late_goes, left_falls}
+use Rattle.bound_laws.proofs.Jobs.{poll_goes, polls_come, polls_fall, roll_falls, roll_goes, two_polls_go}
 use Rattle.bound_laws.proofs.Still.{Eases, Still, stale_was}
 
 -- what the jobs of live engines stand for, but for those that are late
@@ -34,8 +37,10 @@ stage_sum Polling = 2
 stage_sum Ending = 1
 
 -- no other token is given polls
-pub other_polls : (before after : Token → ℕ) (s : StateData) (e : ℕ) (given : Given) → Standing s → PollsFall before after s e given
-    → (f : ℕ) (k : Job) (o : Row) → f ≢ e → job_at s.jobs f ≡ Some k → row_at s.rows k.row ≡ Some o → after (token_of o) ≤ before (token_of o)
+pub other_polls : (before after : Token → ℕ) (s : StateData) (e : ℕ) (given : Given) → Standing s
+    → PollsFall before after s e given
+    → (f : ℕ) (k : Job) (o : Row) → f ≢ e → job_at s.jobs f ≡ Some k → row_at s.rows k.row ≡ Some o
+    → after (token_of o) ≤ before (token_of o)
 other_polls before after s e given h falls f k o ne its found = falls.others (token_of o) (λ own.
     let same : own.row.no ≡ o.no = ap (λ (t : Token). t.row) own.token in
     let mine = row-key s.rows own.job.row own.row own.found in
@@ -43,14 +48,17 @@ other_polls before after s e given h falls f k o ne its found = falls.others (to
     ne (h.links.locked.apart f e k own.job its own.its (sym theirs ∙ (sym same ∙ mine))))
 
 -- an engine without a job calls for nobody
-pub free_polls : (before after : Token → ℕ) (s : StateData) (e : ℕ) (given : Given) → job_at s.jobs e ≡ None → PollsFall before after s e given
+pub free_polls : (before after : Token → ℕ) (s : StateData) (e : ℕ) (given : Given) → job_at s.jobs e ≡ None
+    → PollsFall before after s e given
     → (t : Token) → after t ≤ before t
 free_polls before after s e given none falls t = falls.others t (λ own. let its = own.its in no_job own.job its) where
   no_job : (j : Job) → job_at s.jobs e ≡ Some j → ⊥
   no_job j its = cc
 
-module _ (before after : Token → ℕ) (s t : StateData) (h : Standing s) (e : ℕ) (jobs : JobsWere s t e) (rows : RowsWere s t)
-    (others : (f : ℕ) (k : Job) (o : Row) → f ≢ e → job_at s.jobs f ≡ Some k → row_at s.rows k.row ≡ Some o → after (token_of o) ≤ before (token_of o))
+module _ (before after : Token → ℕ) (s t : StateData) (h : Standing s) (e : ℕ) (jobs : JobsWere s t e)
+    (rows : RowsWere s t)
+    (others : (f : ℕ) (k : Job) (o : Row) → f ≢ e → job_at s.jobs f ≡ Some k → row_at s.rows k.row ≡ Some o
+    → after (token_of o) ≤ before (token_of o))
     (n m : ℕ) (a : IsWork before s n) (b : IsWork after t m) (j : Job) (its : job_at s.jobs e ≡ Some j) where
   is_j : (k : Job) → job_at s.jobs e ≡ Some k → k ≡ j
   is_j k at = same_some k j at its
@@ -63,7 +71,12 @@ module _ (before after : Token → ℕ) (s t : StateData) (h : Standing s) (e : 
   has_poll : Contains s.live e → j.stage ≡ Polling → (i : ℕ) → i < 2 → IsPoll before s (e, i)
   has_poll live is i lt =
       let row = h.shape.jobs.under_way e j its (subst IsUnderWay (sym is) polls) in
-      record { at = record { job = j; its = its; live = live; stage_is = is }; row = row.row; found = row.found; below = omega (arith, lt) }
+      record {
+        at = record { job = j; its = its; live = live; stage_is = is };
+        row = row.row;
+        found = row.found;
+        below = omega (arith, lt);
+      }
 
   no_poll : (stage : Stage) → j.stage ≡ stage → stage ≢ Polling → (i : ℕ) → ¬ IsPoll before s (e, i)
   no_poll stage is ne i p = not_at stage Polling is ne p.at
@@ -81,32 +94,47 @@ module _ (before after : Token → ℕ) (s t : StateData) (h : Standing s) (e : 
     -- where it ends
     pub ends_sum : (stage : Stage) → j.stage ≡ stage → job_sum after t m b + stage_sum stage ≤ job_sum before s n a
     ends_sum Taken is =
-        let x = at_goes before after s t e jobs n m a b Taken _ _ a.taken_are b.taken_are (here Taken is) (none_at Taken) in
-        let y = at_falls before after s t e jobs n m a b Asking _ _ a.asking_are b.asking_are (λ z. absurd (none_at Asking z)) in
-        let z = at_falls before after s t e jobs n m a b Ending _ _ a.ending_are b.ending_are (λ z. absurd (none_at Ending z)) in
+        let x = at_goes before after s t e jobs n m a b Taken _ _ a.taken_are b.taken_are (here Taken is)
+        (none_at Taken) in
+        let y = at_falls before after s t e jobs n m a b Asking _ _ a.asking_are b.asking_are
+        (λ z. absurd (none_at Asking z)) in
+        let z = at_falls before after s t e jobs n m a b Ending _ _ a.ending_are b.ending_are
+        (λ z. absurd (none_at Ending z)) in
         let p = polls_fall before after s t e jobs n m a b h.links rows others (λ i q. absurd (none_poll i q)) in
         omega (arith, x, y, z, p)
     ends_sum Asking is =
-        let x = at_falls before after s t e jobs n m a b Taken _ _ a.taken_are b.taken_are (λ z. absurd (none_at Taken z)) in
-        let y = at_goes before after s t e jobs n m a b Asking _ _ a.asking_are b.asking_are (here Asking is) (none_at Asking) in
-        let z = at_falls before after s t e jobs n m a b Ending _ _ a.ending_are b.ending_are (λ z. absurd (none_at Ending z)) in
+        let x = at_falls before after s t e jobs n m a b Taken _ _ a.taken_are b.taken_are
+        (λ z. absurd (none_at Taken z)) in
+        let y = at_goes before after s t e jobs n m a b Asking _ _ a.asking_are b.asking_are (here Asking is)
+        (none_at Asking) in
+        let z = at_falls before after s t e jobs n m a b Ending _ _ a.ending_are b.ending_are
+        (λ z. absurd (none_at Ending z)) in
         let p = polls_fall before after s t e jobs n m a b h.links rows others (λ i q. absurd (none_poll i q)) in
         omega (arith, x, y, z, p)
     ends_sum Polling is =
-        let x = at_falls before after s t e jobs n m a b Taken _ _ a.taken_are b.taken_are (λ z. absurd (none_at Taken z)) in
-        let y = at_falls before after s t e jobs n m a b Asking _ _ a.asking_are b.asking_are (λ z. absurd (none_at Asking z)) in
-        let z = at_falls before after s t e jobs n m a b Ending _ _ a.ending_are b.ending_are (λ z. absurd (none_at Ending z)) in
-        let p = two_polls_go before after s t e jobs n m a b h.links rows others none_poll (has_poll live is 0 (omega arith)) (has_poll live is 1 (omega arith)) in
+        let x = at_falls before after s t e jobs n m a b Taken _ _ a.taken_are b.taken_are
+        (λ z. absurd (none_at Taken z)) in
+        let y = at_falls before after s t e jobs n m a b Asking _ _ a.asking_are b.asking_are
+        (λ z. absurd (none_at Asking z)) in
+        let z = at_falls before after s t e jobs n m a b Ending _ _ a.ending_are b.ending_are
+        (λ z. absurd (none_at Ending z)) in
+        let p = two_polls_go before after s t e jobs n m a b h.links rows others none_poll
+        (has_poll live is 0 (omega arith)) (has_poll live is 1 (omega arith)) in
         omega (arith, x, y, z, p)
     ends_sum Ending is =
-        let x = at_falls before after s t e jobs n m a b Taken _ _ a.taken_are b.taken_are (λ z. absurd (none_at Taken z)) in
-        let y = at_falls before after s t e jobs n m a b Asking _ _ a.asking_are b.asking_are (λ z. absurd (none_at Asking z)) in
-        let z = at_goes before after s t e jobs n m a b Ending _ _ a.ending_are b.ending_are (here Ending is) (none_at Ending) in
+        let x = at_falls before after s t e jobs n m a b Taken _ _ a.taken_are b.taken_are
+        (λ z. absurd (none_at Taken z)) in
+        let y = at_falls before after s t e jobs n m a b Asking _ _ a.asking_are b.asking_are
+        (λ z. absurd (none_at Asking z)) in
+        let z = at_goes before after s t e jobs n m a b Ending _ _ a.ending_are b.ending_are (here Ending is)
+        (none_at Ending) in
         let p = polls_fall before after s t e jobs n m a b h.links rows others (λ i q. absurd (none_poll i q)) in
         omega (arith, x, y, z, p)
 
-module _ (before after : Token → ℕ) (s t : StateData) (h : Standing s) (ease : Eases s t) (e : ℕ) (jobs : JobsWere s t e) (rows : RowsWere s t)
-    (others : (f : ℕ) (k : Job) (o : Row) → f ≢ e → job_at s.jobs f ≡ Some k → row_at s.rows k.row ≡ Some o → after (token_of o) ≤ before (token_of o))
+module _ (before after : Token → ℕ) (s t : StateData) (h : Standing s) (ease : Eases s t) (e : ℕ)
+    (jobs : JobsWere s t e) (rows : RowsWere s t)
+    (others : (f : ℕ) (k : Job) (o : Row) → f ≢ e → job_at s.jobs f ≡ Some k → row_at s.rows k.row ≡ Some o
+    → after (token_of o) ≤ before (token_of o))
     (n m : ℕ) (a : IsWork before s n) (b : IsWork after t m) (j : Job) (its : job_at s.jobs e ≡ Some j) where
   module _ (live : Contains s.live e) (gone : (k : Job) → ¬ job_at t.jobs e ≡ Some k) where
     pub ends_left : b.stopped ≤ a.stopped
@@ -116,17 +144,20 @@ module _ (before after : Token → ℕ) (s t : StateData) (h : Standing s) (ease
     ends_late = late_falls before after s t ease e jobs n m a b (λ x. absurd (gone x.job x.its))
 
     pub ends_stale : IsStale s.stacks j.letter → b.late + 1 ≤ a.late
-    ends_stale old = late_goes before after s t ease e jobs n m a b (record { job = j; its = its; live = live; stale = old }) (λ x. gone x.job x.its)
+    ends_stale old = late_goes before after s t ease e jobs n m a b
+        (record { job = j; its = its; live = live; stale = old }) (λ x. gone x.job x.its)
 
   module _ (gone : (k : Job) → ¬ job_at t.jobs e ≡ Some k) where
     pub ends_roll : b.rolls_are.jobs ≤ a.rolls_are.jobs
     ends_roll = roll_falls before after s t ease e jobs n m a b (λ x. absurd (gone x.job x.its))
 
     pub ends_rolling : (st : Stack) → MayRoll s j.letter.stack st → b.rolls_are.jobs + 1 ≤ a.rolls_are.jobs
-    ends_rolling st may = roll_goes before after s t ease e jobs n m a b (record { job = j; its = its; stack = st; may = may }) (λ x. gone x.job x.its)
+    ends_rolling st may = roll_goes before after s t ease e jobs n m a b
+        (record { job = j; its = its; stack = st; may = may }) (λ x. gone x.job x.its)
 
   -- where it goes on, with its letter
-  module _ (live : Contains s.live e) (k : Job) (is : (q : Job) → job_at t.jobs e ≡ Some q → q ≡ k) (same : k.letter ≡ j.letter) where
+  module _ (live : Contains s.live e) (k : Job) (is : (q : Job) → job_at t.jobs e ≡ Some q → q ≡ k)
+      (same : k.letter ≡ j.letter) where
     now_at : (stage : Stage) → IsAt stage t e → k.stage ≡ stage
     now_at stage x = ap (λ (q : Job). q.stage) (sym (is x.job x.its)) ∙ x.stage_is
 
@@ -144,7 +175,8 @@ module _ (before after : Token → ℕ) (s t : StateData) (h : Standing s) (ease
       job = j;
       its = its;
       live = live;
-      stale = stale_was s t still j.letter (subst (IsStale t.stacks) (ap (λ (q : Job). q.letter) (is x.job x.its) ∙ same) x.stale);
+      stale = stale_was s t still j.letter
+          (subst (IsStale t.stacks) (ap (λ (q : Job). q.letter) (is x.job x.its) ∙ same) x.stale);
     })
 
     pub goes_roll : b.rolls_are.jobs ≤ a.rolls_are.jobs
@@ -152,53 +184,74 @@ module _ (before after : Token → ℕ) (s t : StateData) (h : Standing s) (ease
       job = j;
       its = its;
       stack = x.stack;
-      may = subst (λ (name : List ℕ). MayRoll s name x.stack) (ap (λ (q : Job). q.letter.stack) (is x.job x.its) ∙ ap (λ (l : Letter). l.stack) same)
+      may = subst (λ (name : List ℕ). MayRoll s name x.stack)
+          (ap (λ (q : Job). q.letter.stack) (is x.job x.its) ∙ ap (λ (l : Letter). l.stack) same)
           (ease.may x.job.letter.stack x.stack x.may);
     })
 
-    pub taken_goes_on : j.stage ≡ Taken → (k.stage ≡ Asking) ⊎ (k.stage ≡ Ending) → job_sum after t m b + 1 ≤ job_sum before s n a
+    pub taken_goes_on : j.stage ≡ Taken → (k.stage ≡ Asking) ⊎ (k.stage ≡ Ending)
+        → job_sum after t m b + 1 ≤ job_sum before s n a
     taken_goes_on at (inl to) =
-        let x = at_goes before after s t e jobs n m a b Taken _ _ a.taken_are b.taken_are (was_here Taken at) (only_at Asking Taken to (λ q. cc)) in
+        let x = at_goes before after s t e jobs n m a b Taken _ _ a.taken_are b.taken_are (was_here Taken at)
+        (only_at Asking Taken to (λ q. cc)) in
         let y = at_comes before after s t e jobs n m a b Asking _ _ a.asking_are b.asking_are in
-        let z = at_falls before after s t e jobs n m a b Ending _ _ a.ending_are b.ending_are (λ q. absurd (only_at Asking Ending to (λ r. cc) q)) in
-        let p = polls_fall before after s t e jobs n m a b h.links rows others (λ i q. absurd (only_at Asking Polling to (λ r. cc) q.at)) in
+        let z = at_falls before after s t e jobs n m a b Ending _ _ a.ending_are b.ending_are
+        (λ q. absurd (only_at Asking Ending to (λ r. cc) q)) in
+        let p = polls_fall before after s t e jobs n m a b h.links rows others
+        (λ i q. absurd (only_at Asking Polling to (λ r. cc) q.at)) in
         omega (arith, x, y, z, p)
     taken_goes_on at (inr to) =
-        let x = at_goes before after s t e jobs n m a b Taken _ _ a.taken_are b.taken_are (was_here Taken at) (only_at Ending Taken to (λ q. cc)) in
-        let y = at_falls before after s t e jobs n m a b Asking _ _ a.asking_are b.asking_are (λ q. absurd (only_at Ending Asking to (λ r. cc) q)) in
+        let x = at_goes before after s t e jobs n m a b Taken _ _ a.taken_are b.taken_are (was_here Taken at)
+        (only_at Ending Taken to (λ q. cc)) in
+        let y = at_falls before after s t e jobs n m a b Asking _ _ a.asking_are b.asking_are
+        (λ q. absurd (only_at Ending Asking to (λ r. cc) q)) in
         let z = at_comes before after s t e jobs n m a b Ending _ _ a.ending_are b.ending_are in
-        let p = polls_fall before after s t e jobs n m a b h.links rows others (λ i q. absurd (only_at Ending Polling to (λ r. cc) q.at)) in
+        let p = polls_fall before after s t e jobs n m a b h.links rows others
+        (λ i q. absurd (only_at Ending Polling to (λ r. cc) q.at)) in
         omega (arith, x, y, z, p)
 
-    pub asking_goes_on : j.stage ≡ Asking → k.stage ≡ Polling → ((tok : Token) → after tok ≤ 64) → job_sum after t m b + 1 ≤ job_sum before s n a
+    pub asking_goes_on : j.stage ≡ Asking → k.stage ≡ Polling → ((tok : Token) → after tok ≤ 64)
+        → job_sum after t m b + 1 ≤ job_sum before s n a
     asking_goes_on at to few =
-        let x = at_falls before after s t e jobs n m a b Taken _ _ a.taken_are b.taken_are (λ q. absurd (only_at Polling Taken to (λ r. cc) q)) in
-        let y = at_goes before after s t e jobs n m a b Asking _ _ a.asking_are b.asking_are (was_here Asking at) (only_at Polling Asking to (λ q. cc)) in
-        let z = at_falls before after s t e jobs n m a b Ending _ _ a.ending_are b.ending_are (λ q. absurd (only_at Polling Ending to (λ r. cc) q)) in
+        let x = at_falls before after s t e jobs n m a b Taken _ _ a.taken_are b.taken_are
+        (λ q. absurd (only_at Polling Taken to (λ r. cc) q)) in
+        let y = at_goes before after s t e jobs n m a b Asking _ _ a.asking_are b.asking_are (was_here Asking at)
+        (only_at Polling Asking to (λ q. cc)) in
+        let z = at_falls before after s t e jobs n m a b Ending _ _ a.ending_are b.ending_are
+        (λ q. absurd (only_at Polling Ending to (λ r. cc) q)) in
         let p = polls_come before after s t e jobs n m a b h.links rows others few in
         omega (arith, x, y, z, p)
 
     pub polling_goes_on : j.stage ≡ Polling → k.stage ≡ Ending → job_sum after t m b + 1 ≤ job_sum before s n a
     polling_goes_on at to =
-        let x = at_falls before after s t e jobs n m a b Taken _ _ a.taken_are b.taken_are (λ q. absurd (only_at Ending Taken to (λ r. cc) q)) in
-        let y = at_falls before after s t e jobs n m a b Asking _ _ a.asking_are b.asking_are (λ q. absurd (only_at Ending Asking to (λ r. cc) q)) in
+        let x = at_falls before after s t e jobs n m a b Taken _ _ a.taken_are b.taken_are
+        (λ q. absurd (only_at Ending Taken to (λ r. cc) q)) in
+        let y = at_falls before after s t e jobs n m a b Asking _ _ a.asking_are b.asking_are
+        (λ q. absurd (only_at Ending Asking to (λ r. cc) q)) in
         let z = at_comes before after s t e jobs n m a b Ending _ _ a.ending_are b.ending_are in
-        let p = two_polls_go before after s t e jobs n m a b h.links rows others (λ i q. only_at Ending Polling to (λ r. cc) q.at)
-        (has_poll before after s t h e jobs rows others n m a b j its live at 0 (omega arith)) (has_poll before after s t h e jobs rows others n m a b j its live at 1 (omega arith)) in
+        let p = two_polls_go before after s t e jobs n m a b h.links rows others
+        (λ i q. only_at Ending Polling to (λ r. cc) q.at)
+        (has_poll before after s t h e jobs rows others n m a b j its live at 0 (omega arith))
+        (has_poll before after s t h e jobs rows others n m a b j its live at 1 (omega arith)) in
         omega (arith, x, y, z, p)
 
     -- where it polls again, and one fewer is left
-    pub polling_waits : j.stage ≡ Polling → k ≡ j → (r : Row) → row_at s.rows j.row ≡ Some r → after (token_of r) < before (token_of r)
+    pub polling_waits : j.stage ≡ Polling → k ≡ j → (r : Row) → row_at s.rows j.row ≡ Some r
+        → after (token_of r) < before (token_of r)
         → job_sum after t m b + 1 ≤ job_sum before s n a
     unfolding was_here
     polling_waits at stays r found less =
         let at_now : k.stage ≡ Polling = ap (λ (q : Job). q.stage) stays ∙ at in
-        let x = at_falls before after s t e jobs n m a b Taken _ _ a.taken_are b.taken_are (λ q. absurd (only_at Polling Taken at_now (λ r. cc) q)) in
-        let y = at_falls before after s t e jobs n m a b Asking _ _ a.asking_are b.asking_are (λ q. absurd (only_at Polling Asking at_now (λ r. cc) q)) in
-        let z = at_falls before after s t e jobs n m a b Ending _ _ a.ending_are b.ending_are (λ q. absurd (only_at Polling Ending at_now (λ r. cc) q)) in
+        let x = at_falls before after s t e jobs n m a b Taken _ _ a.taken_are b.taken_are
+        (λ q. absurd (only_at Polling Taken at_now (λ r. cc) q)) in
+        let y = at_falls before after s t e jobs n m a b Asking _ _ a.asking_are b.asking_are
+        (λ q. absurd (only_at Polling Asking at_now (λ r. cc) q)) in
+        let z = at_falls before after s t e jobs n m a b Ending _ _ a.ending_are b.ending_are
+        (λ q. absurd (only_at Polling Ending at_now (λ r. cc) q)) in
         let p = poll_goes before after s t e jobs n m a b h.links rows others (before (token_of r) + 1) mine
         (record { at = was_here Polling at; row = r; found = found; below = omega arith })
-        (λ q. let lt = q.below in let tok = ap after (token_is q.row q.at q.found) in absurd_of (before (token_of r)) (after (token_of q.row)) (after (token_of r)) lt tok less) in
+        (λ q. let lt = q.below in let tok = ap after (token_is q.row q.at q.found) in
+        absurd_of (before (token_of r)) (after (token_of q.row)) (after (token_of r)) lt tok less) in
         omega (arith, x, y, z, p)
       where
         absurd_of : (u v w : ℕ) → u + 1 < v + 2 → v ≡ w → w < u → ⊥
@@ -216,5 +269,6 @@ module _ (before after : Token → ℕ) (s t : StateData) (h : Standing s) (ease
           at = was_here Polling at;
           row = r;
           found = found;
-          below = (let lt = q.below in let tok = ap after (token_is q.row q.at q.found) in omega (arith, lt, tok, less));
+          below = (let lt = q.below in let tok = ap after (token_is q.row q.at q.found) in
+              omega (arith, lt, tok, less));
         }

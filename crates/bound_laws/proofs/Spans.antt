@@ -1,5 +1,6 @@
 -- The numbers below a bound, rising numbers, and lengths.
-use Rattle.std.proofs.Common.{◌≡◌, inl, inr, ◌<◌, ℕ, zero, suc, ◌+◌, List, [], ◌∷◌, ◌++◌, length, map, refl, sym, ap, subst, arith}
+use Rattle.std.proofs.Common.{◌≡◌, inl, inr, ◌<◌, ℕ, zero, suc, ◌+◌, List, [], ◌∷◌, ◌++◌, length, map, refl, sym, ap}
+use Rattle.std.proofs.Common.{subst, arith}
 use Rattle.std.specs.Prelude.{Contains}
 use Rattle.dep_graph.specs.Lists.{IsRising}
 use Rattle.table_laws.proofs.Rows.{same_or_not}
@@ -14,7 +15,8 @@ upto (suc n) = n ∷ upto n
 pub upto_below : (n k : ℕ) → Contains (upto n) k → k < n
 unfolding upto
 upto_below zero k c = absurd (no_member k c)
-upto_below (suc n) k c = elim (cons_cases (upto n) n k c) [ inl is ↦ omega (arith, is) | inr later ↦ let lt = upto_below n k later in omega (arith, lt) ]
+upto_below (suc n) k c = elim (cons_cases (upto n) n k c)
+    [ inl is ↦ omega (arith, is) | inr later ↦ let lt = upto_below n k later in omega (arith, lt) ]
 
 pub in_upto : (n k : ℕ) → k < n → Contains (upto n) k
 unfolding upto

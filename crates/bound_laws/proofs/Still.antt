@@ -23,7 +23,8 @@ use Rattle.bound_laws.proofs.Sets.{at_most, fewer, one_more}
 pub record Still (s t : StateData) : Type 0 where
   pub stacks : (name : List ℕ) (st : Stack) → stack_at t.stacks name ≡ Some st
       → (o : Stack) × (stack_at s.stacks name ≡ Some o) × (st.trav ≡ o.trav) × (st.status ≡ InProgress → st ≡ o)
-  pub stay : (name : List ℕ) (o : Stack) → stack_at s.stacks name ≡ Some o → (st : Stack) × (stack_at t.stacks name ≡ Some st) × (st.trav ≡ o.trav)
+  pub stay : (name : List ℕ) (o : Stack) → stack_at s.stacks name ≡ Some o
+      → (st : Stack) × (stack_at t.stacks name ≡ Some st) × (st.trav ≡ o.trav)
   pub graphs : (name : List ℕ) → graph_at t.graphs name ≡ graph_at s.graphs name
   pub pasts : (name : List ℕ) → past_at t.pasts name ≡ past_at s.pasts name
 
@@ -37,7 +38,8 @@ still_same s t stacks graphs pasts = record {
 }
 
 -- a stack is marked as failed
-pub still_marked : (s t : StateData) (st : Stack) → stack_at s.stacks st.name ≡ Some st → t.stacks ≡ put_stack (record st { status = Failed }) s.stacks
+pub still_marked : (s t : StateData) (st : Stack) → stack_at s.stacks st.name ≡ Some st
+    → t.stacks ≡ put_stack (record st { status = Failed }) s.stacks
     → t.graphs ≡ s.graphs → t.pasts ≡ s.pasts → Still s t
 still_marked s t st at stacks graphs pasts = record {
   stacks = λ name x found. were name x (subst (λ (l : List Stack). stack_at l name ≡ Some x) stacks found);
@@ -52,20 +54,33 @@ still_marked s t st at stacks graphs pasts = record {
       → (o : Stack) × (stack_at s.stacks name ≡ Some o) × (x.trav ≡ o.trav) × (x.status ≡ InProgress → x ≡ o)
   were name x found = elim (stack_put marked s.stacks found) [
     | inr old ↦ (x, old.1, refl, (λ y. refl))
-    | inl new ↦ (st, subst (λ (n : List ℕ). stack_at s.stacks n ≡ Some st) new.0 at, ap (λ (y : Stack). y.trav) (sym new.1), (λ under. not_both x new.1 under))
+    | inl new ↦ (
+      st,
+      subst (λ (n : List ℕ). stack_at s.stacks n ≡ Some st) new.0 at,
+      ap (λ (y : Stack). y.trav) (sym new.1),
+      (λ under. not_both x new.1 under),
+    )
   ] where
     not_both : (y : Stack) → marked ≡ y → y.status ≡ InProgress → y ≡ st
     not_both y is under = let e : Failed ≡ InProgress = ap (λ (z : Stack). z.status) is ∙ under in cc
 
-  are : (name : List ℕ) (o : Stack) → stack_at s.stacks name ≡ Some o → (x : Stack) × (stack_at t.stacks name ≡ Some x) × (x.trav ≡ o.trav)
+  are : (name : List ℕ) (o : Stack) → stack_at s.stacks name ≡ Some o → (x : Stack) × (stack_at t.stacks name ≡ Some x)
+      × (x.trav ≡ o.trav)
   are name o found = elim (text_or_not st.name name) [
-    | inl is ↦ (let same : o ≡ st = same_some o st found (subst (λ (n : List ℕ). stack_at s.stacks n ≡ Some st) is at) in (
-      marked,
-      subst (λ (l : List Stack). stack_at l name ≡ Some marked) (sym stacks)
-          (subst (λ (n : List ℕ). stack_at (put_stack marked s.stacks) n ≡ Some marked) is (stack_here marked s.stacks)),
-      ap (λ (y : Stack). y.trav) (sym same),
-    ))
-    | inr ne ↦ (o, subst (λ (l : List Stack). stack_at l name ≡ Some o) (sym stacks) (stack_else marked s.stacks name ne ∙ found), refl)
+    | inl is ↦
+        (let same : o ≡ st = same_some o st found (subst (λ (n : List ℕ). stack_at s.stacks n ≡ Some st) is at) in (
+          marked,
+          subst (λ (l : List Stack). stack_at l name ≡ Some marked) (sym stacks)
+              (subst (λ (n : List ℕ). stack_at (put_stack marked s.stacks) n ≡ Some marked) is
+              (stack_here marked s.stacks)),
+          ap (λ (y : Stack). y.trav) (sym same),
+        ))
+    | inr ne ↦ (
+      o,
+      subst (λ (l : List Stack). stack_at l name ≡ Some o) (sym stacks)
+          (stack_else marked s.stacks name ne ∙ found),
+      refl,
+    )
   ]
 
 module _ (s t : StateData) (k : Still s t) where
@@ -112,9 +127,16 @@ module _ (s t : StateData) (k : Still s t) where
   }
 
   pub roll_letter_was : (n : ℕ) (r : RollLetter t n) → letter_at s.letters n ≡ Some r.letter → RollLetter s n
-  roll_letter_was n r at = record { letter = r.letter; at = at; stack = r.stack; may = may_was r.letter.stack r.stack r.may; newest = r.newest }
+  roll_letter_was n r at = record {
+    letter = r.letter;
+    at = at;
+    stack = r.stack;
+    may = may_was r.letter.stack r.stack r.may;
+    newest = r.newest;
+  }
 
-module _ (before after : Token → ℕ) (s t : StateData) (k : Still s t) (n m : ℕ) (a : IsWork before s n) (b : IsWork after t m) where
+module _ (before after : Token → ℕ) (s t : StateData) (k : Still s t) (n m : ℕ) (a : IsWork before s n)
+    (b : IsWork after t m) where
   pub nodes_fall : b.nodes ≤ a.nodes
   nodes_fall = at_most b.nodes_are a.nodes_are (unready_was s t k)
 
@@ -125,25 +147,37 @@ module _ (before after : Token → ℕ) (s t : StateData) (k : Still s t) (n m :
   roll_items_fall = at_most b.rolls_are.items_are a.rolls_are.items_are (roll_item_was s t k)
 
   -- no letter comes
-  pub letters_fall : ((i : ℕ) (l : Letter) → letter_at t.letters i ≡ Some l → letter_at s.letters i ≡ Some l) → b.letters ≤ a.letters
-  letters_fall were = at_most b.letters_are a.letters_are (λ i x. record { letter = x.letter; at = were i x.letter x.at })
+  pub letters_fall : ((i : ℕ) (l : Letter) → letter_at t.letters i ≡ Some l → letter_at s.letters i ≡ Some l)
+      → b.letters ≤ a.letters
+  letters_fall were = at_most b.letters_are a.letters_are
+      (λ i x. record { letter = x.letter; at = were i x.letter x.at })
 
-  pub roll_letters_fall : ((i : ℕ) (l : Letter) → letter_at t.letters i ≡ Some l → letter_at s.letters i ≡ Some l) → b.rolls_are.letters ≤ a.rolls_are.letters
-  roll_letters_fall were = at_most b.rolls_are.letters_are a.rolls_are.letters_are (λ i x. roll_letter_was s t k i x (were i x.letter x.at))
+  pub roll_letters_fall : ((i : ℕ) (l : Letter) → letter_at t.letters i ≡ Some l → letter_at s.letters i ≡ Some l)
+      → b.rolls_are.letters ≤ a.rolls_are.letters
+  roll_letters_fall were = at_most b.rolls_are.letters_are a.rolls_are.letters_are
+      (λ i x. roll_letter_was s t k i x (were i x.letter x.at))
 
   -- one goes
-  pub letter_goes : (l : Letter) → letter_at s.letters l.no ≡ Some l → t.letters ≡ cut_letter l.no s.letters → b.letters + 1 ≤ a.letters
+  pub letter_goes : (l : Letter) → letter_at s.letters l.no ≡ Some l → t.letters ≡ cut_letter l.no s.letters
+      → b.letters + 1 ≤ a.letters
   letter_goes l at is = fewer b.letters_are a.letters_are
-      (λ i x. record { letter = x.letter; at = (letter_cut l.no s.letters (subst (λ (ls : List Letter). letter_at ls i ≡ Some x.letter) is x.at)).1 })
+      (λ i x. record {
+        letter = x.letter;
+        at = (letter_cut l.no s.letters (subst (λ (ls : List Letter). letter_at ls i ≡ Some x.letter) is x.at)).1;
+      })
       l.no (record { letter = l; at = at })
-      (λ x. (letter_cut l.no s.letters (subst (λ (ls : List Letter). letter_at ls l.no ≡ Some x.letter) is x.at)).0 refl)
+      (λ x. (letter_cut l.no s.letters (subst (λ (ls : List Letter). letter_at ls l.no ≡ Some x.letter) is x.at)).0
+      refl)
 
-  pub roll_letter_goes : (l : Letter) → letter_at s.letters l.no ≡ Some l → t.letters ≡ cut_letter l.no s.letters → (st : Stack) → MayRoll s l.stack st
+  pub roll_letter_goes : (l : Letter) → letter_at s.letters l.no ≡ Some l → t.letters ≡ cut_letter l.no s.letters
+      → (st : Stack) → MayRoll s l.stack st
       → l.trav ≡ st.trav → b.rolls_are.letters + 1 ≤ a.rolls_are.letters
   roll_letter_goes l at is st may newest = fewer b.rolls_are.letters_are a.rolls_are.letters_are
-      (λ i x. roll_letter_was s t k i x (letter_cut l.no s.letters (subst (λ (ls : List Letter). letter_at ls i ≡ Some x.letter) is x.at)).1)
+      (λ i x. roll_letter_was s t k i x
+      (letter_cut l.no s.letters (subst (λ (ls : List Letter). letter_at ls i ≡ Some x.letter) is x.at)).1)
       l.no (record { letter = l; at = at; stack = st; may = may; newest = newest })
-      (λ x. (letter_cut l.no s.letters (subst (λ (ls : List Letter). letter_at ls l.no ≡ Some x.letter) is x.at)).0 refl)
+      (λ x. (letter_cut l.no s.letters (subst (λ (ls : List Letter). letter_at ls l.no ≡ Some x.letter) is x.at)).0
+      refl)
 
   -- one comes
   pub letter_comes : (l : Letter) → t.letters ≡ put_letter l s.letters → b.letters ≤ a.letters + 1
@@ -153,7 +187,8 @@ module _ (before after : Token → ℕ) (s t : StateData) (k : Still s t) (n m :
         | inr old ↦ inl (record { letter = x.letter; at = old.1 })
       ])
 
-  pub roll_letter_comes : (l : Letter) → t.letters ≡ put_letter l s.letters → b.rolls_are.letters ≤ a.rolls_are.letters + 1
+  pub roll_letter_comes : (l : Letter) → t.letters ≡ put_letter l s.letters
+      → b.rolls_are.letters ≤ a.rolls_are.letters + 1
   roll_letter_comes l is = one_more b.rolls_are.letters_are a.rolls_are.letters_are l.no
       (λ i x. elim (letter_put l s.letters (subst (λ (ls : List Letter). letter_at ls i ≡ Some x.letter) is x.at)) [
         | inl new ↦ inr (sym new.0)
@@ -161,18 +196,22 @@ module _ (before after : Token → ℕ) (s t : StateData) (k : Still s t) (n m :
       ])
 
   -- one comes to a stack that isn't to roll
-  pub roll_letter_beside : (l : Letter) → t.letters ≡ put_letter l s.letters → ((st : Stack) → ¬ MayRoll s l.stack st) → b.rolls_are.letters ≤ a.rolls_are.letters
+  pub roll_letter_beside : (l : Letter) → t.letters ≡ put_letter l s.letters → ((st : Stack) → ¬ MayRoll s l.stack st)
+      → b.rolls_are.letters ≤ a.rolls_are.letters
   roll_letter_beside l is never = at_most b.rolls_are.letters_are a.rolls_are.letters_are
       (λ i x. elim (letter_put l s.letters (subst (λ (ls : List Letter). letter_at ls i ≡ Some x.letter) is x.at)) [
-        | inl new ↦ absurd (never x.stack (subst (λ (y : Letter). MayRoll s y.stack x.stack) (sym new.1) (may_was s t k x.letter.stack x.stack x.may)))
+        | inl new ↦ absurd (never x.stack (subst (λ (y : Letter). MayRoll s y.stack x.stack) (sym new.1)
+            (may_was s t k x.letter.stack x.stack x.may)))
         | inr old ↦ roll_letter_was s t k i x old.1
       ])
 
 -- what a step leaves of stacks that may roll, of jobs that aren't late, and of nodes
 pub record Eases (s t : StateData) : Type 0 where
   pub may : (name : List ℕ) (st : Stack) → MayRoll t name st → MayRoll s name st
-  pub late : (f : ℕ) (k : Job) → job_at t.jobs f ≡ Some k → job_at s.jobs f ≡ Some k → IsStale t.stacks k.letter → IsStale s.stacks k.letter
-  pub graphs : (name : List ℕ) (g : Graph) → graph_at t.graphs name ≡ Some g → (o : Graph) × (graph_at s.graphs name ≡ Some o) × (o.graph ≡ g.graph)
+  pub late : (f : ℕ) (k : Job) → job_at t.jobs f ≡ Some k → job_at s.jobs f ≡ Some k → IsStale t.stacks k.letter
+      → IsStale s.stacks k.letter
+  pub graphs : (name : List ℕ) (g : Graph) → graph_at t.graphs name ≡ Some g
+      → (o : Graph) × (graph_at s.graphs name ≡ Some o) × (o.graph ≡ g.graph)
   pub back : (name : List ℕ) (st : Stack) → MayRoll t name st → plan_back t st ≡ plan_back s st
 
 pub eases_of : (s t : StateData) → Still s t → Eases s t

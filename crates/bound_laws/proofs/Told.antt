@@ -14,14 +14,18 @@ use Rattle.bound_laws.specs.Counts.{Counts}
 use Rattle.bound_laws.specs.Exists.{PollsAreFew, WorkExists, WorkIsOne}
 use Rattle.bound_laws.specs.Rolls.{RollFar, RollItem, RollJob, RollLetter, RollNode, RollRow}
 use Rattle.bound_laws.specs.Work.{IsAt, IsLate, IsLeft, IsLetter, IsPoll, IsUnready}
-use Rattle.bound_laws.proofs.Existing.{at_or_not, by_jobs, item_size, item_within, late_or_not, left_or_not, letter_or_not, named, names, poll_or_not, poll_size, poll_within, roll_far_or_not, roll_item_or_not, roll_job_or_not, roll_letter_or_not, roll_node_or_not, roll_row_or_not, size, unready_or_not, within_size}
+use Rattle.bound_laws.proofs.Existing.{at_or_not, by_jobs, item_size, item_within, late_or_not, left_or_not}
+use Rattle.bound_laws.proofs.Existing.{letter_or_not, named, names, poll_or_not, poll_size, poll_within}
+use Rattle.bound_laws.proofs.Existing.{roll_far_or_not, roll_item_or_not, roll_job_or_not, roll_letter_or_not}
+use Rattle.bound_laws.proofs.Existing.{roll_node_or_not, roll_row_or_not, size, unready_or_not, within_size}
 use Rattle.bound_laws.proofs.Listed.{below, in_pairs, paired, pairs, pairs_length}
 use Rattle.bound_laws.proofs.Sets.{at_most, within}
 use Rattle.bound_laws.proofs.Spans.{upto, in_upto, upto_once}
 
 module _ (left : Token → ℕ) (s : StateData) where
   pub letters_told : (n : ℕ) × Counts (IsLetter s) n
-  letters_told = let (b, inside) = bound_at letter_key s.letters in below (IsLetter s) (letter_or_not left s) b (λ n k. inside n k.letter k.at)
+  letters_told = let (b, inside) = bound_at letter_key s.letters in
+      below (IsLetter s) (letter_or_not left s) b (λ n k. inside n k.letter k.at)
 
   pub nodes_told : (n : ℕ) × Counts (IsUnready s) n
   nodes_told = let xs = names left s in paired (size left s) (IsUnready s) (unready_or_not left s) xs.list xs.once
@@ -31,30 +35,39 @@ module _ (left : Token → ℕ) (s : StateData) where
   stage_told stage = by_jobs left s (IsAt stage s) (at_or_not left s stage) (λ e k. (k.job, k.its))
 
   polls_told : (n : ℕ) × Counts (IsPoll left s) n
-  polls_told = let (b, inside) = bound_at job_key s.jobs in paired (poll_size left s) (IsPoll left s) (poll_or_not left s) (upto b) (upto_once b)
+  polls_told = let (b, inside) = bound_at job_key s.jobs in
+      paired (poll_size left s) (IsPoll left s) (poll_or_not left s) (upto b) (upto_once b)
       (λ x p. (in_upto b x.0 (inside x.0 p.at.job p.at.its), poll_within left s x p))
 
   roll_letters_told : (n : ℕ) × Counts (RollLetter s) n
-  roll_letters_told = let (b, inside) = bound_at letter_key s.letters in below (RollLetter s) (roll_letter_or_not left s) b (λ n k. inside n k.letter k.at)
+  roll_letters_told = let (b, inside) = bound_at letter_key s.letters in
+      below (RollLetter s) (roll_letter_or_not left s) b (λ n k. inside n k.letter k.at)
 
   roll_nodes_told : (n : ℕ) × Counts (RollNode s) n
   roll_nodes_told = let xs = names left s in paired (size left s) (RollNode s) (roll_node_or_not left s) xs.list xs.once
-      (λ x q. let k = q.node in (named left s x.0 k.stack k.in_table, within_size left s x.0 k.graph x.1 k.node k.its_graph k.its_node))
+      (λ x q. let k = q.node in
+      (named left s x.0 k.stack k.in_table, within_size left s x.0 k.graph x.1 k.node k.its_graph k.its_node))
 
   roll_items_told : (n : ℕ) × Counts (RollItem s) n
-  roll_items_told = let xs = names left s in paired (item_size left s) (RollItem s) (roll_item_or_not left s) xs.list xs.once
+  roll_items_told = let xs = names left s in
+      paired (item_size left s) (RollItem s) (roll_item_or_not left s) xs.list xs.once
       (λ x k. (named left s x.0 k.stack k.may.in_table, item_within left s x k))
 
   roll_rows_told : (n : ℕ) × Counts (RollRow s) n
-  roll_rows_told = let (b, inside) = bound_at row_key s.rows in below (RollRow s) (roll_row_or_not left s) b (λ n k. inside n k.row k.found)
+  roll_rows_told = let (b, inside) = bound_at row_key s.rows in
+      below (RollRow s) (roll_row_or_not left s) b (λ n k. inside n k.row k.found)
 
   roll_far_told : (n : ℕ) × Counts (RollFar s) n
   roll_far_told = let xs = names left s in paired (size left s) (RollFar s) (roll_far_or_not left s) xs.list xs.once
-      (λ x k. (named left s x.0 k.stack k.may.in_table, within_size left s x.0 k.graph x.1 (U k.name k.chosen) k.its_graph k.its_node))
+      (λ x k. (
+        named left s x.0 k.stack k.may.in_table,
+        within_size left s x.0 k.graph x.1 (U k.name k.chosen) k.its_graph k.its_node,
+      ))
 
   pub rolls_told : (n : ℕ) × RollWork s n
   rolls_told =
-      let l = roll_letters_told in let k = roll_nodes_told in let j = by_jobs left s (RollJob s) (roll_job_or_not left s) (λ e q. (q.job, q.its)) in
+      let l = roll_letters_told in let k = roll_nodes_told in
+      let j = by_jobs left s (RollJob s) (roll_job_or_not left s) (λ e q. (q.job, q.its)) in
       let i = roll_items_told in let r = roll_rows_told in let f = roll_far_told in (
         l.0 + k.0 + j.0 + i.0 + r.0 + f.0,
         record {
@@ -123,8 +136,8 @@ rolls_one s n m a b =
     let e = a.sum in let g = b.sum in
     omega (arith, l, o, j, i, r, f, e, g)
 
-pub work_one : WorkIsOne
-work_one left s n m a b =
+pub work_at_most : (left : Token → ℕ) (s : StateData) (n m : ℕ) → IsWork left s n → IsWork left s m → n ≤ m
+work_at_most left s n m a b =
     let l = at_most a.letters_are b.letters_are (λ x k. k) in
     let o = at_most a.nodes_are b.nodes_are (λ x k. k) in
     let x = at_most a.stopped_are b.stopped_are (λ x k. k) in
@@ -136,6 +149,12 @@ work_one left s n m a b =
     let r = rolls_one s a.rolls b.rolls a.rolls_are b.rolls_are in
     let e = a.sum in let g = b.sum in
     omega (arith, l, o, x, t, q, p, c, d, r, e, g)
+
+pub work_one : WorkIsOne
+work_one left s n m a b =
+    let le = work_at_most left s n m a b in
+    let ge = work_at_most left s m n b a in
+    omega (arith, le, ge)
 
 pub polls_few : PollsAreFew
 polls_few left s n k w few at =

@@ -36,7 +36,8 @@ pub record IsFullWork (s : StateData) (n : ℕ) : Type 0 where
   pub ending_are : Counts (IsAt Ending s) ending
   pub late_are : Counts (IsLate s) late
   pub rolls_are : RollWork s rolls
-  pub sum : n ≡ 69 * letters + 69 * nodes + 70 * stopped + 68 * taken + 67 * asking + 66 * polling + ending + 69 * late + 69 * rolls
+  pub sum : n ≡ 69 * letters + 69 * nodes + 70 * stopped + 68 * taken + 67 * asking + 66 * polling + ending + 69 * late
+      + 69 * rolls
 
 -- it can be told
 abbrev pub FullWorkExists : Type 0
@@ -44,7 +45,8 @@ FullWorkExists = (s : StateData) → (n : ℕ) × IsFullWork s n
 
 -- and the finer form is never more, whatever the polls left, at most 64 for each token
 abbrev pub WorkIsLess : Type 0
-WorkIsLess = (left : Token → ℕ) (s : StateData) (n m : ℕ) → ((t : Token) → left t ≤ 64) → IsWork left s n → IsFullWork s m → n ≤ m
+WorkIsLess = (left : Token → ℕ) (s : StateData) (n m : ℕ) → ((t : Token) → left t ≤ 64) → IsWork left s n
+    → IsFullWork s m → n ≤ m
 
 -- a node of a stack's graph, by the stack's name and its place
 pub record IsNode (s : StateData) (x : List ℕ × ℕ) : Type 0 where
@@ -88,7 +90,8 @@ pub record Sizes (s : StateData) : Type 0 where
   pub updates_are : Counts (IsUpdate s) updates
   pub items_are : Counts (RollItem s) items
 
--- it is at most 138 for each letter and node, 206 for each job, and 69 for each row, update node, and item that is gone back to
+-- it is at most 138 for each letter and node, 206 for each job, and 69 for each row, update node, and item that is gone
+-- back to
 abbrev pub WorkIsBounded : Type 0
 WorkIsBounded = (s : StateData) (n : ℕ) (z : Sizes s) → IsFullWork s n
     → n ≤ 138 * (z.letters + z.nodes) + 206 * z.jobs + 69 * (z.rows + z.updates + z.items)

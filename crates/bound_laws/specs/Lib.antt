@@ -1,7 +1,8 @@
 pub mod Counts
 pub mod Work
 pub mod Rolls
+pub mod Polls
 pub mod Bound
-pub mod Exists
 pub mod Full
+pub mod Exists
 pub mod Turned

@@ -52,7 +52,8 @@ pub record IsLate (s : StateData) (e : ℕ) : Type 0 where
   pub live : Contains s.live e
   pub stale : IsStale s.stacks job.letter
 
--- a poll that a live engine's job may still make, by its engine and its place: so many as are left for its token, and two
+-- a poll that a live engine's job may still make, by its engine and its place: so many as are left for its token, and
+-- two
 pub record IsPoll (left : Token → ℕ) (s : StateData) (x : ℕ × ℕ) : Type 0 where
   pub at : IsAt Polling s x.0
   pub row : Row

@@ -3,14 +3,11 @@ use Rattle.std.proofs.Common.{None, [], ◌∷◌, refl}
 use Rattle.step_relation.specs.Given.{Nothing}
 use Rattle.step_relation.specs.Moves.{finish_overrun, takeover_overrun}
 use Rattle.step_relation.specs.Resends.{cleanup, update}
-use Rattle.step_relation.specs.Runs.{Judges, nothing}
+use Rattle.step_relation.specs.Runs.{nothing}
+use Rattle.step_relation.specs.Unjudged.{unjudged}
 use Rattle.step_relation.specs.Writes.{letter_to}
 use Rattle.case_laws.specs.Covers.{StaleEndTells, StaleTakeOverTells}
 use Rattle.cover_laws.proofs.Moves.{covers_moved}
-
--- a registry without a judge
-unjudged : Judges
-unjudged name = None
 
 pub stale_take_over_tells : StaleTakeOverTells
 stale_take_over_tells s e f j row st g i h next found overrun its least =

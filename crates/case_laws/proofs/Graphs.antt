@@ -2,13 +2,10 @@
 use Rattle.std.proofs.Common.{None, Some, refl}
 use Rattle.step_relation.specs.Given.{Nothing, Prepared}
 use Rattle.step_relation.specs.Moves.{begin_overrun, begin_replaced, clean_retained, finish}
-use Rattle.step_relation.specs.Runs.{Judges, nothing}
+use Rattle.step_relation.specs.Runs.{nothing}
+use Rattle.step_relation.specs.Unjudged.{unjudged}
 use Rattle.case_laws.specs.Graphs.{FinishFits, GivenUpFits, OverrunFits, ReplacementFits}
 use Rattle.graph_laws.proofs.Moves.{graphs_moved}
-
--- a registry without a judge
-unjudged : Judges
-unjudged name = None
 
 pub replacement_fits : ReplacementFits
 replacement_fits judges s e k props effect h act go tied =

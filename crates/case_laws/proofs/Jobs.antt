@@ -2,13 +2,10 @@
 use Rattle.std.proofs.Common.{None, refl}
 use Rattle.step_relation.specs.Given.{Nothing, Prepared}
 use Rattle.step_relation.specs.Moves.{begin_resumed, clean_deleted}
-use Rattle.step_relation.specs.Runs.{Judges, nothing}
+use Rattle.step_relation.specs.Runs.{nothing}
+use Rattle.step_relation.specs.Unjudged.{unjudged}
 use Rattle.case_laws.specs.Jobs.{DeletedFits, ResumedFits}
 use Rattle.job_laws.proofs.Moves.{jobs_moved}
-
--- a registry without a judge
-unjudged : Judges
-unjudged name = None
 
 pub resumed_fits : ResumedFits
 resumed_fits judges s e k props effect h tied act status newest =

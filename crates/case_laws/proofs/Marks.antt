@@ -6,14 +6,11 @@ use Rattle.core_state.specs.Reads.{IsDone}
 use Rattle.step_relation.specs.Finishes.{graph_then}
 use Rattle.step_relation.specs.Given.{Nothing}
 use Rattle.step_relation.specs.Moves.{finish_last}
-use Rattle.step_relation.specs.Runs.{Judges, nothing}
+use Rattle.step_relation.specs.Runs.{nothing}
+use Rattle.step_relation.specs.Unjudged.{unjudged}
 use Rattle.soundness.specs.GraphFits.{IsNode}
 use Rattle.case_laws.specs.Marks.{CleanedIsMarked}
 use Rattle.mark_laws.proofs.Kept.{marks_by_moves}
-
--- a registry without a judge
-unjudged : Judges
-unjudged name = None
 
 pub cleaned_is_marked : CleanedIsMarked
 cleaned_is_marked s e k h updates cleanups unmarked =

@@ -4,16 +4,13 @@ use Rattle.row_table.specs.Rows.{row_at}
 use Rattle.row_table.specs.declared.row.Row.{Row}
 use Rattle.step_relation.specs.Given.{Answer, Prepared}
 use Rattle.step_relation.specs.Moves.{begin_in_place, poll_gone}
-use Rattle.step_relation.specs.Runs.{Judges, answer}
+use Rattle.step_relation.specs.Runs.{answer}
+use Rattle.step_relation.specs.Unjudged.{unjudged}
 use Rattle.table_laws.proofs.Rows.{row_self}
 use Rattle.agree_laws.proofs.MoveTold.{moves_agree}
 use Rattle.headline_laws.proofs.Made.{not_given}
 use Rattle.case_laws.specs.Tells.{GivenUpIsRetained, InPlaceAgrees, PurgeAgrees}
 use Rattle.heat_plan.specs.declared.calls.Answered.TheVariants as reply
-
--- a registry without a judge
-unjudged : Judges
-unjudged name = None
 
 pub in_place_agrees : InPlaceAgrees
 in_place_agrees judges o h s e k props effect x tied act status soft possible =

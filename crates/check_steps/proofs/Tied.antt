@@ -17,7 +17,7 @@ use Rattle.step_relation.specs.Given.{Faulted, Prepared}
 use Rattle.step_relation.specs.Inputs.{AreKnown}
 use Rattle.step_relation.specs.Runs.{IsTied, ResolvesTo, fault, props as tied_props}
 use Rattle.check_steps.specs.Founds.{IsFound, begin_of}
-use Rattle.check_steps.specs.Gives.{unjudged}
+use Rattle.step_relation.specs.Unjudged.{unjudged}
 use Rattle.check_steps.specs.declared.found.Found.{Found}
 
 module _ (s : StateData) (e : ℕ) (it : Found) (found : IsFound s e it) where

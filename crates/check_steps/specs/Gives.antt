@@ -1,7 +1,5 @@
 -- What was prepared for a begin, as a turn is given it.
-use Rattle.std.specs.Prelude.{None}
 use Rattle.step_relation.specs.Given.{Faulted, Given}
-use Rattle.step_relation.specs.Runs.{Judges}
 use Rattle.check_steps.specs.declared.prepared.Prepared.{Prepared}
 use Rattle.check_steps.specs.declared.prepared.Prepared.TheVariants.{Fault, Props}
 use Rattle.step_relation.specs.Given as given
@@ -9,7 +7,3 @@ use Rattle.step_relation.specs.Given as given
 abbrev pub given_of : Prepared → Given
 given_of (Props props effect) = given.Prepared props effect
 given_of (Fault code path) = Faulted code path
-
--- a registry that judges no kind
-abbrev pub unjudged : Judges
-unjudged name = None

@@ -18,7 +18,9 @@ use heat_plan::{EngineNo, Refusal, Status};
 use heat_value::{Path, Text, TryCopy};
 use std::alloc::{AllocError, Global};
 use step_ends::rolled_behind;
-use step_parts::{failed_mark, left_changes, left_entries, mark_failed, may_rise, with_last};
+use step_parts::{
+    failed_mark, joined, left_changes, left_entries, mark_failed, may_rise, with_last,
+};
 
 /// The begin of a job whose item has this fault.
 pub(crate) fn fault(
@@ -119,15 +121,4 @@ fn mark_first(
         Ok(first) => Ok(joined(first, last)?),
         Err(refusal) => Err(refusal),
     }
-}
-
-// The one step, and then the other.
-fn joined(first: Made, last: Made) -> Result<Made, AllocError>
-    ensures changes { IfOk result (λ m. m.changes ≡ first.changes ++ last.changes) }
-    ensures entries { IfOk result (λ m. m.entries ≡ first.entries ++ last.entries) }
-{
-    Ok(Made {
-        changes: with_last(first.changes, last.changes)?,
-        entries: with_last(first.entries, last.entries)?,
-    })
 }

@@ -2,7 +2,8 @@
 ghost use Rattle.std.specs.Prelude.{IfOk};
 ghost use Rattle.step_relation.specs.Runs.{IsTied};
 ghost use Rattle.check_steps.specs.AtUpdate.{AtUpdate};
-ghost use Rattle.check_steps.specs.Gives.{given_of, unjudged};
+ghost use Rattle.step_relation.specs.Unjudged.{unjudged};
+ghost use Rattle.check_steps.specs.Gives.{given_of};
 
 use crate::finding::find;
 use crate::prepared::Prepared;

@@ -17,7 +17,7 @@ use std::test::Fail;
 use step_reads::Meant;
 use traversal_graph::{Node, TravGraph};
 
-/// How many changes and entries were made, or why none was.
+// How many changes and entries were made, or why none was.
 fn told(made: Result<Made, Refusal>) -> Result<(usize, usize), Refusal> {
     let made = made?;
     Ok((made.changes.len(), made.entries.len()))
@@ -51,7 +51,7 @@ fn kind(rt: &impl AllocGlobal) -> Result<Kind, Fail> {
     })
 }
 
-/// A letter to the first node.
+// A letter to the first node.
 fn letter(rt: &impl AllocGlobal) -> Result<Letter, Fail> {
     let no = LetterNo::new(1).ok_or("a number")?;
     let trav = trav()?;
@@ -63,7 +63,7 @@ fn letter(rt: &impl AllocGlobal) -> Result<Letter, Fail> {
     })
 }
 
-/// A job at Taken, with the row 1.
+// A job at Taken, with the row 1.
 fn job(rt: &impl AllocGlobal) -> Result<Job, Fail> {
     let engine = engine(1)?;
     let row = row_no()?;
@@ -109,7 +109,7 @@ fn no_plan(alloc: Global) -> Plan {
     )
 }
 
-/// The row 1, complete, with this key.
+// The row 1, complete, with this key.
 fn row(rt: &impl AllocGlobal, key: u64) -> Result<Row, Fail> {
     let no = row_no()?;
     let trav = trav()?;
@@ -142,11 +142,11 @@ fn point(rt: &impl AllocGlobal) -> Result<Point, Fail> {
     })
 }
 
-/// How many changes and entries each begin makes, or why it makes none.
+// How many changes and entries each begin makes, or why it makes none.
 type Begins = [Result<(usize, usize), Refusal>; 7];
 
-/// What each begin makes of a row with this key: created, kept, updated, gone on with, left,
-/// replaced, and failed by a fault.
+// What each begin makes of a row with this key: created, kept, updated, gone on with, left,
+// replaced, and failed by a fault.
 fn begins(rt: &impl AllocGlobal, key: u64) -> Result<Begins, Fail> {
     let job = job(rt)?;
     begins_of(rt, key, &job)
@@ -233,10 +233,10 @@ fn a_key_that_can_rise_no_more_is_worn_where_it_would(rt: HostRuntime) -> Result
     Ok(())
 }
 
-/// How many changes and entries each taking makes.
+// How many changes and entries each taking makes.
 type Takings = [Result<(usize, usize), Refusal>; 3];
 
-/// What each taking makes: dropped, held, and taken from the engine 2.
+// What each taking makes: dropped, held, and taken from the engine 2.
 fn takings(rt: &impl AllocGlobal) -> Result<Takings, Fail> {
     let job = job(rt)?;
     takings_of(rt, &job)
@@ -258,7 +258,7 @@ fn takings_in(rt: &impl AllocGlobal, job: &Job, row: &Row, stack: &Stack) -> Res
     Ok(all_takings(rt.alloc(), job, row, stack, &graph, lost))
 }
 
-/// A graph of no node.
+// A graph of no node.
 fn no_graph(rt: &impl AllocGlobal) -> Result<Graph, Fail> {
     Ok(Graph {
         stack: stack_name(rt)?,

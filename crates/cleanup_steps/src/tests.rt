@@ -10,7 +10,7 @@ use heat_value::{Seq, Text};
 use std::alloc::Global;
 use std::test::Fail;
 
-/// How many changes and entries were made, or why none was.
+// How many changes and entries were made, or why none was.
 fn told(made: Result<Made, Refusal>) -> Result<(usize, usize), Refusal> {
     let made = made?;
     Ok((made.changes.len(), made.entries.len()))
@@ -39,7 +39,7 @@ fn letter(rt: &impl AllocGlobal) -> Result<Letter, Fail> {
     })
 }
 
-/// A job at Taken, with the row 1.
+// A job at Taken, with the row 1.
 fn job(rt: &impl AllocGlobal) -> Result<Job, Fail> {
     let engine = engine()?;
     let row = RowNo::new(1).ok_or("a number")?;
@@ -63,7 +63,7 @@ fn name(rt: &impl AllocGlobal) -> Result<ResName, Fail> {
     Ok(ResName::read(rt.alloc(), b"a")?.ok_or("a name")?)
 }
 
-/// The row 1, complete, with this key.
+// The row 1, complete, with this key.
 fn row(rt: &impl AllocGlobal, key: u64) -> Result<Row, Fail> {
     let no = RowNo::new(1).ok_or("a number")?;
     let trav = trav(1)?;
@@ -88,7 +88,7 @@ fn row(rt: &impl AllocGlobal, key: u64) -> Result<Row, Fail> {
     })
 }
 
-/// What each case makes of the row: passed, purged, left, given up, to be deleted.
+// What each case makes of the row: passed, purged, left, given up, to be deleted.
 fn all_cases(alloc: Global, job: &Job, row: &Row) -> [Result<(usize, usize), Refusal>; 5] {
     let e = job.engine;
     [

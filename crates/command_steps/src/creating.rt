@@ -13,7 +13,7 @@ use core_state::{Made, State};
 use heat_plan::{Plan, Refusal, StackName};
 use std::alloc::Global;
 
-/// How many stacks there may be.
+// How many stacks there may be.
 const STACK_LIMIT: usize = 256;
 
 /// The changes and entries of a stack's creation from a plan; the state stays as it is.

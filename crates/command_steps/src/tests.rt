@@ -12,7 +12,7 @@ use heat_value::{Seq, Text};
 use std::alloc::{AllocError, Global};
 use std::test::Fail;
 
-/// An item that needs nothing.
+// An item that needs nothing.
 fn item(alloc: Global, name: &[u8]) -> Result<Item, Fail>
     ensures { IfOk result (λ i. i.needs ≡ []) }
 {
@@ -30,7 +30,7 @@ fn item(alloc: Global, name: &[u8]) -> Result<Item, Fail>
     })
 }
 
-/// The plan of one item.
+// The plan of one item.
 fn plan_of(alloc: Global, item: Item) -> Result<Plan, AllocError>
     requires { item.needs ≡ [] }
 {
@@ -46,13 +46,13 @@ fn plan_of(alloc: Global, item: Item) -> Result<Plan, AllocError>
     ))
 }
 
-/// The plan of one item of this name.
+// The plan of one item of this name.
 fn plan(alloc: Global, name: &[u8]) -> Result<Plan, Fail> {
     let item = item(alloc, name)?;
     Ok(plan_of(alloc, item)?)
 }
 
-/// A plan of nothing.
+// A plan of nothing.
 fn no_plan(alloc: Global) -> Plan {
     Plan::new(
         Seq::new(alloc),
@@ -64,8 +64,8 @@ fn no_plan(alloc: Global) -> Plan {
     )
 }
 
-/// One command: a create of nothing or of `a`, an update to `a` or to `b`, a delete, a rollback or
-/// a cancel.
+// One command: a create of nothing or of `a`, an update to `a` or to `b`, a delete, a rollback or
+// a cancel.
 fn commanded(
     alloc: Global,
     s: &State,
@@ -83,7 +83,7 @@ fn commanded(
     }
 }
 
-/// The rollback behind a failure, where it is due.
+// The rollback behind a failure, where it is due.
 fn rolled_back(alloc: Global, s: &State, name: &StackName) -> Result<Result<Made, Refusal>, Fail> {
     let engine = EngineNo::new(1).ok_or("a number")?;
     match s.stack(name) {
@@ -92,7 +92,7 @@ fn rolled_back(alloc: Global, s: &State, name: &StackName) -> Result<Result<Made
     }
 }
 
-/// Makes the changes.
+// Makes the changes.
 fn apply(s: &mut State, made: Made) -> Result<(), AllocError> {
     let Made {
         changes,
@@ -103,7 +103,7 @@ fn apply(s: &mut State, made: Made) -> Result<(), AllocError> {
     Ok(())
 }
 
-/// The letter of a refusal.
+// The letter of a refusal.
 fn letter_of(refusal: Refusal) -> u8 {
     match refusal {
         Refusal::StackExists => b'E',
@@ -114,7 +114,7 @@ fn letter_of(refusal: Refusal) -> u8 {
     }
 }
 
-/// One command, and its changes where it is made.
+// One command, and its changes where it is made.
 fn run_one(alloc: Global, s: &mut State, name: &StackName, letter: u8) -> Result<u8, Fail> {
     match commanded(alloc, s, name, letter)? {
         Ok(made) => {
@@ -125,7 +125,7 @@ fn run_one(alloc: Global, s: &mut State, name: &StackName, letter: u8) -> Result
     }
 }
 
-/// How many rows, letters and nodes of the stack's graph there are, as digits.
+// How many rows, letters and nodes of the stack's graph there are, as digits.
 fn counts(s: &State, name: &StackName) -> [u8; 3] {
     let nodes = match s.graph(name) {
         Some(graph) => graph.graph.nodes.len(),
@@ -138,12 +138,12 @@ fn counts(s: &State, name: &StackName) -> [u8; 3] {
     ]
 }
 
-/// A digit.
+// A digit.
 fn digit(count: usize) -> u8 {
     if count < 10 { b'0' + count as u8 } else { b'?' }
 }
 
-/// The answers of these commands, and the counts behind them.
+// The answers of these commands, and the counts behind them.
 fn run_all(
     alloc: Global,
     s: &mut State,
@@ -160,14 +160,14 @@ fn run_all(
     Ok(told)
 }
 
-/// The same from the empty state.
+// The same from the empty state.
 fn told(alloc: Global, letters: &[u8]) -> Result<Vec<u8>, Fail> {
     let name = StackName::read(alloc, b"s")?.ok_or("a name")?;
     let mut s = State::new(alloc);
     run_all(alloc, &mut s, &name, letters)
 }
 
-/// Whether these commands give that.
+// Whether these commands give that.
 fn gives(alloc: Global, letters: &[u8], wanted: &[u8]) -> Result<bool, Fail> {
     Ok(told(alloc, letters)?.as_slice() == wanted)
 }

@@ -1,24 +1,31 @@
 -- What the drive of a book came to, over the book that is handed back.
-use Rattle.std.proofs.Common.{◌≡◌, subst}
+use Rattle.std.proofs.Common.{◌≡◌, refl, sym, subst}
 use Rattle.heat_value.specs.Counts.{Rose}
-use Rattle.core_state.specs.State.{StateData}
+use Rattle.history.specs.Opening.{Opening}
 use Rattle.provider.specs.Cloud.{Cloud}
-use Rattle.book.specs.Kept.{Shown, HasRun, HasHeadline, opened}
+use Rattle.book.specs.Kept.{Shown, IsSameBook, HasRun, HasHeadline, opening_of}
 use Rattle.converge_call.specs.declared.exit.Exit.{Exit}
 use Rattle.converge_call.specs.declared.exit.Exit.TheVariants as exit
 use Rattle.converge_call.specs.Drives.{Drove}
 use Rattle.converge_call.specs.Ends.{Outside, streams_of, HasDriven}
 
-pub as_driven : {P : Type 0} (cloud_of : P → Cloud) (first : Shown P) (old new : Outside) (status : Exit) (last b : Shown P)
-    → last ≡ b → first.opening ≡ opened 1
-    → Drove (streams_of old) (streams_of new) first.opening last.state last.entries status
+-- a book opens as it did
+pub same_opening : {P : Type 0} (cloud_of : P → Cloud) (old new : Shown P) → IsSameBook old new
+    → opening_of cloud_of new ≡ opening_of cloud_of old
+same_opening {P} cloud_of old new same = rw (same.opening, same.origin) refl
+
+pub as_driven : {P : Type 0} (cloud_of : P → Cloud) (first : Shown P) (old new : Outside) (status : Exit)
+    (last b : Shown P)
+    → last ≡ b → IsSameBook first last
+    → Drove (opening_of cloud_of first) (streams_of old) (streams_of new) last.state last.entries status
     → (status ≡ exit.ReadFault → Rose old.read_faults new.read_faults)
     → (status ≡ exit.WriteFault → Rose old.write_faults new.write_faults)
     → HasRun cloud_of last → HasHeadline cloud_of last
     → HasDriven cloud_of old new status b
-as_driven {P} cloud_of first old new status last b same opens drove read write run headline =
+as_driven {P} cloud_of first old new status last b same kept drove read write run headline =
     subst (λ (x : Shown P). HasDriven cloud_of old new status x) same (record {
-      drove = subst (λ (s : StateData). Drove (streams_of old) (streams_of new) s last.state last.entries status) opens drove;
+      drove = subst (λ (o : Opening). Drove o (streams_of old) (streams_of new) last.state last.entries status)
+          (sym (same_opening cloud_of first last kept)) drove;
       read = read;
       write = write;
       run = run;

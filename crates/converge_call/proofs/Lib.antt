@@ -1,7 +1,10 @@
-pub mod Engines
-pub mod Turning
 pub mod Noting
+pub mod Ordering
+pub mod Showing
+pub mod Running
+pub mod Turning
 pub mod Lining
-pub mod Driving
+pub mod Wording
 pub mod Answering
+pub mod Driving
 pub mod Handing

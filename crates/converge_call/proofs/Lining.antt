@@ -1,23 +1,43 @@
--- What a line does by what it says, from what its command did.
-use Rattle.std.proofs.Common.{ℕ, List, Result}
-use Rattle.heat_plan.specs.Plans.{PlanData}
-use Rattle.script_lines.specs.Lines.{Says}
-use Rattle.script_lines.specs.declared.command.Command.TheVariants as command
+-- What a line does, from what is done for what it asks, or from the note of its fault.
+use Rattle.std.proofs.Common.{◌≡◌, ℕ, List, sym, subst, Result, Ok, Err}
+use Rattle.core_state.specs.declared.entry.Entry.{Entry}
+use Rattle.core_state.specs.State.{StateData}
+use Rattle.history.specs.Opening.{Opening}
+use Rattle.script_lines.specs.Readings.{Reads}
+use Rattle.script_lines.specs.declared.line.Line.{Line}
+use Rattle.script_lines.specs.declared.misread.Misread.{Misread}
 use Rattle.book.specs.Quiet.{Page}
 use Rattle.converge_call.specs.declared.exit.Exit.{Exit}
-use Rattle.converge_call.specs.Commands.{IsUndone, CreateDoes, ListDoes, RunDoes, RunBreaks, HasDone}
-use Rattle.converge_call.specs.Lines.{LineDoes, LineBreaks, creates, runs, lists, undone, run}
+use Rattle.converge_call.specs.Notes.{IsUndone, HasDone}
+use Rattle.converge_call.specs.Lines.{AskedDoes, AskedBreaks, LineDoes, LineBreaks, IsMisreadFor, asks, misread, unread}
+use Rattle.converge_call.specs.Lines.{asked}
 use Rattle.converge_call.proofs.Noting.{done_as}
 
-module _ (number : ℕ) (line : List ℕ) (old new : Page) (result : Result (Unit {0}) Exit) where
-  pub created_by : (name : List ℕ) (plan : PlanData) → Says line (command.Create name plan)
-      → HasDone (CreateDoes number name plan) IsUndone old new result → HasDone (LineDoes number line) (LineBreaks line) old new result
-  created_by name plan says done = done_as _ _ _ _ old new result (λ es made. creates name plan says made) (λ es why un. undone un) done
+module _ (o : Opening) (h : List Entry) (number : ℕ) (line : List ℕ) (old new : Page)
+    (result : Result (Unit {0}) Exit) where
+  pub asked_by : (said : Line) → Reads line (Ok said)
+      → HasDone (AskedDoes o h number said) (AskedBreaks said) old new result
+      → HasDone (LineDoes o h number line) (LineBreaks line) old new result
+  asked_by said reads it =
+      done_as (AskedDoes o h number said) (LineDoes o h number line) (AskedBreaks said) (LineBreaks line) old new result
+      (λ es does. asks said reads does) (λ es why breaks. asked said reads breaks) it
 
-  pub listed_by : (name : List ℕ) → Says line (command.Resources name)
-      → HasDone (ListDoes number name) IsUndone old new result → HasDone (LineDoes number line) (LineBreaks line) old new result
-  listed_by name says done = done_as _ _ _ _ old new result (λ es made. lists name says made) (λ es why un. undone un) done
+  pub misread_by : (why : Misread)
+      → ((code : List ℕ) (es : List Entry) → IsMisreadFor number why old.state new.state es → Reads line (Err why))
+      → HasDone (IsMisreadFor number why) IsUndone old new result
+      → HasDone (LineDoes o h number line) (LineBreaks line) old new result
+  misread_by why reads it =
+      done_as (IsMisreadFor number why) (LineDoes o h number line) IsUndone (LineBreaks line) old new result
+      (λ es noted. misread why (reads noted.code es noted) noted) (λ es why un. unread un) it
 
-  pub ran_by : Says line command.Run → HasDone RunDoes RunBreaks old new result
-      → HasDone (LineDoes number line) (LineBreaks line) old new result
-  ran_by says done = done_as _ _ _ _ old new result (λ es made. runs says made) (λ es why broken. run says broken) done
+-- what was done for a line that asks for this
+pub asked_as : (o : Opening) (h : List Entry) (number : ℕ) (old new : Page) (result : Result (Unit {0}) Exit)
+    (said asks_for : Line)
+    (D : StateData → StateData → List Entry → Type 0) (B : StateData → StateData → List Entry → Exit → Type 0)
+    → said ≡ asks_for
+    → ((es : List Entry) → D old.state new.state es → AskedDoes o h number asks_for old.state new.state es)
+    → ((es : List Entry) (why : Exit) → B old.state new.state es why → AskedBreaks asks_for old.state new.state es why)
+    → HasDone D B old new result → HasDone (AskedDoes o h number said) (AskedBreaks said) old new result
+asked_as o h number old new result said asks_for D B is does breaks it =
+    subst (λ (l : Line). HasDone (AskedDoes o h number l) (AskedBreaks l) old new result) (sym is)
+    (done_as D (AskedDoes o h number asks_for) B (AskedBreaks asks_for) old new result does breaks it)

@@ -1,75 +1,56 @@
--- What each command of a script does to the state and the history, and where it is broken off.
-use Rattle.std.specs.Prelude.{◌≡◌, ◌≤◌, ℕ, true, false, List, [], ◌∷◌, ◌++◌, Some, None, codes, Result, Ok, Err}
+-- What the lines do that make one step by the reader of commands: the commands, and the changes of engines.
+use Rattle.std.specs.Prelude.{◌≡◌, ℕ, List, Some}
 use Rattle.heat_plan.specs.Plans.{PlanData}
 use Rattle.heat_plan.specs.Refusals.{code_of}
 use Rattle.heat_plan.specs.declared.refusal.Refusal.{Refusal}
-use Rattle.core_state.specs.declared.stack.Stack.{Stack}
 use Rattle.core_state.specs.declared.change.Change.{Change}
-use Rattle.core_state.specs.declared.entry.Actor.TheVariants.{Main}
 use Rattle.core_state.specs.declared.entry.Entry.{Entry}
-use Rattle.core_state.specs.declared.entry.What.{What}
-use Rattle.core_state.specs.declared.entry.What.TheVariants as what
-use Rattle.core_state.specs.declared.entry.ShowWhat.TheVariants as show
 use Rattle.core_state.specs.Changes.{applied}
-use Rattle.core_state.specs.State.{StateData, stack_at}
-use Rattle.step_relation.specs.Refusals.{RefusesCreate}
-use Rattle.command_steps.specs.Answers.{Creates}
-use Rattle.book.specs.Quiet.{Page, IsIdle}
-use Rattle.book.specs.Turned.{IsWornBy}
-use Rattle.converge_call.specs.declared.exit.Exit.{Exit}
-use Rattle.converge_call.specs.declared.exit.Exit.TheVariants as exit
-use Rattle.converge_call.specs.Turns.{Turns, Lacks, work_of}
+use Rattle.core_state.specs.State.{StateData}
+use Rattle.step_relation.specs.Refusals.{RefusesEnlist, RefusesStop}
+use Rattle.takeover_steps.specs.Engines.{Enlists, Stops}
+use Rattle.script_lines.specs.Requested.{BodyData}
+use Rattle.plain_templates.specs.Plans.{IsPlanOf, IsNoPlan}
+use Rattle.plain_templates.specs.Faults.{fault_code, fault_path}
+use Rattle.plain_templates.specs.declared.fault.PlanFault.{PlanFault}
+use Rattle.book.specs.Commands.{IsOrder, RefusesOrder}
+use Rattle.book.specs.declared.commanding.StackCommand.{StackCommand}
+use Rattle.converge_call.specs.Notes.{refused, refused_at, Notes}
 
--- an entry of the reader of commands
-abbrev pub by_main : What → Entry
-by_main it = record { by = Main; what = it }
+-- the line was refused with the code of this refusal
+pub record IsRefusedFor (number : ℕ) (r : Refusal) (old new : StateData) (es : List Entry) : Type 0 where
+  pub code : List ℕ
+  pub its_code : code_of r ≡ Some code
+  pub noted : Notes (refused number code) old new es
 
--- the line of this number was refused with this code
-abbrev pub refused : ℕ → List ℕ → What
-refused number code = what.Note number code None
+-- one such step was made, or the line was refused for the first cause that holds
+pub data StepDoes (number : ℕ) (Is : List Change → List Entry → Type 0) (Refuses : Refusal → Type 0)
+    (old new : StateData) (es : List Entry) : Type 0 where
+  made : (cs : List Change) → Is cs es → new ≡ applied cs old → StepDoes number Is Refuses old new es
+  not_made : (r : Refusal) → Refuses r → IsRefusedFor number r old new es → StepDoes number Is Refuses old new es
 
--- one entry more, and nothing else
-pub record Notes (it : What) (old new : StateData) (es : List Entry) : Type 0 where
-  pub state : new ≡ old
-  pub note : es ≡ by_main it ∷ []
+-- a command on a stack
+abbrev pub OrderDoes : ℕ → StackCommand → StateData → StateData → List Entry → Type 0
+OrderDoes number c old new es = StepDoes number (IsOrder old c) (RefusesOrder old c) old new es
 
--- there was no memory, and nothing was done
-pub record IsUndone (old new : StateData) (es : List Entry) (why : Exit) : Type 0 where
-  pub state : new ≡ old
-  pub none : es ≡ []
-  pub memory : why ≡ exit.Memory
+-- the line was refused with the code of this fault, at its place
+pub record IsUnplannedFor (number : ℕ) (why : PlanFault) (old new : StateData) (es : List Entry) : Type 0 where
+  pub code : List ℕ
+  pub its_code : fault_code why ≡ Some code
+  pub noted : Notes (refused_at number code (fault_path why)) old new es
 
--- a create makes its step, or is refused by the first cause that holds
-pub data CreateDoes (number : ℕ) (name : List ℕ) (plan : PlanData) (old new : StateData) (es : List Entry) : Type 0 where
-  created : (cs : List Change) → Creates old name plan false cs es → new ≡ applied cs old → CreateDoes number name plan old new es
-  not_created : (r : Refusal) (code : List ℕ) → RefusesCreate old name plan false r → code_of r ≡ Some code
-      → Notes (refused number code) old new es → CreateDoes number name plan old new es
+-- a command with the plan of a body, which may have none
+pub data BodyDoes (number : ℕ) (body : BodyData) (order : PlanData → StackCommand) (old new : StateData)
+    (es : List Entry) : Type 0 where
+  planned : (plan : PlanData) → IsPlanOf body plan → OrderDoes number (order plan) old new es
+      → BodyDoes number body order old new es
+  unplanned : (why : PlanFault) → IsNoPlan body why → IsUnplannedFor number why old new es
+      → BodyDoes number body order old new es
 
--- a listing shows the stack's rows, or there is no stack of the name
-pub data ListDoes (number : ℕ) (name : List ℕ) (old new : StateData) (es : List Entry) : Type 0 where
-  listed : (there : Stack) → stack_at old.stacks name ≡ Some there → Notes (what.Show show.Resources name) old new es
-      → ListDoes number name old new es
-  unknown : stack_at old.stacks name ≡ None → Notes (refused number (codes "E11")) old new es
-      → ListDoes number name old new es
+-- an engine is stopped
+abbrev pub StopDoes : ℕ → ℕ → StateData → StateData → List Entry → Type 0
+StopDoes number e old new es = StepDoes number (Stops old e) (RefusesStop old e) old new es
 
--- a run makes turns until the engine is idle, or as many as there was work, and notes how many
-pub data RunDoes (old new : StateData) (es : List Entry) : Type 0 where
-  idle : (m : ℕ) (turned : List Entry) → m ≤ work_of old → Turns old new turned m → IsIdle new
-      → es ≡ turned ++ by_main (what.Ran true m) ∷ [] → RunDoes old new es
-  tired : (turned : List Entry) → Turns old new turned (work_of old) → ¬ IsIdle new
-      → es ≡ turned ++ by_main (what.Ran false (work_of old)) ∷ [] → RunDoes old new es
-
--- A run was broken off behind some turns: there was no memory, or a number would have come to 2^62.
-pub data RunBreaks (old new : StateData) (es : List Entry) (why : Exit) : Type 0 where
-  lacking : (m : ℕ) (mid : StateData) (turned rest : List Entry) → Turns old mid turned m → Lacks mid new rest
-      → es ≡ turned ++ rest → why ≡ exit.Memory → RunBreaks old new es why
-  worn_out : (m : ℕ) → Turns old new es m → IsWornBy new 1 → why ≡ exit.Worn → RunBreaks old new es why
-
--- Something was done to state and history as Does says, or broken off as Breaks says.
-pub data HasDone (Does : StateData → StateData → List Entry → Type 0)
-    (Breaks : StateData → StateData → List Entry → Exit → Type 0)
-    (old new : Page) (result : Result (Unit {0}) Exit) : Type 0 where
-  did : (es : List Entry) → Does old.state new.state es → new.entries ≡ old.entries ++ es → result ≡ Ok tt
-      → HasDone Does Breaks old new result
-  broke : (es : List Entry) (why : Exit) → Breaks old.state new.state es why → new.entries ≡ old.entries ++ es
-      → result ≡ Err why → HasDone Does Breaks old new result
+-- an engine more is live
+abbrev pub StartDoes : ℕ → StateData → StateData → List Entry → Type 0
+StartDoes number old new es = StepDoes number (Enlists old) (RefusesEnlist old) old new es

@@ -2,6 +2,7 @@
 use Rattle.std.specs.Prelude.{◌≡◌, ◌⊎◌, ◌<◌, ◌≤◌, ◌+◌, ℕ, List, [], ◌∷◌, ◌++◌, Option, Some, Result, Ok, Err, length}
 use Rattle.core_state.specs.declared.entry.Entry.{Entry}
 use Rattle.core_state.specs.State.{StateData}
+use Rattle.history.specs.Opening.{Opening}
 use Rattle.heat_io.specs.Lines.{cut_lines, length_of_line, size_of_line, line_limit, script_limit}
 use Rattle.heat_io.specs.Reading.{Reads}
 use Rattle.heat_io.specs.Streams.{grown}
@@ -17,20 +18,22 @@ pub data EndsWriting : Exit → Type 0 where
   no_memory : EndsWriting exit.Memory
 
 -- the text is written, or the first of it
-pub data Written (holds_old holds_new : Option (List ℕ)) (text : List ℕ) (result : Result (Unit {0}) Exit) : Type 0 where
+pub data Written (holds_old holds_new : Option (List ℕ)) (text : List ℕ)
+    (result : Result (Unit {0}) Exit) : Type 0 where
   all : holds_new ≡ grown holds_old text → result ≡ Ok tt → Written holds_old holds_new text result
   first : (written rest : List ℕ) (why : Exit) → text ≡ written ++ rest → holds_new ≡ grown holds_old written
       → EndsWriting why → result ≡ Err why → Written holds_old holds_new text result
 
 -- A line was done and what it added to the text was written, or the first of it; or it was broken off, and
 -- nothing was written.
-pub data LineAnswered (number : ℕ) (line : List ℕ) (opening : StateData) (old new : Page) (holds_old holds_new : Option (List ℕ))
+pub data LineAnswered (o : Opening) (number : ℕ) (line : List ℕ) (old new : Page)
+    (holds_old holds_new : Option (List ℕ))
     (result : Result (Unit {0}) Exit) : Type 0 where
-  done : (es : List Entry) → LineDoes number line old.state new.state es → new.entries ≡ old.entries ++ es
-      → Written holds_old holds_new (text_after opening new.entries (length old.entries)) result
-      → LineAnswered number line opening old new holds_old holds_new result
+  done : (es : List Entry) → LineDoes o old.entries number line old.state new.state es → new.entries ≡ old.entries ++ es
+      → Written holds_old holds_new (text_after o.state new.entries (length old.entries)) result
+      → LineAnswered o number line old new holds_old holds_new result
   broke : (es : List Entry) (why : Exit) → LineBreaks line old.state new.state es why → new.entries ≡ old.entries ++ es
-      → holds_new ≡ holds_old → result ≡ Err why → LineAnswered number line opening old new holds_old holds_new result
+      → holds_new ≡ holds_old → result ≡ Err why → LineAnswered o number line old new holds_old holds_new result
 
 -- These are the first lines of the script, each within the limits. What is ahead are the others, and all
 -- bytes before them, line ends too, are so many.
@@ -47,7 +50,8 @@ PassesLimit rest given =
 
 -- where the source tells its bytes, these are its first lines
 abbrev pub FirstRead : Option (List ℕ) → List (List ℕ) → Type 0
-FirstRead left lines = (bytes : List ℕ) → left ≡ Some bytes → (rest : List ℕ) × (given : ℕ) × AreRead bytes lines rest given
+FirstRead left lines = (bytes : List ℕ) → left ≡ Some bytes
+    → (rest : List ℕ) × (given : ℕ) × AreRead bytes lines rest given
 
 -- where the source tells its bytes, these are its first lines, and the next one passes a limit
 abbrev pub LimitRead : Option (List ℕ) → List (List ℕ) → Type 0
@@ -67,23 +71,24 @@ pub record Streams : Type 0 where
 abbrev pub streams : Option (List ℕ) → Option (List ℕ) → Streams
 streams left holds = record { left = left; holds = holds }
 
--- A drive over a book on which nothing was done, from the state first to the state last with the history h:
+-- A drive over a book on which nothing was done, from its opening to the state last with the history h:
 -- the script was read to its end; the next line wasn't read; a line was broken off; a line was done, and of
 -- what it added to the text no more than a first part is written, behind the text of all lines before it.
-pub data Drove (old new : Streams) (first last : StateData) (h : List Entry) (status : Exit) : Type 0 where
-  done : (lines : List (List ℕ)) → Serial first lines last h → AllRead old.left new.left lines
-      → new.holds ≡ grown old.holds (text_of first h) → status ≡ exit.Done → Drove old new first last h status
-  too_long : (lines : List (List ℕ)) → Serial first lines last h → LimitRead old.left lines
-      → new.holds ≡ grown old.holds (text_of first h) → status ≡ exit.TooLong → Drove old new first last h status
-  not_read : (lines : List (List ℕ)) → Serial first lines last h → FirstRead old.left lines
-      → new.holds ≡ grown old.holds (text_of first h) → (status ≡ exit.ReadFault) ⊎ (status ≡ exit.Memory)
-      → Drove old new first last h status
+pub data Drove (o : Opening) (old new : Streams) (last : StateData) (h : List Entry) (status : Exit) : Type 0 where
+  done : (lines : List (List ℕ)) → Serial o lines last h → AllRead old.left new.left lines
+      → new.holds ≡ grown old.holds (text_of o.state h) → status ≡ exit.Done → Drove o old new last h status
+  too_long : (lines : List (List ℕ)) → Serial o lines last h → LimitRead old.left lines
+      → new.holds ≡ grown old.holds (text_of o.state h) → status ≡ exit.TooLong → Drove o old new last h status
+  not_read : (lines : List (List ℕ)) → Serial o lines last h → FirstRead old.left lines
+      → new.holds ≡ grown old.holds (text_of o.state h) → (status ≡ exit.ReadFault) ⊎ (status ≡ exit.Memory)
+      → Drove o old new last h status
   broken_off : (lines : List (List ℕ)) (mid : StateData) (so_far : List Entry) (line : List ℕ) (rest : List Entry)
-      → Serial first lines mid so_far → LineBreaks line mid last rest status → h ≡ so_far ++ rest
-      → FirstRead old.left (lines ++ line ∷ []) → new.holds ≡ grown old.holds (text_of first so_far)
-      → Drove old new first last h status
-  not_written : (lines : List (List ℕ)) (mid : StateData) (so_far : List Entry) (line : List ℕ) (es : List Entry) (written rest : List ℕ)
-      → Serial first lines mid so_far → LineDoes (length lines + 1) line mid last es → h ≡ so_far ++ es
-      → FirstRead old.left (lines ++ line ∷ []) → text_after first h (length so_far) ≡ written ++ rest
-      → new.holds ≡ grown old.holds (text_of first so_far ++ written)
-      → EndsWriting status → Drove old new first last h status
+      → Serial o lines mid so_far → LineBreaks line mid last rest status → h ≡ so_far ++ rest
+      → FirstRead old.left (lines ++ line ∷ []) → new.holds ≡ grown old.holds (text_of o.state so_far)
+      → Drove o old new last h status
+  not_written : (lines : List (List ℕ)) (mid : StateData) (so_far : List Entry) (line : List ℕ) (es : List Entry)
+      (written rest : List ℕ)
+      → Serial o lines mid so_far → LineDoes o so_far (length lines + 1) line mid last es → h ≡ so_far ++ es
+      → FirstRead old.left (lines ++ line ∷ []) → text_after o.state h (length so_far) ≡ written ++ rest
+      → new.holds ≡ grown old.holds (text_of o.state so_far ++ written)
+      → EndsWriting status → Drove o old new last h status

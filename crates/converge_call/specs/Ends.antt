@@ -2,14 +2,16 @@
 use Rattle.std.specs.Prelude.{◌≡◌, ℕ, List, Option}
 use Rattle.heat_value.specs.Counts.{Rose}
 use Rattle.heat_plan.specs.declared.token.Token.{Token}
+use Rattle.core_state.specs.State.{StateData}
 use Rattle.provider.specs.Calls.{ListsNone}
 use Rattle.provider.specs.Changes.{IsAsBefore}
 use Rattle.provider.specs.Cloud.{Cloud}
-use Rattle.book.specs.Kept.{Shown, HasRun, HasHeadline, opened}
+use Rattle.book.specs.Kept.{Shown, HasRun, HasHeadline, opened, opening_of}
 use Rattle.book.specs.Openings.{HasStranger}
 use Rattle.converge_call.specs.declared.exit.Exit.{Exit}
 use Rattle.converge_call.specs.declared.exit.Exit.TheVariants as exit
 use Rattle.converge_call.specs.declared.exit.Finding.TheVariants.{Stranger}
+use Rattle.converge_call.specs.Words.{Drives}
 use Rattle.converge_call.specs.Drives.{Streams, streams, Drove}
 
 -- what a source and a sink show at one moment: what is left and held, and how often they have failed
@@ -26,26 +28,38 @@ outside left read_faults holds write_faults =
 abbrev pub streams_of : Outside → Streams
 streams_of o = streams o.left o.holds
 
+-- as many engines are live at the opening as the words say, and nothing else stands
+pub record OpensFor (words : List (List ℕ)) (opening : StateData) : Type 0 where
+  pub workers : ℕ
+  pub form : Drives words workers
+  pub opens : opening ≡ opened workers
+
 -- A book that was opened was driven by the lines: the history is that of the lines read and what is written its text;
--- it is a run's, its calls are the cloud's trace, and the main theorem holds of it. Faults of the outside come only where
+-- it is a run's, its calls are the cloud's trace, and the main theorem holds of it. Faults of the outside come only
+-- where
 -- a count rose.
-pub record HasDriven {P : Type 0} (cloud_of : P → Cloud) (old new : Outside) (status : Exit) (b : Shown P) : Type 0 where
-  pub drove : Drove (streams_of old) (streams_of new) (opened 1) b.state b.entries status
+pub record HasDriven {P : Type 0} (cloud_of : P → Cloud) (old new : Outside) (status : Exit)
+    (b : Shown P) : Type 0 where
+  pub drove : Drove (opening_of cloud_of b) (streams_of old) (streams_of new) b.state b.entries status
   pub read : status ≡ exit.ReadFault → Rose old.read_faults new.read_faults
   pub write : status ≡ exit.WriteFault → Rose old.write_faults new.write_faults
   pub run : HasRun cloud_of b
   pub headline : HasHeadline cloud_of b
 
--- Why no book was opened, and what was done to the cloud: for the words nothing; else it was asked for its list at most.
+-- Why no book was opened, and what was done to the cloud: for the words nothing; else it was asked for its list at
+-- most.
 pub data IsUnopened {P : Type 0} (cloud_of : P → Cloud) (cloud left : P) (status : Exit) : Type 0 where
   by_words : status ≡ exit.Usage → left ≡ cloud → IsUnopened cloud_of cloud left status
   by_memory : status ≡ exit.Memory → IsAsBefore (cloud_of cloud) (cloud_of left) → IsUnopened cloud_of cloud left status
-  by_fault : status ≡ exit.CloudFault → ListsNone (cloud_of cloud) (cloud_of left) → IsUnopened cloud_of cloud left status
-  by_stranger : (token : Token) → status ≡ exit.Disagree token Stranger → HasStranger token (cloud_of cloud) (cloud_of left)
+  by_fault : status ≡ exit.CloudFault → ListsNone (cloud_of cloud) (cloud_of left)
+      → IsUnopened cloud_of cloud left status
+  by_stranger : (token : Token) → status ≡ exit.Disagree token Stranger
+      → HasStranger token (cloud_of cloud) (cloud_of left)
       → IsUnopened cloud_of cloud left status
 
 -- No book was opened, for its cause: nothing was read or written.
-pub record IsUntouched {S K P : Type 0} (cloud_of : P → Cloud) (source_old source_new : S) (sink_old sink_new : K) (cloud left : P)
+pub record IsUntouched {S K P : Type 0} (cloud_of : P → Cloud) (source_old source_new : S) (sink_old sink_new : K)
+    (cloud left : P)
     (status : Exit) : Type 0 where
   pub cause : IsUnopened cloud_of cloud left status
   pub unread : source_new ≡ source_old

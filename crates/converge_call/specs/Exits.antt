@@ -1,7 +1,8 @@
 -- The status that the program ends with.
 use Rattle.std.specs.Prelude.{ℕ}
 use Rattle.converge_call.specs.declared.exit.Exit.{Exit}
-use Rattle.converge_call.specs.declared.exit.Exit.TheVariants.{CloudFault, Disagree, Done, Memory, ReadFault, TooLong, Usage, Worn, WriteFault}
+use Rattle.converge_call.specs.declared.exit.Exit.TheVariants.{CloudFault, Disagree, Done, Memory, ReadFault, TooLong}
+use Rattle.converge_call.specs.declared.exit.Exit.TheVariants.{Usage, Worn, WriteFault}
 
 abbrev pub status_of : Exit → ℕ
 status_of Done = 0

@@ -1,5 +1,8 @@
-pub mod Turns
+pub mod Words
+pub mod Notes
 pub mod Commands
+pub mod Shows
+pub mod Runs
 pub mod Lines
 pub mod Drives
 pub mod Exits

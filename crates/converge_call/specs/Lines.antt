@@ -1,34 +1,82 @@
 -- What each line of the script adds to the history, and the history of a list of lines.
-use Rattle.std.specs.Prelude.{◌≡◌, ◌+◌, ℕ, List, [], ◌∷◌, ◌++◌, codes, length}
-use Rattle.heat_plan.specs.Plans.{PlanData}
+use Rattle.std.specs.Prelude.{◌≡◌, ◌+◌, ℕ, List, [], ◌∷◌, ◌++◌, Some, Ok, Err, codes, length}
 use Rattle.core_state.specs.declared.entry.Entry.{Entry}
+use Rattle.core_state.specs.declared.entry.ShowWhat.TheVariants as show
 use Rattle.core_state.specs.State.{StateData}
-use Rattle.script_lines.specs.Lines.{Says}
-use Rattle.script_lines.specs.declared.command.Command.{Command}
-use Rattle.script_lines.specs.declared.command.Command.TheVariants.{Blank, Create, Run, Resources}
+use Rattle.history.specs.Opening.{Opening}
+use Rattle.script_lines.specs.Readings.{Reads}
+use Rattle.script_lines.specs.Misreads.{misread_code, misread_path}
+use Rattle.script_lines.specs.declared.line.Line.{Line}
+use Rattle.script_lines.specs.declared.line.Line.TheVariants.{Blank, Create, Update, Delete, Cancel, Status, Resources}
+use Rattle.script_lines.specs.declared.line.Line.TheVariants.{Outputs, Types, Run, Turn, Stop, Start, Restart}
+use Rattle.script_lines.specs.declared.misread.Misread.{Misread}
+use Rattle.book.specs.declared.commanding.StackCommand.TheVariants as order
 use Rattle.converge_call.specs.declared.exit.Exit.{Exit}
-use Rattle.converge_call.specs.Commands.{refused, Notes, IsUndone, CreateDoes, ListDoes, RunDoes, RunBreaks}
+use Rattle.converge_call.specs.Notes.{refused, refused_at, Notes, IsNothing, IsUndone}
+use Rattle.converge_call.specs.Commands.{BodyDoes, OrderDoes, StopDoes, StartDoes}
+use Rattle.converge_call.specs.Shows.{ShowDoes, OutputsDoes}
+use Rattle.converge_call.specs.Runs.{RunDoes, RunBreaks, TurnDoes, TurnBreaks}
 
--- what the line of this number does: the state behind it, and the entries that it adds
-pub data LineDoes (number : ℕ) (line : List ℕ) (old new : StateData) (es : List Entry) : Type 0 where
-  blank : Says line Blank → new ≡ old → es ≡ [] → LineDoes number line old new es
-  creates : (name : List ℕ) (plan : PlanData) → Says line (Create name plan) → CreateDoes number name plan old new es
-      → LineDoes number line old new es
-  runs : Says line Run → RunDoes old new es → LineDoes number line old new es
-  lists : (name : List ℕ) → Says line (Resources name) → ListDoes number name old new es → LineDoes number line old new es
-  not_built : ((said : Command) → ¬ Says line said) → Notes (refused number (codes "N00")) old new es
-      → LineDoes number line old new es
+-- what is done behind the history h for a line that asks for this: the state behind it, and the entries that it adds
+abbrev pub AskedDoes : Opening → List Entry → ℕ → Line → StateData → StateData → List Entry → Type 0
+AskedDoes o h number Blank old new es = IsNothing old new es
+AskedDoes o h number (Create name body) old new es =
+    BodyDoes number body (λ plan. order.Create name plan body.rollback) old new es
+AskedDoes o h number (Update name body) old new es =
+    BodyDoes number body (λ plan. order.Update name plan body.rollback) old new es
+AskedDoes o h number (Delete name) old new es = OrderDoes number (order.Delete name) old new es
+AskedDoes o h number (Cancel name) old new es = OrderDoes number (order.Cancel name) old new es
+AskedDoes o h number (Status name) old new es = ShowDoes number show.Status name old new es
+AskedDoes o h number (Resources name) old new es = ShowDoes number show.Resources name old new es
+AskedDoes o h number (Outputs name) old new es = OutputsDoes number name old new es
+AskedDoes o h number (Types catalogue) old new es = Notes (refused number (codes "N00")) old new es
+AskedDoes o h number (Run asked) old new es = RunDoes o h number asked old new es
+AskedDoes o h number (Turn e) old new es = TurnDoes number e old new es
+AskedDoes o h number (Stop e) old new es = StopDoes number e old new es
+AskedDoes o h number Start old new es = StartDoes number old new es
+AskedDoes o h number Restart old new es = Notes (refused number (codes "N00")) old new es
 
--- where a line was broken off, and why: nothing was done, or some turns of a run
+-- where it is broken off, and why
+abbrev pub AskedBreaks : Line → StateData → StateData → List Entry → Exit → Type 0
+AskedBreaks Blank old new es why = IsUndone old new es why
+AskedBreaks (Create name body) old new es why = IsUndone old new es why
+AskedBreaks (Update name body) old new es why = IsUndone old new es why
+AskedBreaks (Delete name) old new es why = IsUndone old new es why
+AskedBreaks (Cancel name) old new es why = IsUndone old new es why
+AskedBreaks (Status name) old new es why = IsUndone old new es why
+AskedBreaks (Resources name) old new es why = IsUndone old new es why
+AskedBreaks (Outputs name) old new es why = IsUndone old new es why
+AskedBreaks (Types catalogue) old new es why = IsUndone old new es why
+AskedBreaks (Run asked) old new es why = RunBreaks asked old new es why
+AskedBreaks (Turn e) old new es why = TurnBreaks e old new es why
+AskedBreaks (Stop e) old new es why = IsUndone old new es why
+AskedBreaks Start old new es why = IsUndone old new es why
+AskedBreaks Restart old new es why = IsUndone old new es why
+
+-- the line was refused with the code of this fault, at its place
+pub record IsMisreadFor (number : ℕ) (why : Misread) (old new : StateData) (es : List Entry) : Type 0 where
+  pub code : List ℕ
+  pub its_code : misread_code why ≡ Some code
+  pub noted : Notes (refused_at number code (misread_path why)) old new es
+
+-- what the line of this number does: what it asks for, or a note of the first fault of it
+pub data LineDoes (o : Opening) (h : List Entry) (number : ℕ) (line : List ℕ) (old new : StateData)
+    (es : List Entry) : Type 0 where
+  asks : (said : Line) → Reads line (Ok said) → AskedDoes o h number said old new es
+      → LineDoes o h number line old new es
+  misread : (why : Misread) → Reads line (Err why) → IsMisreadFor number why old new es
+      → LineDoes o h number line old new es
+
+-- where a line was broken off, and why
 pub data LineBreaks (line : List ℕ) (old new : StateData) (es : List Entry) (why : Exit) : Type 0 where
-  undone : IsUndone old new es why → LineBreaks line old new es why
-  run : Says line Run → RunBreaks old new es why → LineBreaks line old new es why
+  unread : IsUndone old new es why → LineBreaks line old new es why
+  asked : (said : Line) → Reads line (Ok said) → AskedBreaks said old new es why → LineBreaks line old new es why
 
--- the history of a list of lines, numbered from 1, from a state on
-pub data Serial (first : StateData) : List (List ℕ) → StateData → List Entry → Type 0 where
+-- the history of a list of lines, numbered from 1, from the opening on
+pub data Serial (o : Opening) : List (List ℕ) → StateData → List Entry → Type 0 where
   begins : (lines : List (List ℕ)) (last : StateData) (all : List Entry)
-      → lines ≡ [] → last ≡ first → all ≡ [] → Serial first lines last all
+      → lines ≡ [] → last ≡ o.state → all ≡ [] → Serial o lines last all
   adds : (before : List (List ℕ)) (mid : StateData) (so_far : List Entry) (line : List ℕ)
       (lines : List (List ℕ)) (last : StateData) (es all : List Entry)
-      → Serial first before mid so_far → LineDoes (length before + 1) line mid last es
-      → lines ≡ before ++ line ∷ [] → all ≡ so_far ++ es → Serial first lines last all
+      → Serial o before mid so_far → LineDoes o so_far (length before + 1) line mid last es
+      → lines ≡ before ++ line ∷ [] → all ≡ so_far ++ es → Serial o lines last all

@@ -1,8 +1,8 @@
 //! Reads a script line by line, does each, and writes what it added to the text.
-ghost use Rattle.std.specs.Prelude.{◌≡◌, ◌≤◌, ◌∷◌, [], length, IsErrOf};
+ghost use Rattle.std.specs.Prelude.{◌≡◌, ◌≤◌, [], length, IsErrOf};
 ghost use Rattle.heat_value.specs.Counts.{Rose};
 ghost use Rattle.report.specs.Text.{text_after};
-ghost use Rattle.book.specs.Kept.{IsSameBook};
+ghost use Rattle.book.specs.Kept.{IsSameBook, opening_of};
 ghost use Rattle.book.specs.Quiet.{page};
 ghost use Rattle.converge_call.specs.Drives.{streams, Drove, LineAnswered, Written};
 
@@ -24,10 +24,8 @@ pub fn drive<S: Source, K: Sink, P: Provider>(
 ) -> Exit
     requires fresh { book.old.entries ≡ [] }
     requires opened { book.old.state ≡ book.old.opening }
-    requires one { book.old.state.live ≡ 1 ∷ [] }
-    ensures drove { Drove (streams (S.left source.old) (K.holds sink.old))
-        (streams (S.left source.new) (K.holds sink.new))
-        book.old.opening book.new.state book.new.entries result }
+    ensures drove { Drove (opening_of P.cloud book.old) (streams (S.left source.old) (K.holds sink.old))
+        (streams (S.left source.new) (K.holds sink.new)) book.new.state book.new.entries result }
     ensures read { result ≡ Exit.ReadFault → Rose (S.faults source.old) (S.faults source.new) }
     ensures write { result ≡ Exit.WriteFault → Rose (K.faults sink.old) (K.faults sink.new) }
     ensures same { IsSameBook book.old book.new }
@@ -57,13 +55,11 @@ fn answer<K: Sink, P: Provider>(
     number: u64,
     line: &[u8],
 ) -> Result<(), Exit>
-    requires one { book.old.state.live ≡ 1 ∷ [] }
-    ensures answered { LineAnswered number line.now book.old.opening
+    ensures answered { LineAnswered (opening_of P.cloud book.old) number line.now
         (page book.old.state book.old.entries) (page book.new.state book.new.entries)
         (K.holds sink.old) (K.holds sink.new) result }
     ensures later { K.faults sink.old ≤ K.faults sink.new }
     ensures write { IsErrOf result Exit.WriteFault → Rose (K.faults sink.old) (K.faults sink.new) }
-    ensures live { book.new.state.live ≡ book.old.state.live }
     ensures same { IsSameBook book.old book.new }
 {
     let from = book.entries().len();

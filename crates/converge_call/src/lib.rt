@@ -4,14 +4,16 @@
 //! specs/Ends.antt, and for each line to `LineDoes` of specs/Lines.antt.
 #![tactic(auto)]
 
+mod commands;
 mod drive;
 mod exit;
 mod line;
-mod ran;
+mod notes;
+mod runs;
+mod shows;
 mod top;
 mod words;
 
 pub use exit::{Exit, Finding};
-pub use ran::{Ran, turns, work};
-pub use top::{End, Outcome, converge};
-pub use words::{Mode, WordsFault, words_of};
+pub use top::{End, Outcome, converge, run_serial};
+pub use words::{MOST_WORKERS, Mode, Setup, WordsFault, words_of};

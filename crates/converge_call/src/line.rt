@@ -1,20 +1,19 @@
 //! What one line of the script does.
-ghost use Rattle.std.specs.Prelude.{◌≡◌, ◌∷◌, []};
-ghost use Rattle.core_state.specs.declared.entry.What.TheVariants as what;
-ghost use Rattle.step_relation.specs.Steps.{IsNote};
-ghost use Rattle.book.specs.Kept.{IsSameBook};
+ghost use Rattle.std.specs.Prelude.{Some, None};
+ghost use Rattle.book.specs.Kept.{IsSameBook, opening_of};
 ghost use Rattle.book.specs.Quiet.{page};
-ghost use Rattle.converge_call.specs.Commands.{refused, Notes, IsUndone, CreateDoes, ListDoes, RunDoes, RunBreaks, HasDone};
-ghost use Rattle.converge_call.specs.Lines.{LineDoes, LineBreaks};
+ghost use Rattle.converge_call.specs.Notes.{HasDone, IsUndone};
+ghost use Rattle.converge_call.specs.Lines.{AskedDoes, AskedBreaks, LineDoes, LineBreaks, IsMisreadFor};
 
+use crate::commands::{create, order, start, stop, update};
 use crate::exit::Exit;
-use crate::ran::{Ran, turns, work};
+use crate::notes::{refuse, refuse_at};
+use crate::runs::{run, turn};
+use crate::shows::{outputs, show};
 use book::{Book, StackCommand};
-use core_state::{ShowWhat, What};
-use heat_plan::{Plan, StackName};
-use heat_value::Text;
+use core_state::ShowWhat;
 use provider::Provider;
-use script_lines::{Command, LineFault};
+use script_lines::{Line, Misread};
 use std::alloc::Global;
 
 /// Does what the line of this number says; the status is why it couldn't.
@@ -24,125 +23,60 @@ pub fn do_line<P: Provider>(
     number: u64,
     line: &[u8],
 ) -> Result<(), Exit>
-    requires one { book.old.state.live ≡ 1 ∷ [] }
-    ensures done { HasDone (LineDoes number line.now) (LineBreaks line.now)
+    ensures done { HasDone (LineDoes (opening_of P.cloud book.old) book.old.entries number line.now)
+        (LineBreaks line.now)
         (page book.old.state book.old.entries) (page book.new.state book.new.entries) result }
-    ensures live { book.new.state.live ≡ book.old.state.live }
     ensures same { IsSameBook book.old book.new }
 {
-    match Command::read(alloc, line) {
-        Ok(Command::Blank) => Ok(()),
-        Ok(Command::Create(name, plan)) => create(alloc, book, number, name, plan),
-        Ok(Command::Run) => run(book),
-        Ok(Command::Resources(name)) => list(alloc, book, number, name),
-        Err(LineFault::N00) => refuse(alloc, book, number, "N00"),
-        Err(LineFault::Memory) => Err(Exit::Memory),
+    match Line::read(alloc, line) {
+        Ok(asked) => do_asked(alloc, book, number, asked),
+        Err(misread) => refuse_line(alloc, book, number, &misread),
     }
 }
 
-// Creates a stack, or notes why not.
-fn create<P: Provider>(
+// Does what a line asks for.
+fn do_asked<P: Provider>(
     alloc: Global,
     book: &mut Book<P>,
     number: u64,
-    name: StackName,
-    plan: Plan,
+    asked: Line,
 ) -> Result<(), Exit>
-    ensures done { HasDone (CreateDoes number name plan) IsUndone
+    ensures done { HasDone (AskedDoes (opening_of P.cloud book.old) book.old.entries number asked)
+        (AskedBreaks asked)
         (page book.old.state book.old.entries) (page book.new.state book.new.entries) result }
-    ensures live { book.new.state.live ≡ book.old.state.live }
     ensures same { IsSameBook book.old book.new }
 {
-    match book.command(StackCommand::Create(name, plan, false)) {
-        Ok(_) => Ok(()),
-        Err(refusal) => match refusal.code() {
-            Some(code) => refuse(alloc, book, number, code),
-            None => Err(Exit::Memory),
-        },
+    match asked {
+        Line::Blank => Ok(()),
+        Line::Create(name, body) => create(alloc, book, number, name, &body),
+        Line::Update(name, body) => update(alloc, book, number, name, &body),
+        Line::Delete(name) => order(alloc, book, number, StackCommand::Delete(name)),
+        Line::Cancel(name) => order(alloc, book, number, StackCommand::Cancel(name)),
+        Line::Status(stack) => show(alloc, book, number, ShowWhat::Status, stack),
+        Line::Resources(stack) => show(alloc, book, number, ShowWhat::Resources, stack),
+        Line::Outputs(stack) => outputs(alloc, book, number, stack),
+        Line::Run(most) => run(alloc, book, number, most),
+        Line::Turn(engine) => turn(alloc, book, number, engine),
+        Line::Stop(engine) => stop(alloc, book, number, engine),
+        Line::Start => start(alloc, book, number),
+        Line::Types(_) => refuse(alloc, book, number, "N00"),
+        Line::Restart => refuse(alloc, book, number, "N00"),
     }
 }
 
-// Makes turns until the book is idle, and notes how many.
-fn run<P: Provider>(book: &mut Book<P>) -> Result<(), Exit>
-    requires one { book.old.state.live ≡ 1 ∷ [] }
-    ensures done { HasDone RunDoes RunBreaks
-        (page book.old.state book.old.entries) (page book.new.state book.new.entries) result }
-    ensures live { book.new.state.live ≡ book.old.state.live }
-    ensures same { IsSameBook book.old book.new }
-{
-    let most = work(book.state());
-    match turns(book, most) {
-        Ran::Idle(turns) => ran(book, true, turns),
-        Ran::Tired(turns) => ran(book, false, turns),
-        Ran::Worn => Err(Exit::Worn),
-        Ran::Memory => Err(Exit::Memory),
-    }
-}
-
-// Notes how a run ended.
-fn ran<P: Provider>(book: &mut Book<P>, idle: bool, turns: u128) -> Result<(), Exit>
-    ensures done { HasDone (Notes (what.Ran idle turns)) IsUndone
-        (page book.old.state book.old.entries) (page book.new.state book.new.entries) result }
-    ensures live { book.new.state.live ≡ book.old.state.live }
-    ensures same { IsSameBook book.old book.new }
-{
-    note(book, What::Ran { idle, turns })
-}
-
-// Shows a stack's rows, or notes that there is none.
-fn list<P: Provider>(
+// Notes what is wrong with a line.
+fn refuse_line<P: Provider>(
     alloc: Global,
     book: &mut Book<P>,
     number: u64,
-    stack: StackName,
+    misread: &Misread,
 ) -> Result<(), Exit>
-    ensures done { HasDone (ListDoes number stack) IsUndone
+    ensures done { HasDone (IsMisreadFor number misread.now) IsUndone
         (page book.old.state book.old.entries) (page book.new.state book.new.entries) result }
-    ensures live { book.new.state.live ≡ book.old.state.live }
     ensures same { IsSameBook book.old book.new }
 {
-    if book.state().stack(&stack).is_none() {
-        return refuse(alloc, book, number, "E11");
-    }
-    note(
-        book,
-        What::Show {
-            what: ShowWhat::Resources,
-            stack,
-        },
-    )
-}
-
-// Notes that the line of this number was refused with a code.
-fn refuse<P: Provider>(alloc: Global, book: &mut Book<P>, line: u64, code: &str) -> Result<(), Exit>
-    ensures done { HasDone (Notes (refused line code.now)) IsUndone
-        (page book.old.state book.old.entries) (page book.new.state book.new.entries) result }
-    ensures live { book.new.state.live ≡ book.old.state.live }
-    ensures same { IsSameBook book.old book.new }
-{
-    match Text::from_str(alloc, code) {
-        Ok(code) => note(
-            book,
-            What::Note {
-                line,
-                code,
-                path: None,
-            },
-        ),
-        Err(_) => Err(Exit::Memory),
-    }
-}
-
-// Adds what a line notes.
-fn note<P: Provider>(book: &mut Book<P>, what: What) -> Result<(), Exit>
-    requires { IsNote what }
-    ensures done { HasDone (Notes what) IsUndone
-        (page book.old.state book.old.entries) (page book.new.state book.new.entries) result }
-    ensures live { book.new.state.live ≡ book.old.state.live }
-    ensures same { IsSameBook book.old book.new }
-{
-    match book.note(what) {
-        Ok(()) => Ok(()),
-        Err(_) => Err(Exit::Memory),
+    match misread.code() {
+        Some(code) => refuse_at(alloc, book, number, code, misread.path()),
+        None => Err(Exit::Memory),
     }
 }

@@ -1,12 +1,14 @@
 //! The top call: from the words and the bytes that come in to the bytes that go out.
-ghost use Rattle.std.specs.Prelude.{◌≡◌, ◌≢◌, ◌∷◌, ◌↔◌, [], codes};
+ghost use Rattle.std.specs.Prelude.{◌≡◌, ◌≢◌, ◌≤◌, ◌↔◌, []};
 ghost use Rattle.provider.specs.Calls.{Lists};
-ghost use Rattle.book.specs.Kept.{Shown, opened};
-ghost use Rattle.converge_call.specs.Ends.{outside, HasDriven, IsUntouched};
+ghost use Rattle.book.specs.Kept.{Shown, IsSameBook, opened};
+ghost use Rattle.converge_call.specs.Words.{IsForm};
+ghost use Rattle.converge_call.specs.Ends.{outside, HasDriven, IsUntouched, OpensFor};
+ghost use Rattle.converge_call.specs.declared.words.Mode.{Mode as mode_type};
 
 use crate::drive::drive;
 use crate::exit::{Exit, Finding};
-use crate::words::words_of;
+use crate::words::{Mode, words_of};
 use book::{Book, Opened};
 use heat_io::{Sink, Source};
 use heat_value::Text;
@@ -38,7 +40,8 @@ pub struct Outcome<P: Provider> {
     pub end: End<P>,
 }
 
-/// Drives a book over the cloud by the source's script, as the words say, and writes its text.
+/// Does what the words ask for: a book is driven over the cloud by the source's script, and its text
+/// is written.
 pub fn converge<S: Source, K: Sink, P: Provider>(
     alloc: Global,
     words: &[Text],
@@ -46,8 +49,8 @@ pub fn converge<S: Source, K: Sink, P: Provider>(
     sink: &mut K,
     cloud: P,
 ) -> Outcome<P>
-    // Usage comes exactly where the words aren't the form; nothing is then read or written.
-    ensures usage { (result.status ≡ Exit.Usage) ↔ (words.now ≢ codes "drive" ∷ []) }
+    // Usage comes exactly where the words are none of the forms; nothing is then read or written.
+    ensures usage { (result.status ≡ Exit.Usage) ↔ ((m : mode_type) → ¬ IsForm words.now m) }
     ensures source { result.status ≡ Exit.Usage → source.new ≡ source.old }
     ensures sink { result.status ≡ Exit.Usage → sink.new ≡ sink.old }
 
@@ -56,7 +59,8 @@ pub fn converge<S: Source, K: Sink, P: Provider>(
     ensures unopened { (p : P) → result.end ≡ End.Unopened p
         → IsUntouched P.cloud source.old source.new sink.old sink.new cloud p result.status }
 
-    // A book is opened over a cloud that has nothing, as its list says.
+    // A book is opened with as many engines as the words say, over a cloud that has nothing, as its list says.
+    ensures opened { (b : Shown P) → result.end ≡ End.Book b → OpensFor words.now b.opening }
     ensures listed { (b : Shown P) → result.end ≡ End.Book b → Lists [] (P.cloud cloud) (P.cloud b.origin) }
 
     // A book that is handed back was driven by the lines, and the main theorem holds of it.
@@ -65,10 +69,40 @@ pub fn converge<S: Source, K: Sink, P: Provider>(
         (outside (S.left source.new) (S.faults source.new) (K.holds sink.new) (K.faults sink.new))
         result.status b }
 {
-    if words_of(words).is_err() {
-        return unopened(Exit::Usage, cloud);
+    match words_of(words) {
+        Ok(Mode::Drive(setup)) => run_serial(alloc, setup.workers, source, sink, cloud),
+        Err(_) => unopened(Exit::Usage, cloud),
     }
-    match Book::recover(alloc, cloud, 1) {
+}
+
+/// Drives a book with so many engines over the cloud by the source's script, and writes its text. It
+/// waits for nobody.
+pub fn run_serial<S: Source, K: Sink, P: Provider>(
+    alloc: Global,
+    workers: u8,
+    source: &mut S,
+    sink: &mut K,
+    cloud: P,
+) -> Outcome<P>
+    requires some { 1 ≤ workers }
+    requires few { workers ≤ 64 }
+    ensures status { result.status ≢ Exit.Usage }
+
+    // No book is opened for want of memory or for what the cloud's list is alone; nothing is then read or written.
+    ensures unopened { (p : P) → result.end ≡ End.Unopened p
+        → IsUntouched P.cloud source.old source.new sink.old sink.new cloud p result.status }
+
+    // A book is opened with so many engines, over a cloud that has nothing, as its list says.
+    ensures opened { (b : Shown P) → result.end ≡ End.Book b → b.opening ≡ opened workers }
+    ensures listed { (b : Shown P) → result.end ≡ End.Book b → Lists [] (P.cloud cloud) (P.cloud b.origin) }
+
+    // A book that is handed back was driven by the lines, and the main theorem holds of it.
+    ensures driven { (b : Shown P) → result.end ≡ End.Book b → HasDriven P.cloud
+        (outside (S.left source.old) (S.faults source.old) (K.holds sink.old) (K.faults sink.old))
+        (outside (S.left source.new) (S.faults source.new) (K.holds sink.new) (K.faults sink.new))
+        result.status b }
+{
+    match Book::recover(alloc, cloud, workers) {
         Opened::Book(book) => driven(alloc, source, sink, book),
         Opened::Disagree(cloud, token) => {
             unopened(Exit::Disagree(token, Finding::Stranger), cloud)
@@ -96,12 +130,11 @@ fn driven<S: Source, K: Sink, P: Provider>(
     sink: &mut K,
     book: Book<P>,
 ) -> Outcome<P>
-    requires opening { book.opening ≡ opened 1 }
-    requires state { book.state ≡ opened 1 }
+    requires state { book.state ≡ book.opening }
     requires entries { book.entries ≡ [] }
     ensures status { result.status ≢ Exit.Usage }
     ensures book { (p : P) → result.end ≢ End.Unopened p }
-    ensures origin { (b : Shown P) → result.end ≡ End.Book b → b.origin ≡ book.origin }
+    ensures same { (b : Shown P) → result.end ≡ End.Book b → IsSameBook book b }
     ensures driven { (b : Shown P) → result.end ≡ End.Book b → HasDriven P.cloud
         (outside (S.left source.old) (S.faults source.old) (K.holds sink.old) (K.faults sink.old))
         (outside (S.left source.new) (S.faults source.new) (K.holds sink.new) (K.faults sink.new))

@@ -68,6 +68,7 @@ pub enum MailWrite {
 /// released stays, and the engine gives it up. A mark without a cause says that the traversal is complete.
 #[derive(Debug, Drop)]
 pub enum What {
+    /// A traversal of a stack began; an update's rollback flag is told with it.
     Command {
         stack: StackName,
         trav: TravNo,
@@ -75,46 +76,57 @@ pub enum What {
         plan: Option<Plan>,
         rollback: bool,
     },
+    /// The cloud was asked, and answered.
     Call {
         token: Token,
         request: Request,
         answer: Answered,
     },
+    /// A token was given up.
     Release {
         token: Token,
     },
+    /// A traversal was marked: complete, or failed for this cause.
     Mark {
         stack: StackName,
         trav: TravNo,
         act: Act,
         cause: Option<Cause>,
     },
+    /// Rows were written or dropped.
     Rows {
         writes: Seq<RowWrite>,
     },
+    /// Letters were sent or dropped, and jobs put or ended.
     Mail {
         writes: Seq<MailWrite>,
     },
+    /// Engines were stopped or enlisted.
     Engine {
         change: EngineChange,
     },
+    /// Something of a stack is shown.
     Show {
         what: ShowWhat,
         stack: StackName,
     },
+    /// The line of this number was refused with a code, at a place of its body where one is to blame.
     Note {
         line: u64,
         code: Text,
         path: Option<Path>,
     },
+    /// A run of turns ended, idle or not, after so many.
     Ran {
         idle: bool,
         turns: u128,
     },
+    /// A turn that was asked for by number made no step: the engine had nothing to do, or isn't live.
     Turned {
         engine: EngineNo,
         lost: bool,
     },
+    /// No more lines are read.
     Closed,
 }
 

@@ -28,7 +28,8 @@ use Rattle.graph_laws.proofs.Places.{fresh_is}
 use Rattle.letter_laws.proofs.Commands.{Lain, lain}
 use Rattle.cover_laws.proofs.Finished.{letter_for}
 
-module _ (s : StateData) (h : Standing s) (name : List ℕ) (items : List Item) (k : Lays s name items) (it : Sets) (t : StateData)
+module _ (s : StateData) (h : Standing s) (name : List ℕ) (items : List Item) (k : Lays s name items) (it : Sets)
+    (t : StateData)
     (frame : Elsewhere name s t) (w : Lain s h name items k it t) where
   -- a node into which an edge leads has no input yet
   leaf : (i : ℕ) (node : Node) → IsNode (g s h name items k) i node → IsReady (g s h name items k) i → IsLeaf k.graph i
@@ -40,10 +41,12 @@ module _ (s : StateData) (h : Standing s) (name : List ℕ) (items : List Item) 
         nothing d.input (subst (λ (l : List Input). Contains l d.input) (ap (λ (p : Point). p.inputs) is) d.among),
   )
 
-  mine : (x : Stack) (i : ℕ) (node : Node) → stack_at t.stacks name ≡ Some x → IsNode (g s h name items k) i node → IsReady (g s h name items k) i
+  mine : (x : Stack) (i : ℕ) (node : Node) → stack_at t.stacks name ≡ Some x → IsNode (g s h name items k) i node
+      → IsReady (g s h name items k) i
       → IsCovered t x i node
   mine x i node at at_i ready =
-      let (n, l, at_l, to) = letter_for (st s h name items k it) k.leaves s.next.letter s.letters i ((k.leaves_are.each i).1 (leaf i node at_i ready)) in
+      let (n, l, at_l, to) = letter_for (st s h name items k it) k.leaves s.next.letter s.letters i
+      ((k.leaves_are.each i).1 (leaf i node at_i ready)) in
       waits n l (subst (λ (y : List Letter). letter_at y n ≡ Some l) (sym w.letters) at_l) (record {
         stack = to.stack ∙ sym (stack-key t.stacks name x at);
         newest = to.newest ∙ sym (w.newest x at);
@@ -55,12 +58,15 @@ module _ (s : StateData) (h : Standing s) (name : List ℕ) (items : List Item) 
     each = λ other x gr i node at status at_g at_i open_. elim (text_or_not other name) [
       | inl is ↦
           let at' : stack_at t.stacks name ≡ Some x = subst (λ (y : List ℕ). stack_at t.stacks y ≡ Some x) is at in
-          let graph : gr ≡ g s h name items k = same_some gr (g s h name items k) (subst (λ (y : List ℕ). graph_at t.graphs y ≡ Some gr) is at_g) (w.graph x at') in
-          mine x i node at' (subst (λ (y : Graph). IsNode y i node) graph at_i) (subst (λ (y : Graph). IsReady y i) graph open_.ready)
+          let graph : gr ≡ g s h name items k = same_some gr (g s h name items k)
+          (subst (λ (y : List ℕ). graph_at t.graphs y ≡ Some gr) is at_g) (w.graph x at') in
+          mine x i node at' (subst (λ (y : Graph). IsNode y i node) graph at_i)
+          (subst (λ (y : Graph). IsReady y i) graph open_.ready)
       | inr ne ↦ other_covered name s t frame h.links h.covered other ne x gr i node at status at_g at_i open_
     ];
   }
 
 pub covers_laid : KeptByCommands Covered
 covers_laid s name items it k h ordered =
-    covers s h name items k it (applied (laid_changes s name items it k) s) (commands_on_one s name items it k h ordered) (lain s h name items k it)
+    covers s h name items k it (applied (laid_changes s name items it k) s)
+    (commands_on_one s name items it k h ordered) (lain s h name items k it)

@@ -24,5 +24,6 @@ covers_kept = record {
       let b : Grounds (applied (restart_changes s count) s) =
       record { current = (links_by_engines.restart s count h).current; graphs = graphs_kept.restart s count h } in
       let is = lives s.live (engines_from s.next.engine count) (record s { next = past_engines s.next count }) in
-      subst Covered (sym is) (as_before s _ h (subst Grounds is b) (λ name st at status. at) (stacks_same s.stacks) refl refl refl refl);
+      subst Covered (sym is) (as_before s _ h (subst Grounds is b) (λ name st at status. at)
+      (stacks_same s.stacks) refl refl refl refl);
 }

@@ -37,7 +37,8 @@ TakeOverTells = (s : StateData) (e f : ℕ) (k : Relays s e f) → Standing s
 -- a job fails: whom its row kept waiting is told, or its stack is marked
 abbrev pub FailureTells : Type 0
 FailureTells = (s : StateData) (e : ℕ) (k : Calls s e Asking) (asked : Request) (given : Answered) (reason : Why)
-    (letters : List Letter) (failed : Option Stack) → Standing s → Asks k.row asked → Refuses k.row.act asked given reason
+    (letters : List Letter) (failed : Option Stack) → Standing s → Asks k.row asked
+    → Refuses k.row.act asked given reason
     → Falls s k.job letters failed
     → Covered (applied (failed_changes s e k.row letters failed) s)
 

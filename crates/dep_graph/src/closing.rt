@@ -40,7 +40,7 @@ impl Graph {
     }
 }
 
-/// The path that an edge would close, if there is one.
+// The path that an edge would close, if there is one.
 fn closing_path(graph: &Graph, before: u32, after: u32) -> Result<Option<Seq<u32>>, AllocError>
     requires before { before < length graph.now }
     requires after { after < length graph.now }
@@ -59,7 +59,7 @@ fn closing_path(graph: &Graph, before: u32, after: u32) -> Result<Option<Seq<u32
     Ok(Some(least_path(graph, reaching.as_slice(), after, before)?))
 }
 
-/// Whether a search is needed: not where no edge leads on from `after` or to `before`.
+// Whether a search is needed: not where no edge leads on from `after` or to `before`.
 fn may_close(graph: &Graph, before: u32, after: u32) -> bool
     requires before { before < length graph.now }
     requires after { after < length graph.now }
@@ -71,7 +71,7 @@ fn may_close(graph: &Graph, before: u32, after: u32) -> bool
     !graph.succs(after).is_empty() && !graph.preds(before).is_empty()
 }
 
-/// The path to the goal each of whose steps is the least that leads there.
+// The path to the goal each of whose steps is the least that leads there.
 fn least_path(
     graph: &Graph,
     reaching: &[bool],
@@ -94,7 +94,7 @@ fn least_path(
     Ok(path)
 }
 
-/// The least successor from which the goal is reached, of a node that reaches it.
+// The least successor from which the goal is reached, of a node that reaches it.
 fn step_towards(graph: &Graph, reaching: &[bool], node: u32, goal: u32) -> u32
     requires size { length reaching.now ≡ length graph.now }
     requires exact { MarksAll (λ other. HasPath (HasEdge graph.now) other goal) reaching.now }

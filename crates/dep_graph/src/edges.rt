@@ -86,7 +86,7 @@ impl Graph {
     }
 }
 
-/// So many lists without nodes.
+// So many lists without nodes.
 fn empty_lists(alloc: Global, n: u32) -> Result<Vec<Seq<u32>>, AllocError>
     ensures { IfOk result (λ lists. lists.items ≡ replicate n []) }
 {

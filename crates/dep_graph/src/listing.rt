@@ -37,7 +37,7 @@ impl Graph {
     }
 }
 
-/// Takes away nodes while one is ready, the least first, and lists them.
+// Takes away nodes while one is ready, the least first, and lists them.
 fn take_away(graph: &Graph, left: &mut Marks) -> Result<Seq<u32>, AllocError>
     requires all { left.old ≡ replicate (length graph.now) true }
     requires joins { JoinsNodes graph.now }
@@ -54,7 +54,7 @@ fn take_away(graph: &Graph, left: &mut Marks) -> Result<Seq<u32>, AllocError>
     Ok(taken)
 }
 
-/// The least node left that has no predecessor left.
+// The least node left that has no predecessor left.
 fn least_ready(graph: &Graph, left: &[bool]) -> Option<u32>
     requires { length left.now ≡ length graph.now }
     ensures { MatchOption result
@@ -69,7 +69,7 @@ fn least_ready(graph: &Graph, left: &[bool]) -> Option<u32>
     None
 }
 
-/// Whether a node is left and none of its predecessors is.
+// Whether a node is left and none of its predecessors is.
 fn is_ready(graph: &Graph, left: &[bool], node: u32) -> bool
     requires size { length left.now ≡ length graph.now }
     requires node { node < length graph.now }
@@ -79,7 +79,7 @@ fn is_ready(graph: &Graph, left: &[bool], node: u32) -> bool
     left[node as usize] && least_left_pred(graph, left, node).is_none()
 }
 
-/// The least predecessor of a node that is left.
+// The least predecessor of a node that is left.
 fn least_left_pred(graph: &Graph, left: &[bool], node: u32) -> Option<u32>
     requires size { length left.now ≡ length graph.now }
     requires node { node < length graph.now }
@@ -90,7 +90,7 @@ fn least_left_pred(graph: &Graph, left: &[bool], node: u32) -> Option<u32>
     first_marked(graph.preds(node), left)
 }
 
-/// The cycle that a walk back from the least node left meets.
+// The cycle that a walk back from the least node left meets.
 fn walked_cycle(graph: &Graph, left: &[bool], least: u32) -> Result<Seq<u32>, AllocError>
     requires size { length left.now ≡ length graph.now }
     requires least { IsLeast (IsMarked left.now) least }
@@ -111,7 +111,7 @@ fn walked_cycle(graph: &Graph, left: &[bool], least: u32) -> Result<Seq<u32>, Al
     }
 }
 
-/// The least predecessor left of a node that has one.
+// The least predecessor left of a node that has one.
 fn step_back(graph: &Graph, left: &[bool], node: u32) -> u32
     requires size { length left.now ≡ length graph.now }
     requires marked { IsMarked left.now node }
@@ -124,7 +124,7 @@ fn step_back(graph: &Graph, left: &[bool], node: u32) -> u32
     }
 }
 
-/// Where a node stands in a list, the first place of several.
+// Where a node stands in a list, the first place of several.
 fn place_of(nodes: &[u32], node: u32) -> Option<usize>
     ensures { MatchOption result
         (¬ Contains nodes.now node)

@@ -43,7 +43,7 @@ impl Graph {
     }
 }
 
-/// Marks those of the nodes that have no mark yet, and lets them wait for their turn.
+// Marks those of the nodes that have no mark yet, and lets them wait for their turn.
 fn mark_new(nodes: &[u32], marks: &mut Marks, pending: &mut Vec<u32>) -> Result<(), AllocError>
     requires { All (λ node. node < length marks.old) nodes.now }
     ensures { OnOk result (MarksNew nodes.now marks.old pending.old.items marks.new pending.new.items) }

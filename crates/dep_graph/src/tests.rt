@@ -5,7 +5,7 @@ use heat_value::Text;
 use std::process::Abort;
 use std::test::Fail;
 
-/// A graph with these edges.
+// A graph with these edges.
 fn graph_of(
     rt: &(impl Abort + AllocGlobal),
     size: u32,

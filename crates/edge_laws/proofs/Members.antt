@@ -1,5 +1,6 @@
 -- What the lists of candidates have: of needs, of names and rows, and of two rows.
-use Rattle.std.proofs.Common.{◌≡◌, ◌<◌, ◌≤◌, inl, inr, ℕ, zero, suc, ◌+◌, Bool, true, false, List, [], ◌∷◌, Some, refl, sym, ap, ◌∙◌, subst, arith}
+use Rattle.std.proofs.Common.{◌≡◌, ◌<◌, ◌≤◌, inl, inr, ℕ, zero, suc, ◌+◌, Bool, true, false, List, [], ◌∷◌, Some, refl}
+use Rattle.std.proofs.Common.{sym, ap, ◌∙◌, subst, arith}
 use Rattle.std.specs.Prelude.{Contains, get_or, length, nat_lt, slice_get}
 use Rattle.std.specs.Str.{bytes_eq}
 use Rattle.std.proofs.lemmas.Bool.{cases_lt}
@@ -12,7 +13,8 @@ use Rattle.heat_plan.specs.Plans.{names_of}
 use Rattle.heat_plan.specs.Order.{Rising}
 use Rattle.heat_plan.specs.declared.item.Item.{Item}
 use Rattle.traversal_graph.specs.Builds.{Joins}
-use Rattle.traversal_graph.specs.Candidates.{each, each_from, edge_if, need_edges, needs_into, place_of, row_edges, rows_behind}
+use Rattle.traversal_graph.specs.Candidates.{each, each_from, edge_if, need_edges, needs_into, place_of, row_edges}
+use Rattle.traversal_graph.specs.Candidates.{rows_behind}
 use Rattle.traversal_graph.specs.declared.brief.RowBrief.{RowBrief}
 use Rattle.edge_laws.proofs.ItemNames.{name_once}
 use Rattle.edge_laws.proofs.Keeping.{last_is, nothing}
@@ -40,10 +42,12 @@ module _ {A : Type 0} (f : ℕ → A → List (ℕ × ℕ)) where
   each_has place (x ∷ xs) e c = elim (Contains-append_cases (f place x) (each_from (place + 1) xs f) e c) [
     | inl here ↦ let is : place ≡ place + 0 = omega arith in (0, x, refl, subst (λ (p : ℕ). Contains (f p x) e) is here)
     | inr there ↦ let (k, y, at, has) = each_has (place + 1) xs e there in
-        let is : place + 1 + k ≡ place + suc k = omega arith in (suc k, y, at, subst (λ (p : ℕ). Contains (f p y) e) is has)
+        let is : place + 1 + k ≡ place + suc k = omega arith in
+        (suc k, y, at, subst (λ (p : ℕ). Contains (f p y) e) is has)
   ]
 
-  pub each_in : (place : ℕ) (xs : List A) (e : ℕ × ℕ) (k : ℕ) (x : A) → slice_get xs k ≡ Some x → Contains (f (place + k) x) e
+  pub each_in : (place : ℕ) (xs : List A) (e : ℕ × ℕ) (k : ℕ) (x : A) → slice_get xs k ≡ Some x
+      → Contains (f (place + k) x) e
       → Contains (each_from place xs f) e
   each_in place [] e k x at c = cc
   each_in place (y ∷ xs) e zero x at c =
@@ -73,14 +77,17 @@ pub place_first : (items : List Item) (name : List ℕ) (k : ℕ) (x : Item) →
     → place_of items name ≤ k
 place_first items name k x at called = elim (cases_lt k (place_of items name)) [
   | inl lt ↦
-      let test : bytes_eq name (get_or items k x).name ≡ false = fails_before_first (λ (i : Item). bytes_eq name i.name) items k x lt in
+      let test : bytes_eq name (get_or items k x).name ≡ false =
+      fails_before_first (λ (i : Item). bytes_eq name i.name) items k x lt in
       let is : get_or items k x ≡ x = get_or_from_slice_get items k x x at in
-      let pass : bytes_eq name (get_or items k x).name ≡ true = (bytes_eq-Decides name (get_or items k x).name).1 (sym (ap (λ (i : Item). i.name) is ∙ called)) in
+      let pass : bytes_eq name (get_or items k x).name ≡ true = (bytes_eq-Decides name (get_or items k x).name).1
+      (sym (ap (λ (i : Item). i.name) is ∙ called)) in
       cc
   | inr le ↦ le
 ]
 
-pub place_at : (items : List Item) → Rising (names_of items) → (name : List ℕ) (k : ℕ) (x : Item) → slice_get items k ≡ Some x → x.name ≡ name
+pub place_at : (items : List Item) → Rising (names_of items) → (name : List ℕ) (k : ℕ) (x : Item)
+    → slice_get items k ≡ Some x → x.name ≡ name
     → place_of items name ≡ k
 place_at items rising name k x at called =
     let le = place_first items name k x at called in
@@ -90,11 +97,14 @@ place_at items rising name k x at called =
 
 -- 1. from what an item needs to it
 pub need_has : (items : List Item) (b a : ℕ) → Joins (need_edges items) b a
-    → (item : Item) × (need : List ℕ) × (slice_get items a ≡ Some item) × Contains item.needs need × (place_of items need ≡ b) × (b < length items)
+    → (item : Item) × (need : List ℕ) × (slice_get items a ≡ Some item) × Contains item.needs need
+    × (place_of items need ≡ b) × (b < length items)
 need_has items b a c =
     let (k, item, at, has) = each_has (needs_into items) 0 items (b, a) c in
-    let (n, need, at_n, passes) = each_has (λ (_ : ℕ) (need : List ℕ). edge_if (nat_lt (place_of items need) (length items)) (place_of items need) (0 + k)) 0 item.needs (b, a) has in
-    let (test, first, second) = edge_if_has (nat_lt (place_of items need) (length items)) (place_of items need) (0 + k) (b, a) passes in (
+    let (n, need, at_n, passes) = each_has (λ (_ : ℕ) (need : List ℕ). edge_if
+    (nat_lt (place_of items need) (length items)) (place_of items need) (0 + k)) 0 item.needs (b, a) has in
+    let (test, first, second) = edge_if_has (nat_lt (place_of items need) (length items)) (place_of items need) (0 + k)
+    (b, a) passes in (
       item,
       need,
       subst (λ (x : ℕ). slice_get items x ≡ Some item) (sym (zero_on k) ∙ second) at,
@@ -103,15 +113,19 @@ need_has items b a c =
       subst (λ (x : ℕ). x < length items) first ((Decides-ltb (place_of items need) (length items)).0 test),
     )
 
-pub need_in : (items : List Item) (a : ℕ) (item : Item) (need : List ℕ) → slice_get items a ≡ Some item → Contains item.needs need
+pub need_in : (items : List Item) (a : ℕ) (item : Item) (need : List ℕ) → slice_get items a ≡ Some item
+    → Contains item.needs need
     → place_of items need < length items → Joins (need_edges items) (place_of items need) a
 need_in items a item need at c lt =
     let (n, at_n) = contained item.needs need c in
     each_in (needs_into items) 0 items (place_of items need, a) a item at
-    (each_in (λ (_ : ℕ) (need : List ℕ). edge_if (nat_lt (place_of items need) (length items)) (place_of items need) (0 + a)) 0 item.needs
+    (each_in (λ (_ : ℕ) (need : List ℕ). edge_if (nat_lt (place_of items need) (length items)) (place_of items need)
+    (0 + a)) 0 item.needs
     (place_of items need, a) n need at_n
-    (subst (λ (x : ℕ). Contains (edge_if (nat_lt (place_of items need) (length items)) (place_of items need) (0 + a)) (place_of items need, x)) (zero_on a)
-    (edge_if_in (nat_lt (place_of items need) (length items)) (place_of items need) (0 + a) ((Decides-ltb (place_of items need) (length items)).1 lt))))
+    (subst (λ (x : ℕ). Contains (edge_if (nat_lt (place_of items need) (length items)) (place_of items need) (0 + a))
+    (place_of items need, x)) (zero_on a)
+    (edge_if_in (nat_lt (place_of items need) (length items)) (place_of items need) (0 + a)
+    ((Decides-ltb (place_of items need) (length items)).1 lt))))
 
 -- 2. from an item to each row of its name
 pub row_has : (items : List Item) (rows : List RowBrief) (b a : ℕ) → Joins (row_edges items rows) b a
@@ -119,8 +133,10 @@ pub row_has : (items : List Item) (rows : List RowBrief) (b a : ℕ) → Joins (
     × (a ≡ length items + r) × (row.name ≡ item.name)
 row_has items rows b a c =
     let (k, item, at, has) = each_has (rows_behind (length items) rows) 0 items (b, a) c in
-    let (r, row, at_r, passes) = each_has (λ (r : ℕ) (row : RowBrief). edge_if (bytes_eq row.name item.name) (0 + k) (length items + r)) 0 rows (b, a) has in
-    let (test, first, second) = edge_if_has (bytes_eq row.name item.name) (0 + k) (length items + (0 + r)) (b, a) passes in (
+    let (r, row, at_r, passes) = each_has (λ (r : ℕ) (row : RowBrief). edge_if (bytes_eq row.name item.name) (0 + k)
+    (length items + r)) 0 rows (b, a) has in
+    let (test, first, second) = edge_if_has (bytes_eq row.name item.name) (0 + k) (length items + (0 + r))
+    (b, a) passes in (
       item,
       r,
       row,
@@ -130,22 +146,30 @@ row_has items rows b a c =
       (bytes_eq-Decides row.name item.name).0 test,
     )
 
-pub row_in : (items : List Item) (rows : List RowBrief) (b r : ℕ) (item : Item) (row : RowBrief) → slice_get items b ≡ Some item
+pub row_in : (items : List Item) (rows : List RowBrief) (b r : ℕ) (item : Item) (row : RowBrief)
+    → slice_get items b ≡ Some item
     → slice_get rows r ≡ Some row → row.name ≡ item.name → Joins (row_edges items rows) b (length items + r)
 row_in items rows b r item row at at_r called =
     each_in (rows_behind (length items) rows) 0 items (b, length items + r) b item at
-    (each_in (λ (r : ℕ) (row : RowBrief). edge_if (bytes_eq row.name item.name) (0 + b) (length items + r)) 0 rows (b, length items + r) r row at_r
-    (subst (λ (x : ℕ). Contains (edge_if (bytes_eq row.name item.name) (0 + b) (length items + (0 + r))) (x, length items + r)) (zero_on b)
-    (subst (λ (x : ℕ). Contains (edge_if (bytes_eq row.name item.name) (0 + b) (length items + (0 + r))) (0 + b, length items + x)) (zero_on r)
-    (edge_if_in (bytes_eq row.name item.name) (0 + b) (length items + (0 + r)) ((bytes_eq-Decides row.name item.name).1 called)))))
+    (each_in (λ (r : ℕ) (row : RowBrief). edge_if (bytes_eq row.name item.name) (0 + b) (length items + r)) 0 rows
+    (b, length items + r) r row at_r
+    (subst (λ (x : ℕ). Contains (edge_if (bytes_eq row.name item.name) (0 + b) (length items + (0 + r)))
+    (x, length items + r)) (zero_on b)
+    (subst (λ (x : ℕ). Contains (edge_if (bytes_eq row.name item.name) (0 + b) (length items + (0 + r)))
+    (0 + b, length items + x)) (zero_on r)
+    (edge_if_in (bytes_eq row.name item.name) (0 + b) (length items + (0 + r))
+    ((bytes_eq-Decides row.name item.name).1 called)))))
 
 -- 3 and 4. from a row to a row
 pub between_has : (test : RowBrief → RowBrief → Bool) (first : ℕ) (rows : List RowBrief) (b a : ℕ)
-    → Joins (each rows (λ (r : ℕ) (row : RowBrief). each rows (λ (q : ℕ) (other : RowBrief). edge_if (test row other) (first + r) (first + q)))) b a
+    → Joins (each rows (λ (r : ℕ) (row : RowBrief). each rows
+    (λ (q : ℕ) (other : RowBrief). edge_if (test row other) (first + r) (first + q)))) b a
     → (r : ℕ) × (q : ℕ) × (r < length rows) × (q < length rows) × (b ≡ first + r) × (a ≡ first + q)
 between_has test first rows b a c =
-    let (r, row, at_r, has) = each_has (λ (r : ℕ) (row : RowBrief). each rows (λ (q : ℕ) (other : RowBrief). edge_if (test row other) (first + r) (first + q))) 0 rows (b, a) c in
-    let (q, other, at_q, passes) = each_has (λ (q : ℕ) (other : RowBrief). edge_if (test row other) (first + (0 + r)) (first + q)) 0 rows (b, a) has in
+    let (r, row, at_r, has) = each_has (λ (r : ℕ) (row : RowBrief). each rows
+    (λ (q : ℕ) (other : RowBrief). edge_if (test row other) (first + r) (first + q))) 0 rows (b, a) c in
+    let (q, other, at_q, passes) = each_has
+    (λ (q : ℕ) (other : RowBrief). edge_if (test row other) (first + (0 + r)) (first + q)) 0 rows (b, a) has in
     let (_, is_b, is_a) = edge_if_has (test row other) (first + (0 + r)) (first + (0 + q)) (b, a) passes in (
       r,
       q,

@@ -21,5 +21,6 @@ pub record FitsPlan (items : List Item) (rows : List RowBrief) (edges : List (�
 
 -- what is kept of the candidates fits a plan whose needs have no cycle
 abbrev pub EdgesFitPlan : Type 0
-EdgesFitPlan = (items : List Item) (rows : List RowBrief) (edges : List (ℕ × ℕ)) → Rising (names_of items) → HasNoCycle items
+EdgesFitPlan = (items : List Item) (rows : List RowBrief) (edges : List (ℕ × ℕ)) → Rising (names_of items)
+    → HasNoCycle items
     → Keeps [] (candidates items rows) edges → FitsPlan items rows edges

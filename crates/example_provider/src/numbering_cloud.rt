@@ -5,10 +5,10 @@ use provider::{Answer, Gone, Listed, Poll, Provider};
 use sim_cloud::{Course, Inventory};
 use std::alloc::{AllocError, Global};
 
-/// How many polls of a request may be answered NotYet; the engine asks for no more than this bound.
+// How many polls of a request may be answered NotYet; the engine asks for no more than this bound.
 const BUDGET: u8 = 64;
 
-/// How many polls are left when a resource is ready.
+// How many polls are left when a resource is ready.
 const DUE: u8 = BUDGET - 2;
 
 /// The resources, and how many numbers were given.

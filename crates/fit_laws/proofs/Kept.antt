@@ -18,7 +18,12 @@ use Rattle.core_state.specs.declared.stack.Stack.{Stack}
 use Rattle.step_relation.specs.Asks.{Falls, failed_changes, marked, marks, overrun}
 use Rattle.step_relation.specs.Begins.{left_changes}
 use Rattle.step_relation.specs.Given.{Given}
-use Rattle.step_relation.specs.Moves.{Move, ask_begun, ask_failed, begin_failed, begin_faulted, begin_in_place, begin_init, begin_overrun, begin_replaced, begin_resumed, begin_same, clean_deleted, clean_gone, clean_init, clean_kept, clean_retained, clean_stuck, finish, finish_last, finish_overrun, poll_failed, poll_gone, poll_ready, poll_waits, take_dropped, take_free, take_stolen, takeover_fresh, takeover_overrun}
+use Rattle.step_relation.specs.Moves.{Move, ask_begun, ask_failed, begin_failed, begin_faulted, begin_in_place}
+use Rattle.step_relation.specs.Moves.{begin_init, begin_overrun, begin_replaced, begin_resumed, begin_same}
+use Rattle.step_relation.specs.Moves.{clean_deleted, clean_gone, clean_init, clean_kept, clean_retained, clean_stuck}
+use Rattle.step_relation.specs.Moves.{finish, finish_last, finish_overrun, poll_failed, poll_gone, poll_ready}
+use Rattle.step_relation.specs.Moves.{poll_waits, take_dropped, take_free, take_stolen, takeover_fresh}
+use Rattle.step_relation.specs.Moves.{takeover_overrun}
 use Rattle.step_relation.specs.Rows.{failed_row, locked}
 use Rattle.step_relation.specs.Runs.{IsTied, Judges}
 use Rattle.step_relation.specs.Takes.{relayed_letter, released_changes}
@@ -29,7 +34,8 @@ use Rattle.soundness.specs.MailFits.{IsUnderWay, asks, polls}
 use Rattle.soundness.specs.RowsFit.{RowsFit}
 use Rattle.soundness.specs.Sound.{Standing}
 use Rattle.fit_laws.proofs.Finish.{own_finished, own_last}
-use Rattle.fit_laws.proofs.Moves.{IsQuiet, at_named, own_quiet, put_begun, put_deleted, put_replaced, quiet_three, row_kept, row_on, row_unlocked, rows_same}
+use Rattle.fit_laws.proofs.Moves.{IsQuiet, at_named, own_quiet, put_begun, put_deleted, put_replaced, quiet_three}
+use Rattle.fit_laws.proofs.Moves.{row_kept, row_on, row_unlocked, rows_same}
 use Rattle.fit_laws.proofs.Own.{fit_by_own}
 use Rattle.fit_laws.proofs.Rewrites.{FitKinds, kinds_cut}
 use Rattle.fit_laws.specs.Laws.{AllRowsFit}
@@ -221,7 +227,8 @@ own_rows judges s e given failed cs es S (begin_in_place k props effect _ _ act 
     (λ (xs : List Change). IsQuiet s (applied xs s) k.job.letter.stack) (sym is)
     (quiet_put s k.job.letter.stack k.job Asking _
     (at_named s k.job.letter k.stack k.graph (U k.name k.chosen) k.names _
-    (put_begun s S e k props (tied_props judges s e k props effect tied) _ refl refl soft.kind refl update_is_kept refl))))
+    (put_begun s S e k props (tied_props judges s e k props effect tied) _ refl refl soft.kind refl
+    update_is_kept refl))))
 own_rows judges s e given failed cs es S (begin_resumed k props effect _ _ act status newest is _) tied G =
     own_quiet s S (applied cs s) G k.job.letter.stack (subst
     (λ (xs : List Change). IsQuiet s (applied xs s) k.job.letter.stack) (sym is)
@@ -271,10 +278,12 @@ own_rows judges s e given failed cs es S (ask_begun k asked _ _ calls is _) tied
     own_quiet s S (applied cs s) G k.job.letter.stack (subst
     (λ (xs : List Change). IsQuiet s (applied xs s) k.job.letter.stack) (sym is)
     (quiet_mail s S k.job.letter.stack _ refl refl refl))
-own_rows judges s e given failed cs es S (ask_failed k asked answer reason letters mark _ _ calls refuses falls is _) tied G =
+own_rows judges s e given failed cs es S
+    (ask_failed k asked answer reason letters mark _ _ calls refuses falls is _) tied G =
     own_quiet s S (applied cs s) G k.job.letter.stack (subst
     (λ (xs : List Change). IsQuiet s (applied xs s) k.job.letter.stack) (sym is)
-    (quiet_failed s S e k.job k.works.its (at_stage k.job.stage Asking k.works.stage_is asks) k.row k.found letters mark falls))
+    (quiet_failed s S e k.job k.works.its
+    (at_stage k.job.stage Asking k.works.stage_is asks) k.row k.found letters mark falls))
 own_rows judges s e given failed cs es S (poll_waits k asked _ _ calls is _) tied G =
     own_quiet s S (applied cs s) G k.job.letter.stack (subst
     (λ (xs : List Change). IsQuiet s (applied xs s) k.job.letter.stack) (sym is)
@@ -284,15 +293,18 @@ own_rows judges s e given failed cs es S (poll_ready k facts _ _ act is _) tied 
     (λ (xs : List Change). IsQuiet s (applied xs s) k.job.letter.stack) (sym is)
     (quiet_put s k.job.letter.stack k.job Ending _
     (λ st at_st. row_on s S k.job.letter.stack st at_st k.job.row k.row _ k.found
-    (under_way s S e k.job k.row k.works.its (at_stage k.job.stage Polling k.works.stage_is polls) k.found).0 refl refl refl refl refl refl refl refl)))
+    (under_way s S e k.job k.row k.works.its (at_stage k.job.stage Polling k.works.stage_is polls) k.found).0 refl refl
+    refl refl refl refl refl refl)))
 own_rows judges s e given failed cs es S (poll_gone k _ _ act is _) tied G =
     own_quiet s S (applied cs s) G k.job.letter.stack (subst
     (λ (xs : List Change). IsQuiet s (applied xs s) k.job.letter.stack) (sym is)
     (quiet_purged s k.job.letter.stack k.job Ending k.row.no))
-own_rows judges s e given failed cs es S (poll_failed k asked answer reason letters mark _ _ calls refuses falls is _) tied G =
+own_rows judges s e given failed cs es S
+    (poll_failed k asked answer reason letters mark _ _ calls refuses falls is _) tied G =
     own_quiet s S (applied cs s) G k.job.letter.stack (subst
     (λ (xs : List Change). IsQuiet s (applied xs s) k.job.letter.stack) (sym is)
-    (quiet_failed s S e k.job k.works.its (at_stage k.job.stage Polling k.works.stage_is polls) k.row k.found letters mark falls))
+    (quiet_failed s S e k.job k.works.its
+    (at_stage k.job.stage Polling k.works.stage_is polls) k.row k.found letters mark falls))
 own_rows judges s e given failed cs es S (finish_overrun j _ _ works k is _) tied G =
     own_quiet s S (applied cs s) G j.letter.stack (subst
     (λ (xs : List Change). IsQuiet s (applied xs s) j.letter.stack) (sym is)

@@ -10,7 +10,8 @@ use Rattle.core_state.specs.declared.graph.Graph.{Graph}
 use Rattle.core_state.specs.declared.stack.Stack.{Stack}
 use Rattle.step_relation.specs.Targets.{IsTarget}
 use Rattle.soundness.specs.Elsewhere.{Elsewhere}
-use Rattle.soundness.specs.GraphFits.{Aims, EdgesFit, GraphFits, InputsFit, IsInput, IsNode, Stands, Sweeps, TargetFits, TargetsFit, graph_of, graph_or, of_c, of_u}
+use Rattle.soundness.specs.GraphFits.{Aims, EdgesFit, GraphFits, InputsFit, IsInput, IsNode, Stands, Sweeps, TargetFits}
+use Rattle.soundness.specs.GraphFits.{TargetsFit, graph_of, graph_or, of_c, of_u}
 use Rattle.soundness.specs.Linked.{Links, by_node}
 use Rattle.soundness.specs.Numbered.{row_of}
 use Rattle.soundness.specs.RowsFit.{RowsFit}
@@ -31,27 +32,33 @@ graph_of_names s name = by (graph_at s.graphs name) refl where
     none node e = cc
   by (Some g) at i node at_i = graph_names s name g at i node at_i
 
-pub graph_of_same : (own : List ℕ) (s t : StateData) → Elsewhere own s t → (name : List ℕ) → name ≢ own → graph_of t name ≡ graph_of s name
+pub graph_of_same : (own : List ℕ) (s t : StateData) → Elsewhere own s t → (name : List ℕ) → name ≢ own
+    → graph_of t name ≡ graph_of s name
 graph_of_same own s t E name ne = ap (graph_or name) (E.graphs name ne)
 
-module _ (own : List ℕ) (s t : StateData) (E : Elsewhere own s t) (h : Links s) (st : Stack) (ne : st.name ≢ own) (g : Graph) (names : Names s st.name g) where
+module _ (own : List ℕ) (s t : StateData) (E : Elsewhere own s t) (h : Links s) (st : Stack) (ne : st.name ≢ own)
+    (g : Graph) (names : Names s st.name g) where
   pub aims_stays : (i : ℕ) (word : List ℕ) (r : Row) → Aims s st g i word r → Aims t st g i word r
   aims_stays i word r aims =
       let has = names i (U word aims.chosen) aims.node in record {
         chosen = aims.chosen;
         node = aims.node;
         to = target_stays own s t E h st.name ne (U word aims.chosen) r.no has aims.to;
-        found = same_row own s t E h st.name ne r.no (target_has own s t E h st.name ne (U word aims.chosen) r.no has aims.to) ∙ aims.found;
+        found = same_row own s t E h st.name ne r.no
+            (target_has own s t E h st.name ne (U word aims.chosen) r.no has aims.to) ∙ aims.found;
       }
 
   pub aims_was : (i : ℕ) (word : List ℕ) (r : Row) → Aims t st g i word r → Aims s st g i word r
   aims_was i word r aims =
       let has = names i (U word aims.chosen) aims.node in
-      let to : IsTarget s.rows st.name (U word aims.chosen) r.no = target_was own s t E h st.name ne (U word aims.chosen) r.no has aims.to in record {
+      let to : IsTarget s.rows st.name (U word aims.chosen) r.no =
+      target_was own s t E h st.name ne (U word aims.chosen) r.no has aims.to in
+      record {
         chosen = aims.chosen;
         node = aims.node;
         to = to;
-        found = sym (same_row own s t E h st.name ne r.no (target_has own s t E h st.name ne (U word aims.chosen) r.no has to)) ∙ aims.found;
+        found = sym (same_row own s t E h st.name ne r.no
+            (target_has own s t E h st.name ne (U word aims.chosen) r.no has to)) ∙ aims.found;
       }
 
   pub sweeps_stays : (i : ℕ) (r : Row) → Sweeps s g i r → Sweeps t g i r
@@ -73,7 +80,8 @@ module _ (own : List ℕ) (s t : StateData) (E : Elsewhere own s t) (h : Links s
     behind = λ i k n r at sweeps. f.behind i k n r at (sweeps_was k r sweeps);
   }
 
-  target_fits_stays : (i n : ℕ) (word : List ℕ) (r : Row) → IsNode g i (U word n) → TargetFits s st word n r → TargetFits t st word n r
+  target_fits_stays : (i n : ℕ) (word : List ℕ) (r : Row) → IsNode g i (U word n) → TargetFits s st word n r
+      → TargetFits t st word n r
   target_fits_stays i n word r at f =
       let has = names i (U word n) at in record {
         to = target_stays own s t E h st.name ne (U word n) r.no has f.to;
@@ -100,7 +108,8 @@ module _ (own : List ℕ) (s t : StateData) (E : Elsewhere own s t) (h : Links s
   inputs_stay : InputsFit s st g → InputsFit t st g
   inputs_stay f = record {
     ready = f.ready;
-    stand = λ i p x at has. let k : Stands s st g i x = f.stand i p x at has in record { edge = k.edge; done = k.done; its = input_stays x k.its };
+    stand = λ i p x at has. let k : Stands s st g i x = f.stand i p x at has in
+        record { edge = k.edge; done = k.done; its = input_stays x k.its };
     given = f.given;
     once = f.once;
   }

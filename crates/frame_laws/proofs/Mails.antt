@@ -12,12 +12,14 @@ use Rattle.step_relation.specs.Freshness.{Names}
 use Rattle.step_relation.specs.Targets.{IsTarget}
 use Rattle.soundness.specs.Elsewhere.{Elsewhere}
 use Rattle.soundness.specs.Linked.{Links, by_job, by_node}
-use Rattle.soundness.specs.MailFits.{HasMade, HasUnderWay, IsNewest, IsUnderWay, JobFits, JobStands, JobsFit, LetterStands, LettersFit}
+use Rattle.soundness.specs.MailFits.{HasMade, HasUnderWay, IsNewest, IsUnderWay, JobFits, JobStands, JobsFit}
+use Rattle.soundness.specs.MailFits.{LetterStands, LettersFit}
 use Rattle.frame_laws.proofs.Same.{same_row, target_stays}
 use Rattle.table_laws.proofs.Rows.{stack-key}
 
 module _ (own : List ℕ) (s t : StateData) (E : Elsewhere own s t) (h : Links s) where
-  pub names_stays : (l : Letter) → l.stack ≢ own → (st : Stack) (g : Graph) (node : Node) → Names s l st g node → Names t l st g node
+  pub names_stays : (l : Letter) → l.stack ≢ own → (st : Stack) (g : Graph) (node : Node) → Names s l st g node
+      → Names t l st g node
   names_stays l ne st g node k = record {
     in_table = E.stacks l.stack ne ∙ k.in_table;
     newest = k.newest;
@@ -36,14 +38,22 @@ module _ (own : List ℕ) (s t : StateData) (E : Elsewhere own s t) (h : Links s
     under_way_stays k = record { row = k.row; found = its_row ∙ k.found; status = k.status; newest = k.newest }
 
     made_stays : HasMade s j → HasMade t j
-    made_stays k = record { row = k.row; found = its_row ∙ k.found; status = k.status; begun = k.begun; newest = k.newest }
+    made_stays k = record {
+      row = k.row;
+      found = its_row ∙ k.found;
+      status = k.status;
+      begun = k.begun;
+      newest = k.newest;
+    }
 
-    pub job_fits_stays : (st : Stack) (g : Graph) (node : Node) → Names s j.letter st g node → JobFits s j st g node → JobFits t j st g node
+    pub job_fits_stays : (st : Stack) (g : Graph) (node : Node) → Names s j.letter st g node → JobFits s j st g node
+        → JobFits t j st g node
     job_fits_stays st g node names f = record {
       ready = f.ready;
       undone = f.undone;
       target = subst (λ (x : List ℕ). IsTarget t.rows x node j.row) (sym called)
-          (target_stays own s t E h j.letter.stack ne node j.row (by_node g j.letter.node node names.its_graph names.its_node refl)
+          (target_stays own s t E h j.letter.stack ne node j.row
+          (by_node g j.letter.node node names.its_graph names.its_node refl)
           (subst (λ (x : List ℕ). IsTarget s.rows x node j.row) called f.target));
       suits = λ r under at_r. f.suits r under (sym its_row ∙ at_r);
       ends_update = λ word n is stage. made_stays (f.ends_update word n is stage);
@@ -61,16 +71,19 @@ module _ (own : List ℕ) (s t : StateData) (E : Elsewhere own s t) (h : Links s
     }
 
   -- what a job of another stack has, by what all jobs had
-  pub other_under_way : JobsFit s → (e : ℕ) (j : Job) → j.letter.stack ≢ own → job_at t.jobs e ≡ Some j → IsUnderWay j.stage → HasUnderWay t j
+  pub other_under_way : JobsFit s → (e : ℕ) (j : Job) → j.letter.stack ≢ own → job_at t.jobs e ≡ Some j
+      → IsUnderWay j.stage → HasUnderWay t j
   other_under_way f e j ne at under =
       let was : job_at s.jobs e ≡ Some j = E.jobs e j ne at in under_way_stays e j ne was (f.under_way e j was under)
 
-  pub other_job : JobsFit s → (e : ℕ) (j : Job) (st : Stack) → j.letter.stack ≢ own → job_at t.jobs e ≡ Some j → IsNewest t j.letter st → JobStands t j st
+  pub other_job : JobsFit s → (e : ℕ) (j : Job) (st : Stack) → j.letter.stack ≢ own → job_at t.jobs e ≡ Some j
+      → IsNewest t j.letter st → JobStands t j st
   other_job f e j st ne at newest =
       let was : job_at s.jobs e ≡ Some j = E.jobs e j ne at in
       job_stands_stays e j ne was st (f.newest e j st was (newest_was j.letter ne st newest))
 
-  pub other_letter : LettersFit s → (n : ℕ) (l : Letter) (st : Stack) → l.stack ≢ own → letter_at t.letters n ≡ Some l → IsNewest t l st → LetterStands t l st
+  pub other_letter : LettersFit s → (n : ℕ) (l : Letter) (st : Stack) → l.stack ≢ own → letter_at t.letters n ≡ Some l
+      → IsNewest t l st → LetterStands t l st
   other_letter f n l st ne at newest =
       let was : letter_at s.letters n ≡ Some l = E.letters n l ne at in
       let k : LetterStands s l st = f.newest n l st was (newest_was l ne st newest) in record {

@@ -56,10 +56,12 @@ module _ (own : List ℕ) (s t : StateData) (E : Elsewhere own s t) (h : Links s
     by (Some r) at = row_stays n r (h.owned.one n r.stack name (by_row r at refl) has) at ∙ sym at
 
   -- the row behind one of this stack
-  pub next_has : (n k : ℕ) (r q : Row) → row_at s.rows n ≡ Some r → r.stack ≡ name → r.replaced_by ≡ Some k → row_at s.rows k ≡ Some q → Has s k name
+  pub next_has : (n k : ℕ) (r q : Row) → row_at s.rows n ≡ Some r → r.stack ≡ name → r.replaced_by ≡ Some k
+      → row_at s.rows k ≡ Some q → Has s k name
   next_has n k r q at is by at_k = by_row q at_k ((h.chained.forth n k r q at by at_k).stack ∙ is)
 
-  pub next_same : (n k : ℕ) (r : Row) → row_at s.rows n ≡ Some r → r.stack ≡ name → r.replaced_by ≡ Some k → row_at t.rows k ≡ row_at s.rows k
+  pub next_same : (n k : ℕ) (r : Row) → row_at s.rows n ≡ Some r → r.stack ≡ name → r.replaced_by ≡ Some k
+      → row_at t.rows k ≡ row_at s.rows k
   next_same n k r at is by = go (row_at s.rows k) refl where
     go : (o : Option Row) → row_at s.rows k ≡ o → row_at t.rows k ≡ row_at s.rows k
     go None none = none_stays k ((h.numbered.rows n r at).replaced_by k by) none ∙ sym none
@@ -113,15 +115,19 @@ module _ (own : List ℕ) (s t : StateData) (E : Elsewhere own s t) (h : Links s
     greatest = λ m q at of called current. is.greatest m q (row_stays m q of at) of called current;
   }
 
-  pub target_stays : (node : Node) (m : ℕ) → Has s (row_of node) name → IsTarget s.rows name node m → IsTarget t.rows name node m
+  pub target_stays : (node : Node) (m : ℕ) → Has s (row_of node) name → IsTarget s.rows name node m
+      → IsTarget t.rows name node m
   target_stays node m has (of_c _) = of_c m
   target_stays node m has (of_u word n _ on) = of_u word n m (leads_stays n m has on)
-  target_stays node m has (renewed word n r none is) = renewed word n r (same_row n has ∙ none) (current_stays word r is)
+  target_stays node m has (renewed word n r none is) = renewed word n r (same_row n has ∙ none)
+      (current_stays word r is)
 
-  pub target_was : (node : Node) (m : ℕ) → Has s (row_of node) name → IsTarget t.rows name node m → IsTarget s.rows name node m
+  pub target_was : (node : Node) (m : ℕ) → Has s (row_of node) name → IsTarget t.rows name node m
+      → IsTarget s.rows name node m
   target_was node m has (of_c _) = of_c m
   target_was node m has (of_u word n _ on) = of_u word n m (leads_was n m has on)
-  target_was node m has (renewed word n r none is) = renewed word n r (sym (same_row n has) ∙ none) (current_was word r is)
+  target_was node m has (renewed word n r none is) = renewed word n r (sym (same_row n has) ∙ none)
+      (current_was word r is)
 
   pub target_has : (node : Node) (m : ℕ) → Has s (row_of node) name → IsTarget s.rows name node m → Has s m name
   target_has node m has (of_c _) = has

@@ -40,35 +40,45 @@ IsNoTarget s r = (name : List ℕ) (st : Stack) (i m : ℕ) (word : List ℕ) �
     → IsNode (graph_of s name) i (U word m) → TargetFits s st word m r → ⊥
 
 module _ (s : StateData) (h : Standing s) where
-  pub cuts : (t : StateData) (n : ℕ) (r : Row) → row_at s.rows n ≡ Some r → t.rows ≡ cut_row r.no s.rows → IsNoTarget s r → CarriesAll s t
+  pub cuts : (t : StateData) (n : ℕ) (r : Row) → row_at s.rows n ≡ Some r → t.rows ≡ cut_row r.no s.rows
+      → IsNoTarget s r → CarriesAll s t
   cuts t n r at same out name st at_st = carries_cut s t h name st at_st r.no same (λ i m word o node f is.
-      let eq : o ≡ r = same_some o r f.is.found (subst (λ (x : ℕ). row_at s.rows x ≡ Some r) is (row_self s.rows n r at)) in
+      let eq : o ≡ r = same_some o r f.is.found
+      (subst (λ (x : ℕ). row_at s.rows x ≡ Some r) is (row_self s.rows n r at)) in
       out name st i m word at_st node (subst (λ (x : Row). TargetFits s st word m x) eq f))
 
   module _ (e : ℕ) (k : Begins s e) (props : Members) where
-    pub creates : GraphsFit (applied (begun_changes k.job Asking (created_row k.row k.item k.stack.trav props k.required)) s)
+    pub creates : GraphsFit
+        (applied (begun_changes k.job Asking (created_row k.row k.item k.stack.trav props k.required)) s)
     creates = kept_by s _ h (stacks_same s.stacks) refl
-        (carries_up s _ h e k.job k.row k.works.its k.found k.stack k.names.in_table (created_row k.row k.item k.stack.trav props k.required) refl
+        (carries_up s _ h e k.job k.row k.works.its k.found k.stack k.names.in_table
+        (created_row k.row k.item k.stack.trav props k.required) refl
         (record { no_ = refl; stack = refl; name = refl; newest = refl; replaced_by = refl; kept = λ _. k.kept }) refl
         (λ name st i m word at_st node f. create_is_kept))
 
-    pub updates : GraphsFit (applied (begun_changes k.job Asking (updated_row k.row k.item k.stack.trav props k.required)) s)
+    pub updates : GraphsFit
+        (applied (begun_changes k.job Asking (updated_row k.row k.item k.stack.trav props k.required)) s)
     updates = kept_by s _ h (stacks_same s.stacks) refl
-        (carries_up s _ h e k.job k.row k.works.its k.found k.stack k.names.in_table (updated_row k.row k.item k.stack.trav props k.required) refl
+        (carries_up s _ h e k.job k.row k.works.its k.found k.stack k.names.in_table
+        (updated_row k.row k.item k.stack.trav props k.required) refl
         (record { no_ = refl; stack = refl; name = refl; newest = refl; replaced_by = refl; kept = λ _. k.kept }) refl
         (λ name st i m word at_st node f. update_is_kept))
 
-  pub keeps : (e : ℕ) (k : Begins s e) → GraphsFit (applied (begun_changes k.job Ending (same_row k.row k.item k.stack.trav k.required)) s)
+  pub keeps : (e : ℕ) (k : Begins s e)
+      → GraphsFit (applied (begun_changes k.job Ending (same_row k.row k.item k.stack.trav k.required)) s)
   keeps e k = kept_by s _ h (stacks_same s.stacks) refl
-      (carries_up s _ h e k.job k.row k.works.its k.found k.stack k.names.in_table (same_row k.row k.item k.stack.trav k.required) refl
+      (carries_up s _ h e k.job k.row k.works.its k.found k.stack k.names.in_table
+      (same_row k.row k.item k.stack.trav k.required) refl
       (record { no_ = refl; stack = refl; name = refl; newest = refl; replaced_by = refl; kept = λ _. k.kept }) refl
       (λ name st i m word at_st node f. k.kept))
 
   -- a row that isn't kept is no target
-  module _ (e : ℕ) (k : Cleans s e) (r : Row) (at : row_at s.rows k.job.row ≡ Some r) (loose : ¬ IsKept s k.stack r) where
+  module _ (e : ℕ) (k : Cleans s e) (r : Row) (at : row_at s.rows k.job.row ≡ Some r)
+      (loose : ¬ IsKept s k.stack r) where
     no_target : IsNoTarget s r
     no_target name st i m word at_st node f =
-        let own : k.stack ≡ st = same_stack s s h e k.job r k.works.its at k.stack k.names.in_table name st at_st f.is.stack_is in
+        let own : k.stack ≡ st = same_stack s s h e k.job r k.works.its at k.stack k.names.in_table name st at_st
+        f.is.stack_is in
         let planned = (h.shape.graphs name st at_st).nodes.only_items i m word node in
         loose (record {
           current = subst (λ (x : List ℕ). IsCurrentOf s.rows r.stack x r) (sym f.is.name_is)
@@ -86,7 +96,14 @@ module _ (s : StateData) (h : Standing s) where
     pub deletes : GraphsFit (applied (begun_changes k.job Asking (deleted_row r k.stack.trav)) s)
     deletes = kept_by s _ h (stacks_same s.stacks) refl
         (carries_up s _ h e k.job r k.works.its at k.stack k.names.in_table (deleted_row r k.stack.trav) refl
-        (record { no_ = refl; stack = refl; name = refl; newest = refl; replaced_by = refl; kept = λ e. absurd (e refl) }) refl
+        (record {
+          no_ = refl;
+          stack = refl;
+          name = refl;
+          newest = refl;
+          replaced_by = refl;
+          kept = λ e. absurd (e refl);
+        }) refl
         (λ name st i m word at_st node f. absurd (no_target name st i m word at_st node f)))
 
   -- a row that is polled is the target of no done node
@@ -94,12 +111,15 @@ module _ (s : StateData) (h : Standing s) where
     complete_is_over : {o : Status} → o ≡ InProgress → o ≡ Complete → ⊥
     complete_is_over u d = cc
 
-    undone : (name : List ℕ) (st : Stack) (i m : ℕ) (word : List ℕ) → stack_at s.stacks name ≡ Some st → IsNode (graph_of s name) i (U word m)
+    undone : (name : List ℕ) (st : Stack) (i m : ℕ) (word : List ℕ) → stack_at s.stacks name ≡ Some st
+        → IsNode (graph_of s name) i (U word m)
         → TargetFits s st word m k.row → ¬ IsDone (graph_of s name) i
     undone name st i m word at_st node f done =
-        let under : HasUnderWay s k.job = h.shape.jobs.under_way e k.job k.works.its (subst IsUnderWay (sym k.works.stage_is) polls) in
+        let under : HasUnderWay s k.job = h.shape.jobs.under_way e k.job k.works.its
+        (subst IsUnderWay (sym k.works.stage_is) polls) in
         let same : under.row ≡ k.row = same_some under.row k.row under.found k.found in
-        let made = (h.shape.rows name st at_st).made i word k.row (aims_of s st (graph_of s name) i m word k.row node f) done in
+        let made = (h.shape.rows name st at_st).made i word k.row
+        (aims_of s st (graph_of s name) i m word k.row node f) done in
         complete_is_over (ap (λ (x : Row). x.status) (sym same) ∙ under.status) made.status
 
     pub readies : (facts : Facts) → GraphsFit (applied (begun_changes k.job Ending (ready_row k.row facts)) s)

@@ -1,5 +1,6 @@
 -- The graph that a command draws fits its plan and the rows that it leaves: `graph_built`.
-use Rattle.std.proofs.Common.{◌≡◌, ◌≢◌, ◌<◌, ◌≤◌, ◌⊎◌, inl, inr, ℕ, ◌+◌, Bool, false, true, List, [], Some, refl, sym, ap, ◌∙◌, subst, arith}
+use Rattle.std.proofs.Common.{◌≡◌, ◌≢◌, ◌<◌, ◌≤◌, ◌⊎◌, inl, inr, ℕ, ◌+◌, Bool, false, true, List, [], Some, refl, sym}
+use Rattle.std.proofs.Common.{ap, ◌∙◌, subst, arith}
 use Rattle.std.specs.Prelude.{AllPairs, Contains, length, slice_get}
 use Rattle.std.specs.Str.{bytes_eq}
 use Rattle.std.proofs.lemmas.Slice.Eq.{bytes_eq-Decides}
@@ -30,17 +31,20 @@ use Rattle.step_relation.specs.Targets.{HasNoCurrent, IsCurrentOf}
 use Rattle.edge_laws.specs.Laws.{FitsPlan}
 use Rattle.edge_laws.proofs.ItemNames.{name_once}
 use Rattle.edge_laws.proofs.Ranks.{edges_fit}
-use Rattle.soundness.specs.GraphFits.{Aims, GraphFits, InputsFit, IsNode, Needs, NodesFit, Sweeps, TargetFits, TargetsFit}
+use Rattle.soundness.specs.GraphFits.{Aims, GraphFits, InputsFit, IsNode, Needs, NodesFit, Sweeps, TargetFits}
+use Rattle.soundness.specs.GraphFits.{TargetsFit}
 use Rattle.soundness.specs.Sound.{Standing}
 use Rattle.table_laws.proofs.Rows.{row-key, same_some}
 use Rattle.table_laws.proofs.Tables.{at-place, at-some}
 use Rattle.edge_laws.proofs.Keeping.{nothing}
 use Rattle.graph_laws.proofs.Carried.{aims_at, aims_of}
-use Rattle.graph_laws.proofs.Chosen.{ChosenFor, IsNewAt, chosen_for, lengths, new_found, newly, old_stays, put_rows, stood}
+use Rattle.graph_laws.proofs.Chosen.{ChosenFor, IsNewAt, chosen_for, lengths, new_found, newly, old_stays, put_rows}
+use Rattle.graph_laws.proofs.Chosen.{stood}
 use Rattle.graph_laws.proofs.Lists.{contained, contains_at}
 use Rattle.graph_laws.proofs.Ordered.{Asked}
 use Rattle.graph_laws.proofs.Placed.{item_named}
-use Rattle.graph_laws.proofs.Places.{NodeAt, fresh_is, fresh_point, fresh_there, item_node, node_at, of_item, of_row, row_node}
+use Rattle.graph_laws.proofs.Places.{NodeAt, fresh_is, fresh_point, fresh_there, item_node, node_at, of_item, of_row}
+use Rattle.graph_laws.proofs.Places.{row_node}
 use Rattle.graph_laws.proofs.Sorts.{contains_map, row_sorted, sorted_once, sorted_row}
 
 init_is_kept : Init ≢ Delete
@@ -81,7 +85,8 @@ record CleanupAt (s : StateData) (name : List ℕ) (items : List Item) (sorted :
   stack : row.stack ≡ name
   number : row.no ≡ n
 
-module _ (s : StateData) (h : Standing s) (name : List ℕ) (items : List Item) (it : Sets) (k : Lays s name items) (asked : Asked items it)
+module _ (s : StateData) (h : Standing s) (name : List ℕ) (items : List Item) (it : Sets) (k : Lays s name items)
+    (asked : Asked items it)
     (t : StateData) (same : t.rows ≡ put_rows k.rows s.rows) where
   abbrev st : Stack
   st = stack_set s name it InProgress
@@ -102,9 +107,11 @@ module _ (s : StateData) (h : Standing s) (name : List ℕ) (items : List Item) 
   same_length = lengths s name trav s.next.row items k.chosen k.rows k.chooses
 
   node_of : (i : ℕ) (node : Node) → IsNode g i node → NodeAt items k.chosen sorted i node
-  node_of i node at = node_at items k.chosen sorted same_length i node (subst (λ (ns : List Node). slice_get ns i ≡ Some node) k.built.nodes at)
+  node_of i node at = node_at items k.chosen sorted same_length i node
+      (subst (λ (ns : List Node). slice_get ns i ≡ Some node) k.built.nodes at)
 
-  item_there : (i : ℕ) (item : Item) (c : ℕ) → slice_get items i ≡ Some item → slice_get k.chosen i ≡ Some c → IsNode g i (U item.name c)
+  item_there : (i : ℕ) (item : Item) (c : ℕ) → slice_get items i ≡ Some item → slice_get k.chosen i ≡ Some c
+      → IsNode g i (U item.name c)
   item_there i item c at at_c = subst (λ (ns : List Node). slice_get ns i ≡ Some (U item.name c)) (sym k.built.nodes)
       (item_node items k.chosen sorted i item c at at_c)
 
@@ -129,7 +136,8 @@ module _ (s : StateData) (h : Standing s) (name : List ℕ) (items : List Item) 
     by : NodeAt items k.chosen sorted i (C n) → CleanupAt s name items sorted i n
     by (of_item item c at_i at_c is) = absurd (u_is_no_c item.name c n (sym is))
     by (of_row r b place at_r is) =
-        let (q, brief, found, of) = sorted_row s.rows name k.standing k.standing_are sorted k.built.rows_are r b at_r in record {
+        let (q, brief, found, of) = sorted_row s.rows name k.standing k.standing_are sorted k.built.rows_are r b at_r in
+        record {
           r = r;
           row = q;
           place = place;
@@ -156,13 +164,15 @@ module _ (s : StateData) (h : Standing s) (name : List ℕ) (items : List Item) 
 
   row_is : (i : ℕ) (a : Row) (sweeps : Sweeps t g i a) → a ≡ (its_row i a sweeps).row
   row_is i a sweeps = let c = its_row i a sweeps in
-      same_some a c.row sweeps.found (subst (λ (m : ℕ). row_at t.rows m ≡ Some c.row) c.number (stands c.row.no c.row c.found))
+      same_some a c.row sweeps.found
+      (subst (λ (m : ℕ). row_at t.rows m ≡ Some c.row) c.number (stands c.row.no c.row c.found))
 
   new_name : (n i : ℕ) (a : Row) → (w : IsNewAt s name trav items k.chosen i n a) → a.name ≡ w.item.name
   new_name n i a w = ap (λ (x : Row). x.name) w.is
 
   -- the target of an item's node
-  module _ (i : ℕ) (item : Item) (c : ℕ) (at_i : slice_get items i ≡ Some item) (at_c : slice_get k.chosen i ≡ Some c) where
+  module _ (i : ℕ) (item : Item) (c : ℕ) (at_i : slice_get items i ≡ Some item)
+      (at_c : slice_get k.chosen i ≡ Some c) where
     target_new : HasNoCurrent s.rows name item.name → row_at t.rows c ≡ Some (new_row name trav c item)
         → TargetFits t st item.name c (new_row name trav c item)
     target_new no_current there = record {
@@ -171,12 +181,15 @@ module _ (s : StateData) (h : Standing s) (name : List ℕ) (items : List Item) 
       from = λ q at. inl refl;
       kept = init_is_kept;
     } where
-      by : (m : ℕ) (q : Row) → (row_at s.rows m ≡ Some q) ⊎ ((s.next.row ≤ m) × ((j : ℕ) × IsNewAt s name trav items k.chosen j m q))
+      by : (m : ℕ) (q : Row) → (row_at s.rows m ≡ Some q)
+          ⊎ ((s.next.row ≤ m) × ((j : ℕ) × IsNewAt s name trav items k.chosen j m q))
           → q.stack ≡ name → q.name ≡ item.name → IsCurrent q → m ≤ c
       by m q (inl was) of called current = absurd (no_current m q was of called current)
       by m q (inr (le, (j, w))) of called current =
-          let place : j ≡ i = name_once items asked.rising j i w.item item w.asked at_i (sym (new_name m j q w) ∙ called) in
-          let number : m ≡ c = same_some m c (subst (λ (x : ℕ). slice_get k.chosen x ≡ Some m) place w.number) at_c in omega (arith, number)
+          let place : j ≡ i = name_once items asked.rising j i w.item item w.asked at_i
+          (sym (new_name m j q w) ∙ called) in
+          let number : m ≡ c = same_some m c (subst (λ (x : ℕ). slice_get k.chosen x ≡ Some m) place w.number) at_c in
+          omega (arith, number)
 
       is : IsCurrentOf t.rows name item.name (new_row name trav c item)
       is = record {
@@ -194,11 +207,13 @@ module _ (s : StateData) (h : Standing s) (name : List ℕ) (items : List Item) 
       from = λ q at. inl e;
       kept = old.current.kept;
     } where
-      by : (m : ℕ) (q : Row) → (row_at s.rows m ≡ Some q) ⊎ ((s.next.row ≤ m) × ((j : ℕ) × IsNewAt s name trav items k.chosen j m q))
+      by : (m : ℕ) (q : Row) → (row_at s.rows m ≡ Some q)
+          ⊎ ((s.next.row ≤ m) × ((j : ℕ) × IsNewAt s name trav items k.chosen j m q))
           → q.stack ≡ name → q.name ≡ item.name → IsCurrent q → m ≤ r.no
       by m q (inl was) of called current = old.greatest m q was of called current
       by m q (inr (le, (j, w))) of called current =
-          absurd (w.no_current r.no r old.found old.stack_is (old.name_is ∙ (sym called ∙ new_name m j q w)) old.current)
+          absurd (w.no_current r.no r old.found old.stack_is
+          (old.name_is ∙ (sym called ∙ new_name m j q w)) old.current)
 
       is : IsCurrentOf t.rows name item.name r
       is = record {
@@ -209,7 +224,8 @@ module _ (s : StateData) (h : Standing s) (name : List ℕ) (items : List Item) 
         greatest = λ m q at of called current. by m q (found_then m q at) of called current;
       }
 
-    target_for : ChosenFor s name trav s.next.row (put_rows k.rows s.rows) item c → (a : Row) × TargetFits t st item.name c a
+    target_for : ChosenFor s name trav s.next.row (put_rows k.rows s.rows) item c
+        → (a : Row) × TargetFits t st item.name c a
     target_for (stood r is e) = (r, target_stood r is e)
     target_for (newly none le there) = (
       new_row name trav c item,
@@ -225,8 +241,11 @@ module _ (s : StateData) (h : Standing s) (name : List ℕ) (items : List Item) 
       let u = update_at i n word at in
       let (c, at_c, for) = choice i u.item u.asked in
       let number : c ≡ n = same_some c n at_c u.number in
-      let (a, f) = target_for i u.item c u.asked at_c for in
-      (a, subst (λ (x : List ℕ). TargetFits t st x n a) u.called (subst (λ (m : ℕ). TargetFits t st u.item.name m a) number f))
+      let (a, f) = target_for i u.item c u.asked at_c for in (
+        a,
+        subst (λ (x : List ℕ). TargetFits t st x n a) u.called
+            (subst (λ (m : ℕ). TargetFits t st u.item.name m a) number f),
+      )
 
   targets_fit : TargetsFit t st g
   targets_fit = record {
@@ -236,7 +255,8 @@ module _ (s : StateData) (h : Standing s) (name : List ℕ) (items : List Item) 
     old = λ n a at is past act. old n a (found_then n a at) is past;
   } where
     rows : (n : ℕ) (a : Row) → row_at t.rows n ≡ Some a
-        → (row_at s.rows n ≡ Some a) ⊎ ((s.next.row ≤ n) × ((i : ℕ) × IsNewAt s name trav items k.chosen i n a)) → a.stack ≡ name
+        → (row_at s.rows n ≡ Some a) ⊎ ((s.next.row ≤ n) × ((i : ℕ) × IsNewAt s name trav items k.chosen i n a))
+        → a.stack ≡ name
         → ((i : ℕ) × Aims t st g i a.name a) ⊎ ((i : ℕ) × IsNode g i (C n))
     rows n a at (inl was) is = inr (row_there n a was is)
     rows n a at (inr (le, (i, w))) is =
@@ -248,7 +268,8 @@ module _ (s : StateData) (h : Standing s) (name : List ℕ) (items : List Item) 
               (target_new i w.item n w.asked w.number w.no_current there)),
         )
 
-    old : (n : ℕ) (a : Row) → (row_at s.rows n ≡ Some a) ⊎ ((s.next.row ≤ n) × ((i : ℕ) × IsNewAt s name trav items k.chosen i n a))
+    old : (n : ℕ) (a : Row) → (row_at s.rows n ≡ Some a)
+        ⊎ ((s.next.row ≤ n) × ((i : ℕ) × IsNewAt s name trav items k.chosen i n a))
         → a.stack ≡ name → a.trav ≢ trav → (i : ℕ) × IsNode g i (C n)
     old n a (inl was) is past = row_there n a was is
     old n a (inr (le, (i, w))) is past = absurd (past (ap (λ (x : Row). x.trav) w.is))
@@ -264,12 +285,14 @@ module _ (s : StateData) (h : Standing s) (name : List ℕ) (items : List Item) 
     items = λ item c. let (i, at) = contained items item (planned item c) in
         let (n, at_n, _) = choice i item at in (i, n, item_there i item n at at_n);
     only_items = λ i n word at. let u = update_at i n word at in
-        subst (λ (l : List Item). Contains (names_of l) word) (sym asked.its) (subst (Contains (names_of items)) u.called
+        subst (λ (l : List Item). Contains (names_of l) word) (sym asked.its)
+        (subst (Contains (names_of items)) u.called
         (contains_map (λ (x : Item). x.name) items u.item (contains_at items i u.item u.asked)));
     one_update = λ i j n m word at_i at_j. let u = update_at i n word at_i in let v = update_at j m word at_j in
         name_once items asked.rising i j u.item v.item u.asked v.asked (u.called ∙ sym v.called);
     one_cleanup = λ i j n at_i at_j. let u = cleanup_at i n at_i in let v = cleanup_at j n at_j in
-        u.place ∙ (ap (λ (m : ℕ). length items + m) (sorted_once s.rows name k.standing k.standing_are sorted k.built.rows_are u.r v.r
+        u.place ∙ (ap (λ (m : ℕ). length items + m)
+        (sorted_once s.rows name k.standing k.standing_are sorted k.built.rows_are u.r v.r
         (brief_of u.row) (brief_of v.row) u.listed v.listed (u.number ∙ sym v.number)) ∙ sym v.place);
     points = λ i node at. record {
       point = fresh_point name (0 + i);
@@ -277,19 +300,25 @@ module _ (s : StateData) (h : Standing s) (name : List ℕ) (items : List Item) 
       stack = refl;
       node = omega arith;
     };
-    ends = λ i j edge. (subst (λ (m : ℕ). i < m) size (fits.ends i j edge).0, subst (λ (m : ℕ). j < m) size (fits.ends i j edge).1);
+    ends = λ i j edge. (
+      subst (λ (m : ℕ). i < m) size (fits.ends i j edge).0,
+      subst (λ (m : ℕ). j < m) size (fits.ends i j edge).1,
+    );
   } where
     size : length items + length sorted ≡ length k.graph.nodes
     size = length-nodes items k.chosen sorted k.graph.nodes same_length k.built.nodes
 
-  needed : (i j n m : ℕ) (word need : List ℕ) → IsNode g j (U word n) → IsNode g i (U need m) → Needs st word need → Joins k.graph.edges i j
+  needed : (i j n m : ℕ) (word need : List ℕ) → IsNode g j (U word n) → IsNode g i (U need m) → Needs st word need
+      → Joins k.graph.edges i j
   needed i j n m word need at_j at_i of =
       let u = update_at i m need at_i in let v = update_at j n word at_j in
-      let found : item_at items word ≡ Some of.item = subst (λ (l : List Item). item_at l word ≡ Some of.item) asked.its of.asked in
+      let found : item_at items word ≡ Some of.item =
+      subst (λ (l : List Item). item_at l word ≡ Some of.item) asked.its of.asked in
       let here : item_at items word ≡ Some v.item = subst (λ (x : List ℕ). item_at items x ≡ Some v.item) v.called
       (item_asked items asked.rising j v.item v.asked) in
       let is : of.item ≡ v.item = same_some of.item v.item found here in
-      fits.needed i j u.item v.item u.asked v.asked (subst (Contains v.item.needs) (sym u.called) (subst (λ (x : Item). Contains x.needs need) is of.among))
+      fits.needed i j u.item v.item u.asked v.asked
+      (subst (Contains v.item.needs) (sym u.called) (subst (λ (x : Item). Contains x.needs need) is of.among))
 
   needs : (i j n : ℕ) (word : List ℕ) → IsNode g j (U word n) → Joins k.graph.edges i j
       → (need : List ℕ) × (m : ℕ) × IsNode g i (U need m) × Needs st word need
@@ -313,7 +342,8 @@ module _ (s : StateData) (h : Standing s) (name : List ℕ) (items : List Item) 
   behind i j n r at_i sweeps =
       let u = update_at i n r.name at_i in let c = its_row j r sweeps in
       let called : c.row.name ≡ u.item.name = ap (λ (x : Row). x.name) (sym (row_is j r sweeps)) ∙ sym u.called in
-      subst (λ (m : ℕ). Joins k.graph.edges i m) (sym c.place) (fits.behind i c.r u.item (brief_of c.row) u.asked c.listed called)
+      subst (λ (m : ℕ). Joins k.graph.edges i m) (sym c.place)
+      (fits.behind i c.r u.item (brief_of c.row) u.asked c.listed called)
 
   undone : (i : ℕ) → ¬ IsDone g i
   undone i d = clash (ap (λ (p : Point). p.done) (fresh_is name 0 k.graph.nodes i d.point d.there)) d.done where

@@ -12,7 +12,8 @@ use Rattle.core_state.specs.State.{StateData}
 use Rattle.core_state.specs.declared.graph.Graph.{Graph}
 use Rattle.core_state.specs.declared.stack.Stack.{Stack}
 use Rattle.step_relation.specs.Targets.{IsCurrentOf, IsTarget, of_u, renewed}
-use Rattle.soundness.specs.GraphFits.{Aims, EdgesFit, GraphFits, InputsFit, IsInput, IsNode, Stands, Sweeps, TargetFits, TargetsFit, of_c as of_clean_up, of_u as of_update}
+use Rattle.soundness.specs.GraphFits.{Aims, EdgesFit, GraphFits, InputsFit, IsInput, IsNode, Stands, Sweeps, TargetFits}
+use Rattle.soundness.specs.GraphFits.{TargetsFit, of_c as of_clean_up, of_u as of_update}
 use Rattle.soundness.specs.Linked.{Chained}
 use Rattle.soundness.specs.Numbered.{row_of}
 use Rattle.table_laws.proofs.Rows.{row-key, same_some}
@@ -51,8 +52,10 @@ pub record Stays (t : StateData) (st : Stack) (g : Graph) (i : ℕ) (o : Row) : 
 pub record Carries (s t : StateData) (st : Stack) (g : Graph) : Type 0 where
   pub were : (n : ℕ) (a : Row) → row_at t.rows n ≡ Some a → a.stack ≡ st.name
       → (o : Row) × (row_at s.rows n ≡ Some o) × Onward st.trav o a
-  pub theirs : (i : ℕ) (node : Node) (a : Row) → IsNode g i node → row_at t.rows (row_of node) ≡ Some a → a.stack ≡ st.name
-  pub targets : (i n : ℕ) (name : List ℕ) (o : Row) → IsNode g i (U name n) → TargetFits s st name n o → Stays t st g i o
+  pub theirs : (i : ℕ) (node : Node) (a : Row) → IsNode g i node → row_at t.rows (row_of node) ≡ Some a
+      → a.stack ≡ st.name
+  pub targets : (i n : ℕ) (name : List ℕ) (o : Row) → IsNode g i (U name n) → TargetFits s st name n o
+      → Stays t st g i o
 
 -- a current row to which the chosen row leads, if that stands, is the node's target
 pub aims_at : (rows : List Row) (stack name : List ℕ) (n : ℕ) (a : Row) → IsCurrentOf rows stack name a
@@ -65,7 +68,8 @@ aims_at rows stack name n a is on = by (row_at rows n) refl where
   by : (o : Option Row) → row_at rows n ≡ o → IsTarget rows stack (U name n) a.no
   by None none = renewed name n a none is
   by (Some q) at = elim (on q at) [
-    | inl same ↦ subst (λ (k : ℕ). IsTarget rows stack (U name k) a.no) (sym same) (of_u name a.no a.no (ends a.no a is.found last))
+    | inl same ↦ subst (λ (k : ℕ). IsTarget rows stack (U name k) a.no) (sym same)
+        (of_u name a.no a.no (ends a.no a is.found last))
     | inr up ↦ of_u name n a.no (goes n a.no a.no q at up.0 up.1 (ends a.no a is.found last))
   ]
 
@@ -86,39 +90,41 @@ aims_fits s st g f i name r k =
 module _ (s t : StateData) (st : Stack) (g : Graph) (chained : Chained s.rows) (c : Carries s t st g) where
   target_then : (i n : ℕ) (name : List ℕ) (o : Row) → IsNode g i (U name n) → TargetFits s st name n o
       → (k : Stays t st g i o) → TargetFits t st name n k.row
-  target_then i n name o at f k = record { to = aims_at t.rows st.name name n k.row is up; is = is; from = from; kept = k.kept } where
-    number : o.no ≡ k.row.no
-    number = sym k.onward.no_
+  target_then i n name o at f k =
+      record { to = aims_at t.rows st.name name n k.row is up; is = is; from = from; kept = k.kept } where
+        number : o.no ≡ k.row.no
+        number = sym k.onward.no_
 
-    is : IsCurrentOf t.rows st.name name k.row
-    is = record {
-      found = subst (λ (x : ℕ). row_at t.rows x ≡ Some k.row) number k.found;
-      stack_is = k.onward.stack ∙ f.is.stack_is;
-      name_is = k.onward.name ∙ f.is.name_is;
-      current = record { kept = k.kept; last = k.onward.replaced_by ∙ f.is.current.last };
-      greatest = λ m q at_q of called current.
-          let (p, at_p, on) = c.were m q at_q of in
-          let le : m ≤ o.no = f.is.greatest m p at_p (sym on.stack ∙ of) (sym on.name ∙ called)
-          (record { kept = on.kept current.kept; last = sym on.replaced_by ∙ current.last }) in
-          subst (λ (x : ℕ). m ≤ x) number le;
-    }
+        is : IsCurrentOf t.rows st.name name k.row
+        is = record {
+          found = subst (λ (x : ℕ). row_at t.rows x ≡ Some k.row) number k.found;
+          stack_is = k.onward.stack ∙ f.is.stack_is;
+          name_is = k.onward.name ∙ f.is.name_is;
+          current = record { kept = k.kept; last = k.onward.replaced_by ∙ f.is.current.last };
+          greatest = λ m q at_q of called current.
+              let (p, at_p, on) = c.were m q at_q of in
+              let le : m ≤ o.no = f.is.greatest m p at_p (sym on.stack ∙ of) (sym on.name ∙ called)
+              (record { kept = on.kept current.kept; last = sym on.replaced_by ∙ current.last }) in
+              subst (λ (x : ℕ). m ≤ x) number le;
+        }
 
-    from : (q : Row) → row_at t.rows n ≡ Some q → (n ≡ k.row.no) ⊎ ((q.replaced_by ≡ Some k.row.no) × (k.row.trav ≡ st.trav))
-    from q at_q =
-        let (p, at_p, on) = c.were n q at_q (c.theirs i (U name n) q at at_q) in elim (f.from p at_p) [
-          | inl same ↦ inl (same ∙ number)
-          | inr by ↦ inr (on.replaced_by ∙ (by.0 ∙ ap Some number), k.onward.newest by.1)
-        ]
+        from : (q : Row) → row_at t.rows n ≡ Some q
+            → (n ≡ k.row.no) ⊎ ((q.replaced_by ≡ Some k.row.no) × (k.row.trav ≡ st.trav))
+        from q at_q =
+            let (p, at_p, on) = c.were n q at_q (c.theirs i (U name n) q at at_q) in elim (f.from p at_p) [
+              | inl same ↦ inl (same ∙ number)
+              | inr by ↦ inr (on.replaced_by ∙ (by.0 ∙ ap Some number), k.onward.newest by.1)
+            ]
 
-    up : (q : Row) → row_at t.rows n ≡ Some q → (n ≡ k.row.no) ⊎ ((q.replaced_by ≡ Some k.row.no) × (n < k.row.no))
-    up q at_q =
-        let (p, at_p, on) = c.were n q at_q (c.theirs i (U name n) q at at_q) in elim (f.from p at_p) [
-          | inl same ↦ inl (same ∙ number)
-          | inr by ↦ inr (
-            on.replaced_by ∙ (by.0 ∙ ap Some number),
-            subst (λ (x : ℕ). n < x) number (chained.rises n o.no p at_p by.0),
-          )
-        ]
+        up : (q : Row) → row_at t.rows n ≡ Some q → (n ≡ k.row.no) ⊎ ((q.replaced_by ≡ Some k.row.no) × (n < k.row.no))
+        up q at_q =
+            let (p, at_p, on) = c.were n q at_q (c.theirs i (U name n) q at at_q) in elim (f.from p at_p) [
+              | inl same ↦ inl (same ∙ number)
+              | inr by ↦ inr (
+                on.replaced_by ∙ (by.0 ∙ ap Some number),
+                subst (λ (x : ℕ). n < x) number (chained.rises n o.no p at_p by.0),
+              )
+            ]
 
   aims_then : TargetsFit s st g → (i : ℕ) (name : List ℕ) (r : Row) → Aims s st g i name r
       → (k : Stays t st g i r) × Aims t st g i name k.row
@@ -130,8 +136,14 @@ module _ (s t : StateData) (st : Stack) (g : Graph) (chained : Chained s.rows) (
   -- a clean-up node's row was there, with this name
   swept : (i : ℕ) (a : Row) → Sweeps t g i a → (o : Row) × Sweeps s g i o × (a.name ≡ o.name)
   swept i a k =
-      let (o, at, on) = c.were a.no a k.found (c.theirs i (C a.no) a k.node k.found) in
-      (o, record { node = subst (λ (x : ℕ). IsNode g i (C x)) on.no_ k.node; found = subst (λ (x : ℕ). row_at s.rows x ≡ Some o) on.no_ at }, on.name)
+      let (o, at, on) = c.were a.no a k.found (c.theirs i (C a.no) a k.node k.found) in (
+        o,
+        record {
+          node = subst (λ (x : ℕ). IsNode g i (C x)) on.no_ k.node;
+          found = subst (λ (x : ℕ). row_at s.rows x ≡ Some o) on.no_ at;
+        },
+        on.name,
+      )
 
   edges_then : EdgesFit s st g → EdgesFit t st g
   edges_then f = record {
@@ -156,8 +168,13 @@ module _ (s t : StateData) (st : Stack) (g : Graph) (chained : Chained s.rows) (
         let (o, was, on) = c.were n a at is in elim (f.rows n o was (sym on.stack ∙ is)) [
           | inl (i, aims) ↦
               let (k, then) = aims_then f i o.name o aims in
-              let same : k.row ≡ a = same_some k.row a k.found (subst (λ (x : ℕ). row_at t.rows x ≡ Some a) (sym (row-key s.rows n o was)) at) in
-              inl (i, subst (λ (x : Row). Aims t st g i a.name x) same (subst (λ (x : List ℕ). Aims t st g i x k.row) (sym on.name) then))
+              let same : k.row ≡ a = same_some k.row a k.found
+              (subst (λ (x : ℕ). row_at t.rows x ≡ Some a) (sym (row-key s.rows n o was)) at) in
+              inl (
+                i,
+                subst (λ (x : Row). Aims t st g i a.name x) same
+                    (subst (λ (x : List ℕ). Aims t st g i x k.row) (sym on.name) then),
+              )
           | inr there ↦ inr there
         ]
 

@@ -18,17 +18,21 @@ use Rattle.table_laws.proofs.Rows.{row_cut, row_else, row_here, row_kept, row_pu
 use Rattle.graph_laws.proofs.Carried.{Carries, Onward, Onward-same, Stays}
 
 -- a row that a node names is of the node's stack
-pub theirs : (s : StateData) → Standing s → (name : List ℕ) (st : Stack) → stack_at s.stacks name ≡ Some st → (i : ℕ) (node : Node) (a : Row)
+pub theirs : (s : StateData) → Standing s → (name : List ℕ) (st : Stack) → stack_at s.stacks name ≡ Some st
+    → (i : ℕ) (node : Node) (a : Row)
     → IsNode (graph_of s name) i node → row_at s.rows (row_of node) ≡ Some a → a.stack ≡ st.name
 theirs s h name st at_st i node a = by (graph_at s.graphs name) refl where
-  by : (o : Option Graph) → graph_at s.graphs name ≡ o → IsNode (graph_or name o) i node → row_at s.rows (row_of node) ≡ Some a → a.stack ≡ st.name
+  by : (o : Option Graph) → graph_at s.graphs name ≡ o → IsNode (graph_or name o) i node
+      → row_at s.rows (row_of node) ≡ Some a → a.stack ≡ st.name
   by None none at at_a = absurd (empty at) where
     empty : slice_get [] i ≡ Some node → ⊥
     empty e = cc
-  by (Some g) at_g at at_a = h.links.owned.one (row_of node) a.stack name (by_row a at_a refl) (by_node g i node at_g at refl)
+  by (Some g) at_g at at_a = h.links.owned.one (row_of node) a.stack name (by_row a at_a refl)
+      (by_node g i node at_g at refl)
       ∙ sym (stack-key s.stacks name st at_st)
 
-module _ (s t : StateData) (h : Standing s) (name : List ℕ) (st : Stack) (at_st : stack_at s.stacks name ≡ Some st) where
+module _ (s t : StateData) (h : Standing s) (name : List ℕ) (st : Stack)
+    (at_st : stack_at s.stacks name ≡ Some st) where
   abbrev g : Graph
   g = graph_of s name
 
@@ -36,7 +40,8 @@ module _ (s t : StateData) (h : Standing s) (name : List ℕ) (st : Stack) (at_s
   pub carries_same : t.rows ≡ s.rows → Carries s t st g
   carries_same same = record {
     were = λ n a at is. (a, subst (λ (x : List Row). row_at x n ≡ Some a) same at, Onward-same st.trav a);
-    theirs = λ i node a at at_a. theirs s h name st at_st i node a at (subst (λ (x : List Row). row_at x (row_of node) ≡ Some a) same at_a);
+    theirs = λ i node a at at_a. theirs s h name st at_st i node a at
+        (subst (λ (x : List Row). row_at x (row_of node) ≡ Some a) same at_a);
     targets = λ i n word o at f. record {
       row = o;
       found = subst (λ (x : List Row). row_at x o.no ≡ Some o) (sym same) f.is.found;
@@ -47,16 +52,19 @@ module _ (s t : StateData) (h : Standing s) (name : List ℕ) (st : Stack) (at_s
   }
 
   -- the row q is written over r
-  module _ (r q : Row) (stood : row_at s.rows q.no ≡ Some r) (same : t.rows ≡ put_row q s.rows) (stack : q.stack ≡ r.stack)
+  module _ (r q : Row) (stood : row_at s.rows q.no ≡ Some r) (same : t.rows ≡ put_row q s.rows)
+      (stack : q.stack ≡ r.stack)
       (on : r.stack ≡ st.name → Onward st.trav r q)
-      (aimed : (i n : ℕ) (word : List ℕ) → IsNode g i (U word n) → TargetFits s st word n r → (q.act ≢ Delete) × (IsDone g i → q.facts ≡ r.facts)) where
+      (aimed : (i n : ℕ) (word : List ℕ) → IsNode g i (U word n) → TargetFits s st word n r
+      → (q.act ≢ Delete) × (IsDone g i → q.facts ≡ r.facts)) where
     at_put : (n : ℕ) (a : Row) → row_at t.rows n ≡ Some a → row_at (put_row q s.rows) n ≡ Some a
     at_put n a = subst (λ (x : List Row). row_at x n ≡ Some a) same
 
     here : (n : ℕ) (a : Row) → row_at s.rows n ≡ Some a → q.no ≡ n → r ≡ a
     here n a at is = same_some r a stood (subst (λ (x : ℕ). row_at s.rows x ≡ Some a) (sym is) at)
 
-    were : (n : ℕ) (a : Row) → row_at t.rows n ≡ Some a → a.stack ≡ st.name → (o : Row) × (row_at s.rows n ≡ Some o) × Onward st.trav o a
+    were : (n : ℕ) (a : Row) → row_at t.rows n ≡ Some a → a.stack ≡ st.name → (o : Row) × (row_at s.rows n ≡ Some o)
+        × Onward st.trav o a
     were n a at is = elim (row_put q s.rows (at_put n a at)) [
       | inl new ↦ (
         r,
@@ -89,7 +97,8 @@ module _ (s t : StateData) (h : Standing s) (name : List ℕ) (st : Stack) (at_s
           let fits : TargetFits s st word n r = subst (λ (x : Row). TargetFits s st word n x) (sym eq) f in
           let no_ : q.no ≡ r.no = is ∙ sym (ap (λ (x : Row). x.no) eq) in record {
             row = q;
-            found = subst (λ (x : List Row). row_at x r.no ≡ Some q) (sym same) (subst (λ (k : ℕ). row_at (put_row q s.rows) k ≡ Some q) no_ (row_here q s.rows));
+            found = subst (λ (x : List Row). row_at x r.no ≡ Some q) (sym same)
+                (subst (λ (k : ℕ). row_at (put_row q s.rows) k ≡ Some q) no_ (row_here q s.rows));
             onward = on fits.is.stack_is;
             kept = (aimed i n word at fits).0;
             facts = (aimed i n word at fits).1;
@@ -110,7 +119,8 @@ module _ (s t : StateData) (h : Standing s) (name : List ℕ) (st : Stack) (at_s
       theirs = λ i node a at at_a. theirs s h name st at_st i node a at (at_cut (row_of node) a at_a);
       targets = λ i n word o at f. record {
         row = o;
-        found = subst (λ (x : List Row). row_at x o.no ≡ Some o) (sym same) (row_kept c s.rows o.no (apart i n word o at f) ∙ f.is.found);
+        found = subst (λ (x : List Row). row_at x o.no ≡ Some o) (sym same)
+            (row_kept c s.rows o.no (apart i n word o at f) ∙ f.is.found);
         onward = Onward-same st.trav o;
         kept = f.kept;
         facts = λ done. refl;

@@ -28,7 +28,9 @@ lives (e ∷ es) new s = lives es new (apply (Stop e) s)
 pub graphs_kept : KeptByEngines GraphsFit
 graphs_kept = record {
   stop = λ s e h live. quiet s h (applied (Stop e ∷ []) s) refl refl refl;
-  enlist = λ s h. quiet s h (applied (change_to.Numbers (past_engines s.next 1) ∷ Enlist s.next.engine ∷ []) s) refl refl refl;
-  restart = λ s count h. subst GraphsFit (sym (lives s.live (engines_from s.next.engine count) (record s { next = past_engines s.next count })))
+  enlist = λ s h. quiet s h (applied (change_to.Numbers (past_engines s.next 1) ∷ Enlist s.next.engine ∷ []) s)
+      refl refl refl;
+  restart = λ s count h. subst GraphsFit
+      (sym (lives s.live (engines_from s.next.engine count) (record s { next = past_engines s.next count })))
       (quiet s h _ refl refl refl);
 }

@@ -1,5 +1,6 @@
 -- Graphs fit after a finish, with or without the mark that it brings: `finish_keeps` and `finish_marks`.
-use Rattle.std.proofs.Common.{◌≡◌, ◌≢◌, ◌↔◌, inl, inr, ℕ, List, [], ◌∷◌, ◌++◌, map, None, Option, Some, refl, sym, ap, ◌∙◌, subst}
+use Rattle.std.proofs.Common.{◌≡◌, ◌≢◌, ◌↔◌, inl, inr, ℕ, List, [], ◌∷◌, ◌++◌, map, None, Option, Some, refl, sym, ap}
+use Rattle.std.proofs.Common.{◌∙◌, subst}
 use Rattle.std.specs.Prelude.{Contains}
 use Rattle.heat_plan.specs.declared.phase.Act.{Act}
 use Rattle.heat_plan.specs.declared.phase.Act.TheVariants.{Create, Delete, Init, Rollback, Update}
@@ -28,7 +29,8 @@ use Rattle.soundness.specs.GraphFits.{GraphFits, IsInput, IsNode, graph_of, grap
 use Rattle.soundness.specs.Sound.{Standing}
 use Rattle.table_laws.proofs.Alike.{Alike-put}
 use Rattle.table_laws.proofs.Points.{point_else, point_here}
-use Rattle.table_laws.proofs.Rows.{graph-key, graph_kept, row-key, row_here, row_self, same_some, stack-key, stack_cut, text_or_not}
+use Rattle.table_laws.proofs.Rows.{graph-key, graph_kept, row-key, row_here, row_self, same_some, stack-key, stack_cut}
+use Rattle.table_laws.proofs.Rows.{text_or_not}
 use Rattle.table_laws.proofs.Targets.{SameWay, SameWay-same, target_kept}
 use Rattle.graph_laws.specs.Laws.{GraphsFit}
 use Rattle.graph_laws.proofs.Carried.{graph_carried}
@@ -101,22 +103,27 @@ module _ (s : StateData) (h : Standing s) (e : ℕ) (k : Finishes s e) where
   its_name : st.name ≡ own
   its_name = stack-key s.stacks own st k.fresh.names.in_table
 
-  carries : (t : StateData) (r : Option Row) → row_at s.rows k.job.row ≡ r → t.rows ≡ rows_then r s.rows → CarriesAll s t
+  carries : (t : StateData) (r : Option Row) → row_at s.rows k.job.row ≡ r → t.rows ≡ rows_then r s.rows
+      → CarriesAll s t
   carries t None at same name st' at_st = carries_same s t h name st' at_st same
   carries t (Some r) at same name st' at_st = carries_shape s t h k.job.row r (unlocked r) at same
-      (record { no_ = refl; stack = refl; name = refl; act = refl; trav = refl; replaced_by = refl }) (λ other st'' j m word at_other node f done. refl) name st' at_st
+      (record { no_ = refl; stack = refl; name = refl; act = refl; trav = refl; replaced_by = refl })
+      (λ other st'' j m word at_other node f done. refl) name st' at_st
 
   -- the input that its node gives is of its target
   input_is : (t : StateData) (node : Node) (r : Option Row) → IsNode g i node → IsTarget s.rows st.name node k.job.row
-      → row_at s.rows k.job.row ≡ r → t.rows ≡ rows_then r s.rows → Serves st node r → IsInput t st g (input_of i node k.job.row r)
+      → row_at s.rows k.job.row ≡ r → t.rows ≡ rows_then r s.rows → Serves st node r
+      → IsInput t st g (input_of i node k.job.row r)
   input_is t _ _ node to at same (updates name n item r asked kept) = of_u name (unlocked r) (record {
     chosen = n;
     node = node;
     to = subst (λ (rows : List Row). IsTarget rows st.name (U name n) r.no) (sym same)
-        (subst (λ (m : ℕ). IsTarget (put_row (unlocked r) s.rows) st.name (U name n) m) (sym (row-key s.rows k.job.row r at))
+        (subst (λ (m : ℕ). IsTarget (put_row (unlocked r) s.rows) st.name (U name n) m)
+        (sym (row-key s.rows k.job.row r at))
         (target_kept s.rows (put_row (unlocked r) s.rows)
         (Alike-put SameWay SameWay-same r (unlocked r) s.rows (row_self s.rows k.job.row r at)
-        (record { no_ = refl; stack = refl; name = refl; act = refl; replaced_by = refl })) st.name (U name n) k.job.row to));
+        (record { no_ = refl; stack = refl; name = refl; act = refl; replaced_by = refl })) st.name
+        (U name n) k.job.row to));
     found = subst (λ (rows : List Row). row_at rows r.no ≡ Some (unlocked r)) (sym same) (row_here (unlocked r) s.rows);
   }) refl (sym (row-key s.rows k.job.row r at)) refl
   input_is t _ _ node to at same (cleans n r) = of_c n node refl refl refl
@@ -128,10 +135,13 @@ module _ (s : StateData) (h : Standing s) (e : ℕ) (k : Finishes s e) where
   -- of any state with these rows, stacks and graphs
   module _ (t : StateData) (rows : t.rows ≡ rows_then k.fresh.row s.rows) (stacks : SameStacks s.stacks t.stacks)
       (others : (name : List ℕ) → name ≢ own → graph_of t name ≡ graph_of s name)
-      (mine : (st' : Stack) → stack_at t.stacks own ≡ Some st' → graph_of t own ≡ passed k.fresh.graph i x k.succs) where
+      (mine : (st' : Stack) → stack_at t.stacks own ≡ Some st'
+      → graph_of t own ≡ passed k.fresh.graph i x k.succs) where
     its : IsInput t st g x
-    its = input_is t k.fresh.node k.fresh.row (job_node s h e k.job k.works.its st k.fresh.graph k.fresh.node k.fresh.names)
-        (job_target s h e k.job k.works.its st k.fresh.graph k.fresh.node k.fresh.names) k.fresh.found rows k.fresh.serves
+    its = input_is t k.fresh.node k.fresh.row
+        (job_node s h e k.job k.works.its st k.fresh.graph k.fresh.node k.fresh.names)
+        (job_target s h e k.job k.works.its st k.fresh.graph k.fresh.node k.fresh.names) k.fresh.found rows
+        k.fresh.serves
 
     carried : (name : List ℕ) (o : Stack) → stack_at s.stacks name ≡ Some o → GraphFits t o (graph_of s name)
     carried name o was = graph_carried s t o (graph_of s name) h.links.chained
@@ -144,21 +154,25 @@ module _ (s : StateData) (h : Standing s) (e : ℕ) (k : Finishes s e) where
         k.fresh.node (job_node s h e k.job k.works.its st k.fresh.graph k.fresh.node k.fresh.names)
         (job_ready s h e k.job k.works.its st k.fresh.graph k.fresh.node k.fresh.names) its)
 
-    fits : (name : List ℕ) (o : Stack) → stack_at s.stacks name ≡ Some o → (st' : Stack) → stack_at t.stacks name ≡ Some st'
+    fits : (name : List ℕ) (o : Stack) → stack_at s.stacks name ≡ Some o → (st' : Stack)
+        → stack_at t.stacks name ≡ Some st'
         → GraphFits t o (graph_of t name)
     fits name o was st' at = elim (text_or_not name own) [
       | inl is ↦
-          let same : st ≡ o = same_some st o k.fresh.names.in_table (subst (λ (y : List ℕ). stack_at s.stacks y ≡ Some o) is was) in
+          let same : st ≡ o = same_some st o k.fresh.names.in_table
+          (subst (λ (y : List ℕ). stack_at s.stacks y ≡ Some o) is was) in
           let then : graph_of t name ≡ passed g i x k.succs =
           ap (graph_of t) is ∙ (mine st' (subst (λ (y : List ℕ). stack_at t.stacks y ≡ Some st') is at)
           ∙ ap (λ (y : Graph). passed y i x k.succs) (sym graph_is)) in
-          subst (GraphFits t o) (sym then) (subst (λ (y : Stack). GraphFits t y (passed g i x k.succs)) same passed_fits)
+          subst (GraphFits t o) (sym then)
+          (subst (λ (y : Stack). GraphFits t y (passed g i x k.succs)) same passed_fits)
       | inr ne ↦ subst (GraphFits t o) (sym (others name ne)) (carried name o was)
     ]
 
     finished : GraphsFit t
     finished name st' at = let (o, status, was, is) = stacks name st' at in
-        subst (λ (y : Stack). GraphFits t y (graph_of t name)) is (restated t o (graph_of t name) status (fits name o was st' at))
+        subst (λ (y : Stack). GraphFits t y (graph_of t name)) is
+        (restated t o (graph_of t name) status (fits name o was st' at))
 
   -- the state before the mark
   abbrev pub between : StateData
@@ -175,12 +189,18 @@ module _ (s : StateData) (h : Standing s) (e : ℕ) (k : Finishes s e) where
       draws s.next (ready_letters s e k) (unlock k.fresh.row rest) s
       ∙ (unlocks k.fresh.row rest (record s { next = drawn s.next (ready_letters s e k) s.next })
       ∙ (puts (passed_points k.fresh.graph i x k.succs) (map Send (ready_letters s e k) ++ mark) ended
-      ∙ sends (ready_letters s e k) mark (record ended { graphs = written (passed_points k.fresh.graph i x k.succs) s.graphs }))) where
+      ∙ sends (ready_letters s e k) mark
+      (record ended { graphs = written (passed_points k.fresh.graph i x k.succs) s.graphs }))) where
         rest : List Change
-        rest = EndJob e ∷ (map PutPoint (passed_points k.fresh.graph i x k.succs) ++ (map Send (ready_letters s e k) ++ mark))
+        rest = EndJob e ∷ (map PutPoint (passed_points k.fresh.graph i x k.succs)
+            ++ (map Send (ready_letters s e k) ++ mark))
 
         ended : StateData
-        ended = record s { next = drawn s.next (ready_letters s e k) s.next; rows = rows_then k.fresh.row s.rows; jobs = cut_job e s.jobs }
+        ended = record s {
+          next = drawn s.next (ready_letters s e k) s.next;
+          rows = rows_then k.fresh.row s.rows;
+          jobs = cut_job e s.jobs;
+        }
 
   pub its_stack : (n : ℕ) → (v n).stack ≡ own
   its_stack n = graph-key s.graphs own k.fresh.graph k.fresh.names.its_graph
@@ -194,16 +214,22 @@ module _ (s : StateData) (h : Standing s) (e : ℕ) (k : Finishes s e) where
   unmarked : GraphsFit between
   unmarked = finished between refl (stacks_same s.stacks) others (λ st' at. mine)
 
-  marked : (a : Act) → stack_at s.stacks own ≡ Some (record st { act = a }) → GraphsFit (applied (mark_complete (record st { act = a })) between)
+  marked : (a : Act) → stack_at s.stacks own ≡ Some (record st { act = a })
+      → GraphsFit (applied (mark_complete (record st { act = a })) between)
   marked Delete at = finished (applied (DropStack st.name ∷ []) between) refl (stacks_cut st.name s.stacks)
-      (λ name ne. ap (graph_or name) (graph_kept st.name between.graphs name (λ e. ne (sym e ∙ its_name))) ∙ others name ne)
+      (λ name ne. ap (graph_or name) (graph_kept st.name between.graphs name (λ e. ne (sym e ∙ its_name)))
+      ∙ others name ne)
       (λ st' there. absurd (gone st' there)) where
         gone : (st' : Stack) → stack_at (cut_stack st.name s.stacks) own ≡ Some st' → ⊥
         gone st' there = (stack_cut st.name s.stacks there).0 its_name
-  marked Init at = finished _ refl (stacks_marked s.stacks own (record st { act = Init }) Complete at) others (λ st' there. mine)
-  marked Create at = finished _ refl (stacks_marked s.stacks own (record st { act = Create }) Complete at) others (λ st' there. mine)
-  marked Update at = finished _ refl (stacks_marked s.stacks own (record st { act = Update }) Complete at) others (λ st' there. mine)
-  marked Rollback at = finished _ refl (stacks_marked s.stacks own (record st { act = Rollback }) Complete at) others (λ st' there. mine)
+  marked Init at = finished _ refl (stacks_marked s.stacks own (record st { act = Init }) Complete at) others
+      (λ st' there. mine)
+  marked Create at = finished _ refl (stacks_marked s.stacks own (record st { act = Create }) Complete at) others
+      (λ st' there. mine)
+  marked Update at = finished _ refl (stacks_marked s.stacks own (record st { act = Update }) Complete at) others
+      (λ st' there. mine)
+  marked Rollback at = finished _ refl (stacks_marked s.stacks own (record st { act = Rollback }) Complete at) others
+      (λ st' there. mine)
 
   pub finish_keeps : GraphsFit (applied (finished_changes s e k []) s)
   finish_keeps = subst GraphsFit (sym (comes [])) unmarked

@@ -1,4 +1,4 @@
--- Graphs fit after a step that leaves the graphs and of a stack changes the status alone: `kept_by`; and what lists of changes leave.
+-- Graphs fit after a step that leaves them and changes one stack's status: `kept_by`; what lists of changes leave.
 use Rattle.std.proofs.Common.{◌≡◌, inl, inr, ℕ, [], ◌∷◌, ◌++◌, List, Some, map, refl, sym, ◌∙◌, subst}
 use Rattle.std.specs.Prelude.{length}
 use Rattle.heat_plan.specs.declared.phase.Status.{Status}
@@ -30,7 +30,13 @@ stacks_same stacks name st at = (st, st.status, at, refl)
 pub stacks_marked : (stacks : List Stack) (name : List ℕ) (st : Stack) (x : Status) → stack_at stacks name ≡ Some st
     → SameStacks stacks (put_stack (with_status x st) stacks)
 stacks_marked stacks name st x at_st other q at = elim (stack_put (with_status x st) stacks at) [
-  | inl new ↦ (st, x, subst (λ (k : List ℕ). stack_at stacks k ≡ Some st) (sym (stack-key stacks name st at_st) ∙ new.0) at_st, new.1)
+  | inl new ↦ (
+    st,
+    x,
+    subst (λ (k : List ℕ). stack_at stacks k ≡ Some st)
+        (sym (stack-key stacks name st at_st) ∙ new.0) at_st,
+    new.1,
+  )
   | inr was ↦ (q, q.status, was.1, refl)
 ]
 
@@ -38,12 +44,14 @@ stacks_marked stacks name st x at_st other q at = elim (stack_put (with_status x
 abbrev pub CarriesAll : StateData → StateData → Type 0
 CarriesAll s t = (name : List ℕ) (st : Stack) → stack_at s.stacks name ≡ Some st → Carries s t st (graph_of s name)
 
-pub kept_by : (s t : StateData) → Standing s → SameStacks s.stacks t.stacks → t.graphs ≡ s.graphs → CarriesAll s t → GraphsFit t
+pub kept_by : (s t : StateData) → Standing s → SameStacks s.stacks t.stacks → t.graphs ≡ s.graphs → CarriesAll s t
+    → GraphsFit t
 kept_by s t h stacks graphs rows name st at =
     let (o, x, was, is) = stacks name st at in
     let carried : GraphFits t o (graph_of s name) =
     graph_carried s t o (graph_of s name) h.links.chained (rows name o was) (h.shape.graphs name o was) in
-    let here : GraphFits t o (graph_of t name) = subst (λ (gs : List Graph). GraphFits t o (graph_or name (graph_at gs name))) (sym graphs) carried in
+    let here : GraphFits t o (graph_of t name) =
+    subst (λ (gs : List Graph). GraphFits t o (graph_or name (graph_at gs name))) (sym graphs) carried in
     subst (λ (y : Stack). GraphFits t y (graph_of t name)) is (restated t o (graph_of t name) x here)
 
 -- the letters, and the next numbers, behind some letters

@@ -30,10 +30,12 @@ use Rattle.graph_laws.proofs.Lists.{once_of}
 use Rattle.graph_laws.proofs.Placed.{graph_is, its_aim, its_graph_fits}
 
 -- an input of a name comes from an update node of it
-input_place : (s : StateData) (st : Stack) (g : Graph) (x : Input) (name : List ℕ) → IsInput s st g x → x.name ≡ Some name
+input_place : (s : StateData) (st : Stack) (g : Graph) (x : Input) (name : List ℕ) → IsInput s st g x
+    → x.name ≡ Some name
     → (n : ℕ) × IsNode g x.from (U name n)
 input_place s st g x name (of_u word r aims called row facts) named =
-    let same : word ≡ name = inner (sym called ∙ named) in (aims.chosen, subst (λ (y : List ℕ). IsNode g x.from (U y aims.chosen)) same aims.node) where
+    let same : word ≡ name = inner (sym called ∙ named) in
+    (aims.chosen, subst (λ (y : List ℕ). IsNode g x.from (U y aims.chosen)) same aims.node) where
       inner : Some word ≡ Some name → word ≡ name
       inner e = cc
 input_place s st g x name (of_c n at called row facts) named = absurd (clash (sym called ∙ named)) where
@@ -43,15 +45,18 @@ input_place s st g x name (of_c n at called row facts) named = absurd (clash (sy
 abbrev known_of : List ℕ → Facts → KnownFacts
 known_of name facts = record { name = name; facts = facts }
 
-module _ (s : StateData) (st : Stack) (g : Graph) (fits : GraphFits s st g) (i : ℕ) (p : Point) (there : slice_get g.points i ≡ Some p) where
+module _ (s : StateData) (st : Stack) (g : Graph) (fits : GraphFits s st g) (i : ℕ) (p : Point)
+    (there : slice_get g.points i ≡ Some p) where
   -- of one name a node has one input
-  pub input_once : (name : List ℕ) (x y : Input) → Contains p.inputs x → Contains p.inputs y → x.name ≡ Some name → y.name ≡ Some name → x ≡ y
+  pub input_once : (name : List ℕ) (x y : Input) → Contains p.inputs x → Contains p.inputs y → x.name ≡ Some name
+      → y.name ≡ Some name → x ≡ y
   input_once name x y in_x in_y named_x named_y =
       let a : Stands s st g i x = fits.inputs.stand i p x there in_x in
       let b : Stands s st g i y = fits.inputs.stand i p y there in_y in
       let (n, at_x) = input_place s st g x name a.its named_x in
       let (m, at_y) = input_place s st g y name b.its named_y in
-      once_of (λ (z : Input). z.from) p.inputs (fits.inputs.once i p there) x y in_x in_y (fits.nodes.one_update x.from y.from n m name at_x at_y)
+      once_of (λ (z : Input). z.from) p.inputs (fits.inputs.once i p there) x y in_x in_y
+      (fits.nodes.one_update x.from y.from n m name at_x at_y)
 
   given_once : (name : List ℕ) (a b : KnownFacts) → IsGiven p.inputs name a → IsGiven p.inputs name b → a ≡ b
   given_once name a b u v =
@@ -65,7 +70,8 @@ module _ (s : StateData) (st : Stack) (g : Graph) (fits : GraphFits s st g) (i :
         made : (x y : List ℕ) (f f' : Facts) → x ≡ y → f ≡ f' → known_of x f ≡ known_of y f'
         made x y f f' e d = ap (λ (z : List ℕ). known_of z f) e ∙ ap (known_of y) d
 
-  pub known_once : (needs : List (List ℕ)) (a b : List KnownFacts) → AreKnown p.inputs needs a → AreKnown p.inputs needs b → a ≡ b
+  pub known_once : (needs : List (List ℕ)) (a b : List KnownFacts) → AreKnown p.inputs needs a
+      → AreKnown p.inputs needs b → a ≡ b
   known_once _ _ _ none none = refl
   known_once _ _ _ (given need needs x xs u us) (given _ _ y ys v vs) =
       let head = given_once need x y u v in let tail = known_once needs xs ys us vs in cc
@@ -87,12 +93,14 @@ module _ (s : StateData) (e : ℕ) (a b : Begins s e) where
 
   same_graph : a.graph ≡ b.graph
   same_graph = same_some a.graph b.graph
-      (subst (λ (j : Job). graph_at s.graphs j.letter.stack ≡ Some a.graph) same_job a.names.its_graph) b.names.its_graph
+      (subst (λ (j : Job). graph_at s.graphs j.letter.stack ≡ Some a.graph) same_job a.names.its_graph)
+      b.names.its_graph
 
   same_name : a.name ≡ b.name
   same_name = inner (same_some (U a.name a.chosen) (U b.name b.chosen)
       (subst (λ (x : Graph). slice_get x.graph.nodes b.job.letter.node ≡ Some (U a.name a.chosen)) same_graph
-      (subst (λ (j : Job). slice_get a.graph.graph.nodes j.letter.node ≡ Some (U a.name a.chosen)) same_job a.names.its_node)) b.names.its_node) where
+      (subst (λ (j : Job). slice_get a.graph.graph.nodes j.letter.node ≡ Some (U a.name a.chosen)) same_job
+      a.names.its_node)) b.names.its_node) where
         inner : U a.name a.chosen ≡ U b.name b.chosen → a.name ≡ b.name
         inner e = cc
 
@@ -120,33 +128,41 @@ pub tied_props : (judges : Judges) (s : StateData) (e : ℕ) (k : Begins s e) (p
     → IsTied judges s e (Prepared props effect) → ResolvesTo s e k (Props props)
 tied_props judges s e k props effect (prepared m _ _ result _) = resolves_here s e m k (Props props) result
 
-module _ (s : StateData) (h : Standing s) (e : ℕ) (k : Begins s e) (newest : k.row.trav ≡ k.stack.trav) (begun : k.row.act ≢ Init) where
+module _ (s : StateData) (h : Standing s) (e : ℕ) (k : Begins s e) (newest : k.row.trav ≡ k.stack.trav)
+    (begun : k.row.act ≢ Init) where
   is_begun : IsBegun k.stack (graph_of s k.job.letter.stack) k.job.letter.node k.name k.row
-  is_begun = (h.shape.rows k.job.letter.stack k.stack k.names.in_table).begun k.job.letter.node k.name k.row (its_aim s h e k) newest begun
+  is_begun = (h.shape.rows k.job.letter.stack k.stack k.names.in_table).begun k.job.letter.node k.name k.row
+      (its_aim s h e k) newest begun
 
   same_asked : is_begun.item ≡ k.item
   same_asked = same_some is_begun.item k.item is_begun.asked k.asked
 
   -- it has the properties and the kind that it was given
   module _ (props : Members) (given_props : ResolvesTo s e k (Props props)) where
-    resolved : Resolves k.stack (graph_of s k.job.letter.stack) k.job.letter.node k.name (Props (unwrap_or k.row.target k.row.props))
+    resolved : Resolves k.stack (graph_of s k.job.letter.stack) k.job.letter.node k.name
+        (Props (unwrap_or k.row.target k.row.props))
     resolved = is_begun.props
 
     its_point : slice_get (graph_of s k.job.letter.stack).points k.job.letter.node ≡ Some k.point
-    its_point = subst (λ (x : Graph). slice_get x.points k.job.letter.node ≡ Some k.point) (sym (graph_is s h e k)) k.its_point
+    its_point = subst (λ (x : Graph). slice_get x.points k.job.letter.node ≡ Some k.point)
+        (sym (graph_is s h e k)) k.its_point
 
     same_known : resolved.known ≡ given_props.known
-    same_known = known_once s k.stack (graph_of s k.job.letter.stack) (its_graph_fits s h e k) k.job.letter.node k.point its_point k.item.needs
+    same_known = known_once s k.stack (graph_of s k.job.letter.stack)
+        (its_graph_fits s h e k) k.job.letter.node k.point its_point k.item.needs
         resolved.known given_props.known
-        (subst (λ (x : Item). AreKnown k.point.inputs x.needs resolved.known) (same_some resolved.item k.item resolved.asked k.asked)
+        (subst (λ (x : Item). AreKnown k.point.inputs x.needs resolved.known)
+        (same_some resolved.item k.item resolved.asked k.asked)
         (subst (λ (x : Point). AreKnown x.inputs resolved.item.needs resolved.known)
         (same_some resolved.point k.point resolved.there its_point) resolved.known_are))
         given_props.known_are
 
     pub same_props : unwrap_or k.row.target k.row.props ≡ props
     same_props = inner (sym resolved.result_is
-        ∙ (ap (λ (x : Item). resolve (plan_of k.stack.plan) x resolved.known) (same_some resolved.item k.item resolved.asked k.asked)
-        ∙ (ap (λ (x : List KnownFacts). resolve (plan_of k.stack.plan) k.item x) same_known ∙ given_props.result_is))) where
+        ∙ (ap (λ (x : Item). resolve (plan_of k.stack.plan) x resolved.known)
+        (same_some resolved.item k.item resolved.asked k.asked)
+        ∙ (ap (λ (x : List KnownFacts). resolve (plan_of k.stack.plan) k.item x) same_known
+        ∙ given_props.result_is))) where
           inner : Props (unwrap_or k.row.target k.row.props) ≡ Props props → unwrap_or k.row.target k.row.props ≡ props
           inner e = cc
 
@@ -154,8 +170,10 @@ module _ (s : StateData) (h : Standing s) (e : ℕ) (k : Begins s e) (newest : k
     same_kind = is_begun.kind ∙ ap (λ (x : Item). x.kind.name) same_asked
 
 -- a row that this traversal began isn't replaced by it
-pub never_again : (judges : Judges) (s : StateData) → Standing s → (e : ℕ) (k : Begins s e) (props : Members) (effect : Effect)
-    → IsTied judges s e (Prepared props effect) → k.row.act ≢ Init → MustGo k.row k.item k.stack.trav props effect → k.row.trav ≢ k.stack.trav
+pub never_again : (judges : Judges) (s : StateData) → Standing s
+    → (e : ℕ) (k : Begins s e) (props : Members) (effect : Effect)
+    → IsTied judges s e (Prepared props effect) → k.row.act ≢ Init → MustGo k.row k.item k.stack.trav props effect
+    → k.row.trav ≢ k.stack.trav
 never_again judges s h e k props effect tied begun (overtaken _ ne) = ne
 never_again judges s h e k props effect tied begun (given_up _ ne) = ne
 never_again judges s h e k props effect tied begun (changed status other hard) = λ newest.
@@ -163,5 +181,6 @@ never_again judges s h e k props effect tied begun (changed status other hard) =
     let no_target : k.row.target ≡ None = (h.shape.each_row k.job.row k.row k.found).plain (inr (inr status)) in
     other (record {
       kind = same_kind s h e k newest begun props it;
-      props_are = ap (λ (x : Option Members). unwrap_or x k.row.props) (sym no_target) ∙ same_props s h e k newest begun props it;
+      props_are = ap (λ (x : Option Members). unwrap_or x k.row.props) (sym no_target)
+          ∙ same_props s h e k newest begun props it;
     })

@@ -22,12 +22,15 @@ module _ {X : Type 0} where
   contained xs x c = (c.0, slice_get-get_or xs c.0 x c.1 ∙ ap Some c.2)
 
   -- of members with pairwise different keys those of one key are one
-  pub once_of : {K : Type 0} (key : X → K) (xs : List X) → AllPairs (λ (x y : X). key x ≢ key y) xs → (x y : X) → Contains xs x → Contains xs y
+  pub once_of : {K : Type 0} (key : X → K) (xs : List X) → AllPairs (λ (x y : X). key x ≢ key y) xs → (x y : X)
+      → Contains xs x → Contains xs y
       → key x ≡ key y → x ≡ y
   once_of key xs apart x y c d same = elim (same_or_not c.0 d.0) [
     | inl is ↦ sym c.2 ∙ (ap (λ (n : ℕ). get_or xs n x) is ∙ (get_or_default xs d.0 x y d.1 ∙ d.2))
     | inr ne ↦ elim (below_or_above c.0 d.0 ne) [
-      | inl lt ↦ absurd (apart c.0 d.0 x lt d.1 (ap key c.2 ∙ (same ∙ ap key (sym (get_or_default xs d.0 x y d.1 ∙ d.2)))))
-      | inr gt ↦ absurd (apart d.0 c.0 x gt c.1 (ap key (get_or_default xs d.0 x y d.1 ∙ d.2) ∙ (sym same ∙ ap key (sym c.2))))
+      | inl lt ↦
+          absurd (apart c.0 d.0 x lt d.1 (ap key c.2 ∙ (same ∙ ap key (sym (get_or_default xs d.0 x y d.1 ∙ d.2)))))
+      | inr gt ↦
+          absurd (apart d.0 c.0 x gt c.1 (ap key (get_or_default xs d.0 x y d.1 ∙ d.2) ∙ (sym same ∙ ap key (sym c.2))))
     ]
   ]

@@ -43,7 +43,8 @@ no_plan : IsProper (plan_of None)
 no_plan = record { rising = no_names; acyclic = no_cycle }
 
 -- the plan that a rollback goes back to is a stack's plan, or one that its past has
-back_proper : (st : Stack) (past : Past) (status : Status) (act : Act) → IsProper (plan_of st.plan) → IsProper (plan_of past.back)
+back_proper : (st : Stack) (past : Past) (status : Status) (act : Act) → IsProper (plan_of st.plan)
+    → IsProper (plan_of past.back)
     → IsProper (plan_of (back_after (record st { status = status; act = act }) past))
 back_proper st past Complete Delete a b = b
 back_proper st past Complete Init a b = a
@@ -59,9 +60,12 @@ past_proper s h name = by (past_at s.pasts name) refl where
   by None at = no_plan
   by (Some p) at = let f = (h.pasts.each name p at).proper in record { rising = f.rising; acyclic = f.acyclic }
 
-pub asked_of : (s : StateData) → Standing s → (name : List ℕ) (items : List Item) (it : Sets) → IsOrdered s name items it → Asked items it
-asked_of s h _ _ _ (creates name plan rollback none proper) = record { its = refl; rising = proper.rising; acyclic = proper.acyclic }
-asked_of s h _ _ _ (updates st plan rollback at act proper) = record { its = refl; rising = proper.rising; acyclic = proper.acyclic }
+pub asked_of : (s : StateData) → Standing s → (name : List ℕ) (items : List Item) (it : Sets)
+    → IsOrdered s name items it → Asked items it
+asked_of s h _ _ _ (creates name plan rollback none proper) =
+    record { its = refl; rising = proper.rising; acyclic = proper.acyclic }
+asked_of s h _ _ _ (updates st plan rollback at act proper) =
+    record { its = refl; rising = proper.rising; acyclic = proper.acyclic }
 asked_of s h _ _ _ (deletes st at) = record { its = refl; rising = no_names; acyclic = no_cycle }
 asked_of s h _ _ _ (rolls_back st actor at forward _) =
     let own = (h.marks.each st.name st at).proper in

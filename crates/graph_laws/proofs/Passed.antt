@@ -1,5 +1,6 @@
--- The points of a graph after a node is done: each keeps what it had, and those behind it have its input: `after_found`, `after_is`.
-use Rattle.std.proofs.Common.{◌≡◌, ◌≢◌, ◌<◌, ◌⊎◌, inl, inr, ℕ, zero, suc, Bool, true, false, cond, List, [], ◌∷◌, map, Option, Some, refl, sym, ap, ◌∙◌, subst, arith}
+-- A graph's points after a node is done: each keeps what it had, those behind get its input: `after_found`, `after_is`.
+use Rattle.std.proofs.Common.{◌≡◌, ◌≢◌, ◌<◌, ◌⊎◌, inl, inr, ℕ, zero, suc, Bool, true, false, cond, List, [], ◌∷◌, map}
+use Rattle.std.proofs.Common.{Option, Some, refl, sym, ap, ◌∙◌, subst, arith}
 use Rattle.std.specs.List.{list_any}
 use Rattle.std.specs.Prelude.{Contains, get_or, length, slice_get, slice_set, unwrap_or, ◌==◌, ◌||◌}
 use Rattle.std.proofs.lemmas.Bool.Decides.{eqb_tells}
@@ -23,7 +24,10 @@ pub in_list : (ks : List ℕ) (k : ℕ) → Contains ks k ⊎ ¬ Contains ks k
 in_list [] k = inr (λ h. absurd (omega arith))
 in_list (n ∷ ks) k = elim (same_or_not n k) [
   | inl is ↦ inl (0, omega arith, is)
-  | inr ne ↦ elim (in_list ks k) [ inl h ↦ inl (suc h.0, omega arith, h.2) | inr out ↦ inr (λ h. by h.0 h.1 h.2 ne out) ]
+  | inr ne ↦ elim (in_list ks k) [
+    | inl h ↦ inl (suc h.0, omega arith, h.2)
+    | inr out ↦ inr (λ h. by h.0 h.1 h.2 ne out)
+  ]
 ] where
   by : (m : ℕ) → m < length (n ∷ ks) → get_or (n ∷ ks) m k ≡ k → n ≢ k → ¬ Contains ks k → ⊥
   by zero lt is ne out = ne is
@@ -47,16 +51,20 @@ with_points_is [] g = refl
 with_points_is (p ∷ ps) g = with_points_is ps (with_point p g)
 
 module _ (v : ℕ → Point) (place : (k : ℕ) → (v k).node ≡ k) where
-  points_else : (ks : List ℕ) (ps : List Point) (k : ℕ) → ¬ Contains ks k → slice_get (set_points (map v ks) ps) k ≡ slice_get ps k
+  points_else : (ks : List ℕ) (ps : List Point) (k : ℕ) → ¬ Contains ks k
+      → slice_get (set_points (map v ks) ps) k ≡ slice_get ps k
   points_else [] ps k out = refl
-  points_else (n ∷ ks) ps k out = points_else ks (slice_set ps (v n).node (v n)) k (λ h. out (suc h.0, omega arith, h.2))
+  points_else (n ∷ ks) ps k out = points_else ks (slice_set ps (v n).node (v n)) k
+      (λ h. out (suc h.0, omega arith, h.2))
       ∙ set_else ps (v n).node (v n) k (λ e. out (0, omega arith, sym (e ∙ place n)))
 
-  points_still : (ks : List ℕ) (ps : List Point) (k : ℕ) → slice_get ps k ≡ Some (v k) → slice_get (set_points (map v ks) ps) k ≡ Some (v k)
+  points_still : (ks : List ℕ) (ps : List Point) (k : ℕ) → slice_get ps k ≡ Some (v k)
+      → slice_get (set_points (map v ks) ps) k ≡ Some (v k)
   points_still [] ps k at = at
   points_still (n ∷ ks) ps k at = points_still ks (slice_set ps (v n).node (v n)) k (elim (same_or_not n k) [
     | inl is ↦ subst (λ (m : ℕ). slice_get (slice_set ps (v m).node (v m)) k ≡ Some (v k)) (sym is)
-        (subst (λ (m : ℕ). slice_get (slice_set ps m (v k)) k ≡ Some (v k)) (sym (place k)) (set_here ps k (v k) (v k) at))
+        (subst (λ (m : ℕ). slice_get (slice_set ps m (v k)) k ≡ Some (v k)) (sym (place k))
+        (set_here ps k (v k) (v k) at))
     | inr ne ↦ set_else ps (v n).node (v n) k (λ e. ne (sym (e ∙ place n))) ∙ at
   ])
 
@@ -94,7 +102,8 @@ among_is k ks h = let (n, c, test) = any_true (λ (m : ℕ). m == k) ks h in eli
 ]
 
 pub is_among_of : (k : ℕ) (ks : List ℕ) → Contains ks k → is_among k ks ≡ true
-is_among_of k ks c = any_at (λ (m : ℕ). m == k) ks k c (elim (eqb_tells k k) [ inl is ↦ is.0 | inr ne ↦ absurd (ne.1 refl) ])
+is_among_of k ks c = any_at (λ (m : ℕ). m == k) ks k c
+    (elim (eqb_tells k k) [ inl is ↦ is.0 | inr ne ↦ absurd (ne.1 refl) ])
 
 not_true : (b : Bool) → (b ≡ true → ⊥) → b ≡ false
 not_true true h = absurd (h refl)
@@ -131,7 +140,8 @@ module _ (g : Graph) (i : ℕ) (x : Input) (succs : List ℕ) where
       q,
       points_else v (λ n. refl) (i ∷ succs) g.points k out ∙ at,
       record {
-        inputs = sym (ap (λ (b : Bool). cond b (gathered x q.inputs) q.inputs) (not_true (is_among k succs) (λ e. off out (among_is k succs e))));
+        inputs = sym (ap (λ (b : Bool). cond b (gathered x q.inputs) q.inputs)
+            (not_true (is_among k succs) (λ e. off out (among_is k succs e))));
         done = elim (same_test k i) [
           | inl is ↦ absurd (out (0, omega arith, sym is.0))
           | inr ne ↦ sym (ap (λ (b : Bool). b || q.done) ne.1)

@@ -1,4 +1,4 @@
--- Where a job that isn't stale stands: at a ready node of its stack's graph that isn't done, whose target is the job's row.
+-- Where a job that isn't stale stands: at a ready node of its stack's graph, not done, whose target is the job's row.
 use Rattle.std.proofs.Common.{◌≡◌, ℕ, List, Some, sym, ap, ◌∙◌, subst}
 use Rattle.std.specs.Prelude.{slice_get}
 use Rattle.std.specs.Str.{bytes_eq}
@@ -27,7 +27,8 @@ pub item_named : (items : List Item) (name : List ℕ) (item : Item) → item_at
 item_named items name item at = at-key bytes_eq bytes_eq-Decides (λ (i : Item). i.name) items name item at
 
 -- a job of its stack's newest traversal
-module _ (s : StateData) (h : Standing s) (e : ℕ) (j : Job) (its : job_at s.jobs e ≡ Some j) (st : Stack) (gr : Graph) (node : Node)
+module _ (s : StateData) (h : Standing s) (e : ℕ) (j : Job) (its : job_at s.jobs e ≡ Some j) (st : Stack) (gr : Graph)
+    (node : Node)
     (names : Names s j.letter st gr node) where
   pub job_graph : graph_of s j.letter.stack ≡ gr
   job_graph = ap (graph_or j.letter.stack) names.its_graph
@@ -43,7 +44,8 @@ module _ (s : StateData) (h : Standing s) (e : ℕ) (j : Job) (its : job_at s.jo
 
   node_is : stands.node ≡ node
   node_is = same_some stands.node node
-      (subst (λ (x : Graph). slice_get x.graph.nodes j.letter.node ≡ Some stands.node) its_graph stands.names.its_node) job_node
+      (subst (λ (x : Graph). slice_get x.graph.nodes j.letter.node ≡ Some stands.node) its_graph stands.names.its_node)
+      job_node
 
   pub job_ready : IsReady (graph_of s j.letter.stack) j.letter.node
   job_ready = subst (λ (x : Graph). IsReady x j.letter.node) its_graph stands.fits.ready

@@ -1,5 +1,6 @@
 -- Graphs fit after a row that another traversal began was replaced: `graph_replaced`.
-use Rattle.std.proofs.Common.{◌≡◌, ◌≢◌, ◌<◌, ◌≤◌, ◌⊎◌, inl, inr, ℕ, [], List, None, Option, Some, refl, sym, ap, ◌∙◌, subst, arith}
+use Rattle.std.proofs.Common.{◌≡◌, ◌≢◌, ◌<◌, ◌≤◌, ◌⊎◌, inl, inr, ℕ, [], List, None, Option, Some, refl, sym, ap, ◌∙◌}
+use Rattle.std.proofs.Common.{subst, arith}
 use Rattle.std.specs.Prelude.{slice_get}
 use Rattle.heat_value.specs.Data.{Members}
 use Rattle.heat_plan.specs.declared.phase.Act.TheVariants.{Init}
@@ -17,7 +18,8 @@ use Rattle.core_state.specs.declared.stack.Stack.{Stack}
 use Rattle.step_relation.specs.Begins.{Begins, next_row, replaced_changes}
 use Rattle.step_relation.specs.Rows.{replaced}
 use Rattle.step_relation.specs.Targets.{IsCurrentOf}
-use Rattle.soundness.specs.GraphFits.{Aims, GraphFits, IsInput, IsNode, Stands, Sweeps, TargetFits, graph_of, graph_or, of_c, of_u}
+use Rattle.soundness.specs.GraphFits.{Aims, GraphFits, IsInput, IsNode, Stands, Sweeps, TargetFits, graph_of, graph_or}
+use Rattle.soundness.specs.GraphFits.{of_c, of_u}
 use Rattle.soundness.specs.Numbered.{row_of}
 use Rattle.soundness.specs.Sound.{Standing}
 use Rattle.table_laws.proofs.Rows.{row-key, row_else, row_here, row_put, row_self, same_some, stack-key, text_or_not}
@@ -29,7 +31,8 @@ use Rattle.graph_laws.proofs.Placed.{its_graph_fits, its_item, its_node, its_tar
 use Rattle.graph_laws.proofs.Shapes.{create_is_kept}
 
 -- a node of a graph names a number that was drawn
-pub node_below : (s : StateData) → Standing s → (name : List ℕ) (i : ℕ) (node : Node) → IsNode (graph_of s name) i node → row_of node < s.next.row
+pub node_below : (s : StateData) → Standing s → (name : List ℕ) (i : ℕ) (node : Node) → IsNode (graph_of s name) i node
+    → row_of node < s.next.row
 node_below s h name i node = by (graph_at s.graphs name) refl where
   by : (o : Option Graph) → graph_at s.graphs name ≡ o → IsNode (graph_or name o) i node → row_of node < s.next.row
   by None none at = absurd (empty at) where
@@ -40,7 +43,8 @@ node_below s h name i node = by (graph_at s.graphs name) refl where
 some_not_none : {o : Option ℕ} (n : ℕ) → o ≡ Some n → o ≡ None → ⊥
 some_not_none n a b = cc
 
-module _ (s : StateData) (h : Standing s) (e : ℕ) (k : Begins s e) (props : Members) (other : k.row.trav ≢ k.stack.trav) (begun : k.row.act ≢ Init) where
+module _ (s : StateData) (h : Standing s) (e : ℕ) (k : Begins s e) (props : Members) (other : k.row.trav ≢ k.stack.trav)
+    (begun : k.row.act ≢ Init) where
   abbrev r : Row
   r = k.row
 
@@ -87,7 +91,8 @@ module _ (s : StateData) (h : Standing s) (e : ℕ) (k : Begins s e) (props : Me
   at_else n x y = row_else old (put_row new s.rows) n x ∙ row_else new s.rows n y
 
   at_new : row_at t.rows s.next.row ≡ Some new
-  at_new = row_else old (put_row new s.rows) s.next.row (λ eq. let b = below r.no r stood in absurd (omega arith)) ∙ row_here new s.rows
+  at_new = row_else old (put_row new s.rows) s.next.row (λ eq. let b = below r.no r stood in absurd (omega arith))
+      ∙ row_here new s.rows
 
   at_was : (n : ℕ) (a : Row) → row_at s.rows n ≡ Some a → r.no ≢ n → row_at t.rows n ≡ Some a
   at_was n a at ne = at_else n ne (λ eq. let b = below n a at in absurd (omega arith)) ∙ at
@@ -108,7 +113,8 @@ module _ (s : StateData) (h : Standing s) (e : ℕ) (k : Begins s e) (props : Me
 
     before : TargetFits s st k.name n r
     before = let (q, f) = (its_graph_fits s h e k).targets.updates j n k.name at_j in
-        subst (λ (x : Row). TargetFits s st k.name n x) (same_current s.rows st.name k.name q r f.is (its_target s h e k).is) f
+        subst (λ (x : Row). TargetFits s st k.name n x)
+        (same_current s.rows st.name k.name q r f.is (its_target s h e k).is) f
 
     current_new : IsCurrentOf t.rows st.name k.name new
     current_new = record {
@@ -119,7 +125,8 @@ module _ (s : StateData) (h : Standing s) (e : ℕ) (k : Begins s e) (props : Me
       greatest = λ m q at of called current. by m q (found m q at) current;
     } where
       by : (m : ℕ) (q : Row) → Found m q → IsCurrent q → m ≤ s.next.row
-      by m q (is_old x eq) current = absurd (some_not_none s.next.row (ap (λ (y : Row). y.replaced_by) (sym eq)) current.last)
+      by m q (is_old x eq) current =
+          absurd (some_not_none s.next.row (ap (λ (y : Row). y.replaced_by) (sym eq)) current.last)
       by m q (is_new x eq) current = omega arith
       by m q (was x y at) current = let b = below m q at in omega arith
 
@@ -142,7 +149,8 @@ module _ (s : StateData) (h : Standing s) (e : ℕ) (k : Begins s e) (props : Me
     }
 
   -- another node's target stays
-  module _ (j n : ℕ) (word : List ℕ) (at_j : IsNode g j (U word n)) (apart : word ≢ k.name) (o : Row) (f : TargetFits s st word n o) where
+  module _ (j n : ℕ) (word : List ℕ) (at_j : IsNode g j (U word n)) (apart : word ≢ k.name) (o : Row)
+      (f : TargetFits s st word n o) where
     not_r : r.no ≢ o.no
     not_r eq =
         let same : o ≡ r = is_r o f.is.found eq in
@@ -157,7 +165,8 @@ module _ (s : StateData) (h : Standing s) (e : ℕ) (k : Begins s e) (props : Me
       greatest = λ m q at of called current. by m q (found m q at) of called current;
     } where
       by : (m : ℕ) (q : Row) → Found m q → q.stack ≡ st.name → q.name ≡ word → IsCurrent q → m ≤ o.no
-      by m q (is_old x eq) of called current = absurd (some_not_none s.next.row (ap (λ (y : Row). y.replaced_by) (sym eq)) current.last)
+      by m q (is_old x eq) of called current =
+          absurd (some_not_none s.next.row (ap (λ (y : Row). y.replaced_by) (sym eq)) current.last)
       by m q (is_new x eq) of called current =
           absurd (apart (sym called ∙ (ap (λ (y : Row). y.name) (sym eq) ∙ its_item s h e k)))
       by m q (was x y at) of called current = f.is.greatest m q at of called current
@@ -204,7 +213,8 @@ module _ (s : StateData) (h : Standing s) (e : ℕ) (k : Begins s e) (props : Me
   aim_still j word o apart a = aims_of t st g j a.chosen word o a.node
       (target_still j a.chosen word a.node apart o (aims_fits s st g (its_graph_fits s h e k).targets j word o a))
 
-  rows_then : (n : ℕ) (a : Row) → Found n a → a.stack ≡ st.name → ((j : ℕ) × Aims t st g j a.name a) ⊎ ((j : ℕ) × IsNode g j (C n))
+  rows_then : (n : ℕ) (a : Row) → Found n a → a.stack ≡ st.name
+      → ((j : ℕ) × Aims t st g j a.name a) ⊎ ((j : ℕ) × IsNode g j (C n))
   rows_then n a (is_old x eq) is = inr (subst (λ (y : ℕ). (j : ℕ) × IsNode g j (C y)) x
       ((its_graph_fits s h e k).targets.old r.no r stood (its_target s h e k).is.stack_is other begun))
   rows_then n a (is_new x eq) is = inl (
@@ -220,9 +230,11 @@ module _ (s : StateData) (h : Standing s) (e : ℕ) (k : Begins s e) (props : Me
     is_target : (j : ℕ) → Aims s st g j a.name a → a.name ≡ k.name → r.no ≡ a.no
     is_target j aims called =
         let f = aims_fits s st g (its_graph_fits s h e k).targets j a.name a aims in
-        current_once s.rows st.name k.name r a (its_target s h e k).is (subst (λ (y : List ℕ). IsCurrentOf s.rows st.name y a) called f.is)
+        current_once s.rows st.name k.name r a (its_target s h e k).is
+        (subst (λ (y : List ℕ). IsCurrentOf s.rows st.name y a) called f.is)
 
-  old_then : (n : ℕ) (a : Row) → Found n a → a.stack ≡ st.name → a.trav ≢ st.trav → a.act ≢ Init → (j : ℕ) × IsNode g j (C n)
+  old_then : (n : ℕ) (a : Row) → Found n a → a.stack ≡ st.name → a.trav ≢ st.trav → a.act ≢ Init
+      → (j : ℕ) × IsNode g j (C n)
   old_then n a (is_old x eq) is past act = subst (λ (y : ℕ). (j : ℕ) × IsNode g j (C y)) x
       ((its_graph_fits s h e k).targets.old r.no r stood (its_target s h e k).is.stack_is other begun)
   old_then n a (is_new x eq) is past act = absurd (past (ap (λ (y : Row). y.trav) (sym eq)))
@@ -242,11 +254,13 @@ module _ (s : StateData) (h : Standing s) (e : ℕ) (k : Begins s e) (props : Me
     by (was x y at) = (a, record { node = c.node; found = at }, refl, refl)
 
   input_then : (x : Input) → IsDone g x.from → IsInput s st g x → IsInput t st g x
-  input_then x done (of_u word o aims called row facts) = of_u word o (aim_still x.from word o apart aims) called row facts where
-    apart : word ≢ k.name
-    apart eq =
-        let place : i ≡ x.from = same_place x.from aims.chosen (subst (λ (y : List ℕ). IsNode g x.from (U y aims.chosen)) eq aims.node) in
-        undone s h e k (subst (IsDone g) (sym place) done)
+  input_then x done (of_u word o aims called row facts) =
+      of_u word o (aim_still x.from word o apart aims) called row facts where
+        apart : word ≢ k.name
+        apart eq =
+            let place : i ≡ x.from = same_place x.from aims.chosen
+            (subst (λ (y : List ℕ). IsNode g x.from (U y aims.chosen)) eq aims.node) in
+            undone s h e k (subst (IsDone g) (sym place) done)
   input_then x done (of_c n at called row facts) = of_c n at called row facts
 
   own_then : GraphFits t st g
@@ -284,7 +298,8 @@ module _ (s : StateData) (h : Standing s) (e : ℕ) (k : Begins s e) (props : Me
     were n a (is_new x eq) is = absurd (far ((its_target s h e k).is.stack_is ∙ (ap (λ (y : Row). y.stack) eq ∙ is)))
     were n a (was x y at) is = at
 
-    named : (j : ℕ) (node : Node) (a : Row) → IsNode (graph_of s name) j node → Found (row_of node) a → a.stack ≡ st'.name
+    named : (j : ℕ) (node : Node) (a : Row) → IsNode (graph_of s name) j node → Found (row_of node) a
+        → a.stack ≡ st'.name
     named j node a at (is_old x eq) = ap (λ (y : Row). y.stack) (sym eq)
         ∙ theirs s h name st' at_st j node r at (subst (λ (y : ℕ). row_at s.rows y ≡ Some r) x stood)
     named j node a at (is_new x eq) = let b = node_below s h name j node at in absurd (omega arith)
@@ -296,7 +311,8 @@ module _ (s : StateData) (h : Standing s) (e : ℕ) (k : Begins s e) (props : Me
       theirs = λ j node a at at_a. named j node a at (found (row_of node) a at_a);
       targets = λ j n word o at f. record {
         row = o;
-        found = at_was o.no o f.is.found (λ eq. far (ap (λ (y : Row). y.stack) (sym (is_r o f.is.found eq)) ∙ f.is.stack_is));
+        found = at_was o.no o f.is.found
+            (λ eq. far (ap (λ (y : Row). y.stack) (sym (is_r o f.is.found eq)) ∙ f.is.stack_is));
         onward = Onward-same st'.trav o;
         kept = f.kept;
         facts = λ done. refl;
@@ -306,9 +322,12 @@ module _ (s : StateData) (h : Standing s) (e : ℕ) (k : Begins s e) (props : Me
   pub graph_replaced : GraphsFit t
   graph_replaced name st' at = elim (text_or_not name own) [
     | inl is ↦ mine is
-    | inr ne ↦ graph_carried s t st' (graph_of s name) h.links.chained (elsewhere name st' at ne) (h.shape.graphs name st' at)
+    | inr ne ↦ graph_carried s t st' (graph_of s name) h.links.chained (elsewhere name st' at ne)
+        (h.shape.graphs name st' at)
   ] where
     mine : name ≡ own → GraphFits t st' (graph_of t name)
     mine is =
-        let same : st ≡ st' = same_some st st' k.names.in_table (subst (λ (x : List ℕ). stack_at s.stacks x ≡ Some st') is at) in
-        subst (λ (x : List ℕ). GraphFits t st' (graph_of t x)) (sym is) (subst (λ (x : Stack). GraphFits t x g) same own_then)
+        let same : st ≡ st' = same_some st st' k.names.in_table
+        (subst (λ (x : List ℕ). stack_at s.stacks x ≡ Some st') is at) in
+        subst (λ (x : List ℕ). GraphFits t st' (graph_of t x)) (sym is)
+        (subst (λ (x : Stack). GraphFits t x g) same own_then)

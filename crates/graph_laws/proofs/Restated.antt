@@ -7,7 +7,8 @@ use Rattle.core_state.specs.State.{StateData}
 use Rattle.core_state.specs.declared.graph.Graph.{Graph}
 use Rattle.core_state.specs.declared.stack.Stack.{Stack}
 use Rattle.traversal_graph.specs.declared.shape.Node.TheVariants.{C}
-use Rattle.soundness.specs.GraphFits.{Aims, EdgesFit, GraphFits, HasPoint, InputsFit, IsInput, IsNode, Needs, NodesFit, Stands, TargetFits, TargetsFit, of_c, of_u}
+use Rattle.soundness.specs.GraphFits.{Aims, EdgesFit, GraphFits, HasPoint, InputsFit, IsInput, IsNode, Needs, NodesFit}
+use Rattle.soundness.specs.GraphFits.{Stands, TargetFits, TargetsFit, of_c, of_u}
 
 -- the stack with another status
 abbrev pub with_status : Status → Stack → Stack
@@ -38,7 +39,8 @@ module _ (s : StateData) (st : Stack) (g : Graph) (x : Status) where
   edges : EdgesFit s st g → EdgesFit s (with_status x st) g
   edges f = record {
     needed = λ i k n m name need at_k at_i of. f.needed i k n m name need at_k at_i (needed name need of);
-    needs = λ i k n name at edge. let (need, m, at_i, of) = f.needs i k n name at edge in (need, m, at_i, needs name need of);
+    needs = λ i k n name at edge. let (need, m, at_i, of) = f.needs i k n name at edge in
+        (need, m, at_i, needs name need of);
     behind = f.behind;
   }
 
@@ -67,10 +69,16 @@ module _ (s : StateData) (st : Stack) (g : Graph) (x : Status) where
   inputs : InputsFit s st g → InputsFit s (with_status x st) g
   inputs f = record {
     ready = f.ready;
-    stand = λ i p y at has. let k : Stands s st g i y = f.stand i p y at has in record { edge = k.edge; done = k.done; its = input y k.its };
+    stand = λ i p y at has. let k : Stands s st g i y = f.stand i p y at has in
+        record { edge = k.edge; done = k.done; its = input y k.its };
     given = f.given;
     once = f.once;
   }
 
   pub restated : GraphFits s st g → GraphFits s (with_status x st) g
-  restated f = record { nodes = nodes f.nodes; edges = edges f.edges; targets = targets f.targets; inputs = inputs f.inputs }
+  restated f = record {
+    nodes = nodes f.nodes;
+    edges = edges f.edges;
+    targets = targets f.targets;
+    inputs = inputs f.inputs;
+  }

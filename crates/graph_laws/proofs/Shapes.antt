@@ -66,11 +66,13 @@ onward_up trav r q k = record {
 module _ (s t : StateData) (h : Standing s) where
   -- a row is written with the same shape, and facts where its node isn't done
   pub carries_shape : (n : ℕ) (r q : Row) → row_at s.rows n ≡ Some r → t.rows ≡ put_row q s.rows → SameShape r q
-      → ((name : List ℕ) (st : Stack) (i m : ℕ) (word : List ℕ) → stack_at s.stacks name ≡ Some st → IsNode (graph_of s name) i (U word m)
+      → ((name : List ℕ) (st : Stack) (i m : ℕ) (word : List ℕ) → stack_at s.stacks name ≡ Some st
+      → IsNode (graph_of s name) i (U word m)
       → TargetFits s st word m r → IsDone (graph_of s name) i → q.facts ≡ r.facts)
       → CarriesAll s t
   carries_shape n r q at same k facts name st at_st =
-      carries_put s t h name st at_st r q (subst (λ (x : ℕ). row_at s.rows x ≡ Some r) (sym k.no_) (row_self s.rows n r at)) same k.stack
+      carries_put s t h name st at_st r q
+      (subst (λ (x : ℕ). row_at s.rows x ≡ Some r) (sym k.no_) (row_self s.rows n r at)) same k.stack
       (λ is. onward_shape st.trav r q k)
       (λ i m word node f. (λ e. f.kept (sym k.act ∙ e), facts name st i m word at_st node f))
 
@@ -79,21 +81,28 @@ module _ (s t : StateData) (h : Standing s) where
     pub job_stack : r.stack ≡ j.letter.stack
     job_stack = h.links.owned.one j.row r.stack j.letter.stack (by_row r at refl) (by_job e j its refl refl)
 
-    pub its_name : (name : List ℕ) (st : Stack) → stack_at s.stacks name ≡ Some st → r.stack ≡ st.name → name ≡ j.letter.stack
+    pub its_name : (name : List ℕ) (st : Stack) → stack_at s.stacks name ≡ Some st → r.stack ≡ st.name
+        → name ≡ j.letter.stack
     its_name name st at_st is = sym (stack-key s.stacks name st at_st) ∙ (sym is ∙ job_stack)
 
-    pub same_stack : (own : Stack) → stack_at s.stacks j.letter.stack ≡ Some own → (name : List ℕ) (st : Stack) → stack_at s.stacks name ≡ Some st
+    pub same_stack : (own : Stack) → stack_at s.stacks j.letter.stack ≡ Some own → (name : List ℕ) (st : Stack)
+        → stack_at s.stacks name ≡ Some st
         → r.stack ≡ st.name → own ≡ st
     same_stack own at_own name st at_st is =
-        same_some own st at_own (subst (λ (x : List ℕ). stack_at s.stacks x ≡ Some st) (its_name name st at_st is) at_st)
+        same_some own st at_own (subst (λ (x : List ℕ). stack_at s.stacks x ≡ Some st)
+        (its_name name st at_st is) at_st)
 
     -- it is taken up by its stack's traversal
-    pub carries_up : (own : Stack) → stack_at s.stacks j.letter.stack ≡ Some own → (q : Row) → t.rows ≡ put_row q s.rows → TakesUp own.trav r q
+    pub carries_up : (own : Stack) → stack_at s.stacks j.letter.stack ≡ Some own → (q : Row) → t.rows ≡ put_row q s.rows
+        → TakesUp own.trav r q
         → q.facts ≡ r.facts
-        → ((name : List ℕ) (st : Stack) (i m : ℕ) (word : List ℕ) → stack_at s.stacks name ≡ Some st → IsNode (graph_of s name) i (U word m)
+        → ((name : List ℕ) (st : Stack) (i m : ℕ) (word : List ℕ) → stack_at s.stacks name ≡ Some st
+        → IsNode (graph_of s name) i (U word m)
         → TargetFits s st word m r → q.act ≢ Delete)
         → CarriesAll s t
     carries_up own at_own q same k facts kept name st at_st =
-        carries_put s t h name st at_st r q (subst (λ (x : ℕ). row_at s.rows x ≡ Some r) (sym k.no_) (row_self s.rows j.row r at)) same k.stack
-        (λ is. onward_up st.trav r q (subst (λ (x : Stack). TakesUp x.trav r q) (same_stack own at_own name st at_st is) k))
+        carries_put s t h name st at_st r q
+        (subst (λ (x : ℕ). row_at s.rows x ≡ Some r) (sym k.no_) (row_self s.rows j.row r at)) same k.stack
+        (λ is. onward_up st.trav r q
+        (subst (λ (x : Stack). TakesUp x.trav r q) (same_stack own at_own name st at_st is) k))
         (λ i m word node f. (kept name st i m word at_st node f, λ done. facts))

@@ -22,7 +22,8 @@ module _ {A B : Type 0} (f : A → B) where
   map_at (y ∷ xs) zero x at = let is : y ≡ x = cc in ap (λ (z : A). Some (f z)) is
   map_at (y ∷ xs) (suc i) x at = map_at xs i x at
 
-  map_was : (xs : List A) (i : ℕ) (y : B) → slice_get (map f xs) i ≡ Some y → (x : A) × (slice_get xs i ≡ Some x) × (y ≡ f x)
+  map_was : (xs : List A) (i : ℕ) (y : B) → slice_get (map f xs) i ≡ Some y
+      → (x : A) × (slice_get xs i ≡ Some x) × (y ≡ f x)
   map_was [] i y at = cc
   map_was (x ∷ xs) zero y at = (x, refl, (let is : f x ≡ y = cc in sym is))
   map_was (x ∷ xs) (suc i) y at = map_was xs i y at
@@ -31,17 +32,20 @@ module _ {A B : Type 0} (f : A → B) where
   contains_map xs x c = let (i, at) = contained xs x c in contains_at (map f xs) i (f x) (map_at xs i x at)
 
   contains_was : (xs : List A) (y : B) → Contains (map f xs) y → (x : A) × Contains xs x × (y ≡ f x)
-  contains_was xs y c = let (i, at) = contained (map f xs) y c in let (x, at_x, is) = map_was xs i y at in (x, contains_at xs i x at_x, is)
+  contains_was xs y c = let (i, at) = contained (map f xs) y c in let (x, at_x, is) = map_was xs i y at in
+      (x, contains_at xs i x at_x, is)
 
 -- rising numbers are pairwise different
 numbers_same : (standing : List Row) → numbers_of (map brief_of standing) ≡ map row_key standing
 numbers_same [] = refl
 numbers_same (r ∷ standing) = ap (λ (l : List ℕ). r.no ∷ l) (numbers_same standing)
 
-module _ (rows : List Row) (stack : List ℕ) (standing : List Row) (are : AreRowsOf rows stack standing) (sorted : List RowBrief)
+module _ (rows : List Row) (stack : List ℕ) (standing : List Row) (are : AreRowsOf rows stack standing)
+    (sorted : List RowBrief)
     (copy : IsSortedCopy (map brief_of standing) sorted) where
   distinct : IsDistinct nat_eq (numbers_of (map brief_of standing))
-  distinct = subst (IsDistinct nat_eq) (sym (numbers_same standing)) (IsDistinct-from_AllPairs Decides-eqb (map row_key standing)
+  distinct = subst (IsDistinct nat_eq) (sym (numbers_same standing))
+      (IsDistinct-from_AllPairs Decides-eqb (map row_key standing)
       (λ i j d lt within same. let less = are.rising i j d lt within in absurd (omega (arith, less, same))))
 
   rising : IsStrictlyIncreasing (numbers_of sorted)
@@ -57,13 +61,15 @@ module _ (rows : List Row) (stack : List ℕ) (standing : List Row) (are : AreRo
       let (found, of) = are.only q in_q in (q, is, found, of)
 
   -- and each of the stack is in it
-  pub row_sorted : (n : ℕ) (q : Row) → row_at rows n ≡ Some q → q.stack ≡ stack → (r : ℕ) × (slice_get sorted r ≡ Some (brief_of q))
+  pub row_sorted : (n : ℕ) (q : Row) → row_at rows n ≡ Some q → q.stack ≡ stack
+      → (r : ℕ) × (slice_get sorted r ≡ Some (brief_of q))
   row_sorted n q at of =
       contained sorted (brief_of q) (Contains-permutation (map brief_of standing) sorted (brief_of q) copy.same
       (contains_map brief_of standing q (are.each n q at of)))
 
   -- at one place
-  pub sorted_once : (r k : ℕ) (a b : RowBrief) → slice_get sorted r ≡ Some a → slice_get sorted k ≡ Some b → a.no ≡ b.no → r ≡ k
+  pub sorted_once : (r k : ℕ) (a b : RowBrief) → slice_get sorted r ≡ Some a → slice_get sorted k ≡ Some b
+      → a.no ≡ b.no → r ≡ k
   sorted_once r k a b at_r at_k same = elim (same_or_not r k) [
     | inl is ↦ is
     | inr ne ↦ elim (below_or_above r k ne) [
@@ -74,8 +80,10 @@ module _ (rows : List Row) (stack : List ℕ) (standing : List Row) (are : AreRo
     number : (i : ℕ) (x : RowBrief) → slice_get sorted i ≡ Some x → get_or (numbers_of sorted) i 0 ≡ x.no
     number i x at = get_or_from_slice_get (numbers_of sorted) i x.no 0 (map_at (λ (y : RowBrief). y.no) sorted i x at)
 
-    apart : (i j : ℕ) (x y : RowBrief) → slice_get sorted i ≡ Some x → slice_get sorted j ≡ Some y → i < j → x.no ≡ y.no → ⊥
+    apart : (i j : ℕ) (x y : RowBrief) → slice_get sorted i ≡ Some x → slice_get sorted j ≡ Some y → i < j
+        → x.no ≡ y.no → ⊥
     apart i j x y at_i at_j lt eq =
-        let within : j < length (numbers_of sorted) = slice_get_within (numbers_of sorted) j y.no (map_at (λ (z : RowBrief). z.no) sorted j y at_j) in
+        let within : j < length (numbers_of sorted) = slice_get_within (numbers_of sorted) j y.no
+        (map_at (λ (z : RowBrief). z.no) sorted j y at_j) in
         let less = AllPairs-from_increasing (numbers_of sorted) rising i j 0 lt within in
         let n = number i x at_i in let m = number j y at_j in omega (arith, less, n, m, eq)

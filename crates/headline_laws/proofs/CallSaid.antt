@@ -1,6 +1,7 @@
 -- What a call says: nobody is called for a complete stack, and only what may be asked is asked; and what it causes.
 use Rattle.std.proofs.Common.{List, ap, inl, inr, refl, subst, sym, ◌∙◌}
-use Rattle.std.specs.Prelude.{Contains, IsSome, List, None, Option, Some, [], option_map, unwrap_or, ℕ, ◌++◌, ◌∷◌, ◌≡◌, ◌≢◌}
+use Rattle.std.specs.Prelude.{Contains, IsSome, List, None, Option, Some, [], option_map, unwrap_or, ℕ, ◌++◌, ◌∷◌, ◌≡◌}
+use Rattle.std.specs.Prelude.{◌≢◌}
 use Rattle.step_relation.specs.Asks as refusal
 use Rattle.history.specs.Caused as blame
 use Rattle.heat_plan.specs.declared.calls.Answered.{Answered}

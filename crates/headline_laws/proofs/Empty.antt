@@ -1,6 +1,9 @@
 -- An empty history is sound where nothing stands and nothing is alive.
 use Rattle.std.proofs.Common.{Bool, List, ap, arith, inl, inr, refl, subst, suc, sym, zero}
-use Rattle.std.specs.Prelude.{Contains, List, None, Option, Some, [], bytes_eq, nat_eq, option_map, ℕ, ◌++◌, ◌+◌, ◌<◌, ◌∷◌, ◌≡◌}
+use Rattle.std.specs.Prelude.{Contains, List, None, Option, Some, [], bytes_eq, nat_eq, option_map, slice_index_or, ℕ}
+use Rattle.std.specs.Prelude.{◌++◌, ◌+◌, ◌<◌, ◌∷◌, ◌≡◌, ◌≢◌, ◌≤◌}
+use Rattle.std.proofs.lemmas.List.Kept.{AllPairs-cons}
+use Rattle.std.proofs.lemmas.Option.{get_or_from_slice_get, slice_get-get_or}
 use Rattle.heat_plan.specs.Tables.{at}
 use Rattle.heat_plan.specs.declared.token.Token.{Token}
 use Rattle.provider.specs.Table.{Living}
@@ -24,7 +27,7 @@ use Rattle.history.specs.Opening.{Opening, empty_opening}
 use Rattle.soundness.specs.Agrees.{Agrees}
 use Rattle.soundness.specs.Laws.{EmptyIsSound}
 use Rattle.soundness.specs.Linked.{IsOf, Links, by_job, by_node, by_row}
-use Rattle.soundness.specs.Numbered.{Numbered}
+use Rattle.soundness.specs.Numbered.{EachOnce, Numbered}
 use Rattle.soundness.specs.Sound.{Sound, Standing}
 use Rattle.soundness.specs.Tells.{ReleasedFits, Tells, never}
 use Rattle.agree_laws.proofs.Called.{none_in, only}
@@ -64,6 +67,23 @@ engines_below (suc count) first e c = elim (cases e first (engines_from (first +
   | inr rest ↦ let lt = engines_below count (first + 1) e rest in omega (arith, lt)
 ]
 
+engines_above : (count first e : ℕ) → Contains (engines_from first count) e → first ≤ e
+engines_above zero first e c = absurd (none_in e c)
+engines_above (suc count) first e c = elim (cases e first (engines_from (first + 1) count) c) [
+  | inl is ↦ omega (arith, is)
+  | inr rest ↦ let lt = engines_above count (first + 1) e rest in omega (arith, lt)
+]
+
+engines_once : (count first : ℕ) → EachOnce (engines_from first count)
+engines_once zero first = λ i j d lt below. omega arith
+engines_once (suc count) first = behind (engines_from (first + 1) count) (engines_above count (first + 1))
+    (engines_once count (first + 1)) where
+      behind : (more : List ℕ) → ((e : ℕ) → Contains more e → first + 1 ≤ e) → EachOnce more → EachOnce (first ∷ more)
+      behind more above once = AllPairs-cons (λ (a b : ℕ). a ≢ b) first more
+          (λ i d lt is. let x = slice_index_or more i d in
+          let le = above x (i, lt, get_or_from_slice_get more i x x (slice_get-get_or more i d lt)) in
+          omega (arith, is, le)) once
+
 module _ (engines : ℕ) (leaving : Token → Bool) where
   abbrev o : Opening
   o = empty_opening engines leaving
@@ -77,6 +97,7 @@ module _ (engines : ℕ) (leaving : Token → Bool) where
     letters = λ n l at_n. absurd (no_letter n l at_n);
     jobs = λ n j at_n. absurd (no_job n j at_n);
     live = λ e c. engines_below engines 1 e c;
+    once = engines_once engines 1;
   }
 
   no_owner : (n : ℕ) (a : List ℕ) → IsOf [] [] [] n a → ⊥

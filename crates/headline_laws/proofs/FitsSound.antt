@@ -1,7 +1,8 @@
 -- Where a stack is Complete, or gone, what is alive of it is what its plan asks for.
 use Rattle.std.proofs.Common.{List, ap, arith, inl, inr, refl, subst, sym, ◌∙◌}
 use Rattle.std.specs.List.{AllZip}
-use Rattle.std.specs.Prelude.{Contains, IsSome, List, None, Option, Some, [], option_map, unwrap_or, ℕ, ◌∷◌, ◌≡◌, ◌≢◌, ◌≤◌}
+use Rattle.std.specs.Prelude.{Contains, IsSome, List, None, Option, Some, [], option_map, unwrap_or, ℕ, ◌∷◌, ◌≡◌, ◌≢◌}
+use Rattle.std.specs.Prelude.{◌≤◌}
 use Rattle.heat_value.specs.Data.{Members}
 use Rattle.heat_plan.specs.Plans.{PlanData, names_of}
 use Rattle.heat_plan.specs.declared.facts.KnownFacts.{KnownFacts}
@@ -37,7 +38,8 @@ use Rattle.soundness.specs.Tells.{IsGone, deleted, never, status_by}
 use Rattle.table_laws.proofs.Rows.{row-key, row_self, same_some, stack-key}
 use Rattle.table_laws.proofs.Targets.{current_once}
 use Rattle.headline_laws.proofs.Items.{All-among, among_at, named_item}
-use Rattle.headline_laws.proofs.Made.{GivesFacts, IsMadeRow, aims_current, aims_of, fits, living_as, made_alone, made_facts, made_row, needs_given, not_given, proper, rows_fit, token_is}
+use Rattle.headline_laws.proofs.Made.{GivesFacts, IsMadeRow, aims_current, aims_of, fits, living_as, made_alone}
+use Rattle.headline_laws.proofs.Made.{made_facts, made_row, needs_given, not_given, proper, rows_fit, token_is}
 use Rattle.headline_laws.proofs.Once.{alone, lives_or_not, onced}
 use Rattle.provider.proofs.Lists.{here}
 

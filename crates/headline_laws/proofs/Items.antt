@@ -1,5 +1,6 @@
 -- A plan has one item of each name.
-use Rattle.std.proofs.Common.{Equal, Greater, Less, List, Ordering, ap, arith, inl, inr, refl, subst, suc, sym, zero, ◌∙◌}
+use Rattle.std.proofs.Common.{Equal, Greater, Less, List, Ordering, ap, arith, inl, inr, refl, subst, suc, sym, zero}
+use Rattle.std.proofs.Common.{◌∙◌}
 use Rattle.std.proofs.lemmas.Cmp.{nat_list_cmp_total}
 use Rattle.std.proofs.lemmas.Option.{get_or_from_slice_get, slice_get_within}
 use Rattle.std.proofs.lemmas.Slice.Eq.{bytes_eq-Decides}

@@ -37,7 +37,8 @@ use Rattle.soundness.specs.Sound.{Sound}
 use Rattle.table_laws.proofs.Rows.{text_or_not}
 use Rattle.tell_laws.proofs.Appends.{marked-append, newest-append, released-append, stored-append}
 use Rattle.tell_laws.proofs.Beside.{beside_command}
-use Rattle.tell_laws.proofs.Silence.{AreUnmarking, could-silent, marked_on-silent, newest_on-silent, unmarking-both, unmarking_mail, unmarking_rows}
+use Rattle.tell_laws.proofs.Silence.{AreUnmarking, could-silent, marked_on-silent, newest_on-silent, unmarking-both}
+use Rattle.tell_laws.proofs.Silence.{unmarking_mail, unmarking_rows}
 use Rattle.agree_laws.proofs.LaidTold.{forward_keeps}
 use Rattle.headline_laws.proofs.MarkSaid.{completing_fits}
 use Rattle.headline_laws.proofs.Parts.{at_mark, said_mark, said_written}

@@ -7,7 +7,8 @@ use Rattle.heat_plan.specs.declared.phase.Act.TheVariants.{Create}
 use Rattle.core_state.specs.declared.entry.Entry.{Entry}
 use Rattle.core_state.specs.declared.stack.Stack.{Stack}
 use Rattle.step_relation.specs.Freshness.{plan_of}
-use Rattle.history.specs.Last.{HasCreate, IsCommandOf, IsLast, IsNeverReached, IsReached, created, kept, opened, reached}
+use Rattle.history.specs.Last.{HasCreate, IsCommandOf, IsLast, IsNeverReached, IsReached, created, kept, opened}
+use Rattle.history.specs.Last.{reached}
 use Rattle.history.specs.Newest.{Latest}
 use Rattle.history.specs.Opening.{Opening}
 use Rattle.table_laws.proofs.Rows.{same_some}

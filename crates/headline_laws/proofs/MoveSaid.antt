@@ -26,11 +26,18 @@ use Rattle.step_relation.specs.Asks.{Falls, Refuses, cause_at, failed_entries, f
 use Rattle.step_relation.specs.Begins.{Begins, left_entries, moved_job, next_row}
 use Rattle.step_relation.specs.Finishes.{ready_letters}
 use Rattle.step_relation.specs.Given.{Answer, Faulted, Given}
-use Rattle.step_relation.specs.Moves.{Move, ask_begun, ask_failed, begin_failed, begin_faulted, begin_in_place, begin_init, begin_overrun, begin_replaced, begin_resumed, begin_same, clean_deleted, clean_gone, clean_init, clean_kept, clean_retained, clean_stuck, finish, finish_last, finish_overrun, poll_failed, poll_gone, poll_ready, poll_waits, take_dropped, take_free, take_stolen, takeover_fresh, takeover_overrun}
-use Rattle.step_relation.specs.Rows.{created_row, deleted_row, failed_row, ready_row, replaced, same_row, unlocked, updated_row}
+use Rattle.step_relation.specs.Moves.{Move, ask_begun, ask_failed, begin_failed, begin_faulted, begin_in_place}
+use Rattle.step_relation.specs.Moves.{begin_init, begin_overrun, begin_replaced, begin_resumed, begin_same}
+use Rattle.step_relation.specs.Moves.{clean_deleted, clean_gone, clean_init, clean_kept, clean_retained, clean_stuck}
+use Rattle.step_relation.specs.Moves.{finish, finish_last, finish_overrun, poll_failed, poll_gone, poll_ready}
+use Rattle.step_relation.specs.Moves.{poll_waits, take_dropped, take_free, take_stolen, takeover_fresh}
+use Rattle.step_relation.specs.Moves.{takeover_overrun}
+use Rattle.step_relation.specs.Rows.{created_row, deleted_row, failed_row, ready_row, replaced, same_row, unlocked}
+use Rattle.step_relation.specs.Rows.{updated_row}
 use Rattle.step_relation.specs.Runs.{IsTied, Judges, fault}
 use Rattle.step_relation.specs.Takes.{relayed_letter, taken_job}
-use Rattle.step_relation.specs.Writes.{call_entry, complete_mark, entry_of, failed_mark, lock_writes, mail_entry, rows_entry, unlock_writes, with_stage}
+use Rattle.step_relation.specs.Writes.{call_entry, complete_mark, entry_of, failed_mark, lock_writes, mail_entry}
+use Rattle.step_relation.specs.Writes.{rows_entry, unlock_writes, with_stage}
 use Rattle.history.specs.Caused.{IsCaused}
 use Rattle.history.specs.Could.{IsPossible}
 use Rattle.history.specs.Marked.{Completed, mark_of}

@@ -1,7 +1,8 @@
 -- A token whose states are all the same is in that one state alone.
 use Rattle.std.proofs.Common.{Bool, List, ap, false, inl, inr, refl, subst, sym, true, ◌∙◌}
 use Rattle.std.proofs.lemmas.Slice.Eq.{bytes_eq-Decides}
-use Rattle.std.specs.Prelude.{Contains, List, None, Option, Some, [], filter, flat_map, if◌then◌else◌, not, ◌++◌, ◌∷◌, ◌≡◌, ◌≢◌, ◌⊎◌}
+use Rattle.std.specs.Prelude.{Contains, List, None, Option, Some, [], filter, flat_map, if◌then◌else◌, not, ◌++◌, ◌∷◌}
+use Rattle.std.specs.Prelude.{◌≡◌, ◌≢◌, ◌⊎◌}
 use Rattle.heat_plan.specs.declared.facts.Facts.{Facts}
 use Rattle.heat_plan.specs.declared.token.Token.{Token}
 use Rattle.traversal_graph.specs.Candidates.{each}

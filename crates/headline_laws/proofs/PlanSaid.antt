@@ -51,7 +51,8 @@ use Rattle.tell_laws.proofs.Silence.{AreUncalling, could-silent, newest-silent}
 use Rattle.agree_laws.proofs.Goes.{uncalling_at}
 use Rattle.headline_laws.proofs.FitsSound.{alive_row}
 use Rattle.headline_laws.proofs.Items.{asked_among}
-use Rattle.headline_laws.proofs.Made.{GivesFacts, IsMadeRow, living_as, made_alone, made_row, needs_given, not_given, token_is}
+use Rattle.headline_laws.proofs.Made.{GivesFacts, IsMadeRow, living_as, made_alone, made_row, needs_given, not_given}
+use Rattle.headline_laws.proofs.Made.{token_is}
 use Rattle.core_state.specs.declared.entry.What.TheVariants as what
 use Rattle.provider.proofs.Lists.{here}
 

@@ -23,10 +23,16 @@ use Rattle.step_relation.specs.Begins.{left_entries}
 use Rattle.step_relation.specs.Commands.{Lays, Sets, first_letters, laid_entries, settled_mark, stack_set}
 use Rattle.step_relation.specs.Finishes.{ready_letters}
 use Rattle.step_relation.specs.Given.{Given}
-use Rattle.step_relation.specs.Moves.{Move, ask_begun, ask_failed, begin_failed, begin_faulted, begin_in_place, begin_init, begin_overrun, begin_replaced, begin_resumed, begin_same, clean_deleted, clean_gone, clean_init, clean_kept, clean_retained, clean_stuck, finish, finish_last, finish_overrun, poll_failed, poll_gone, poll_ready, poll_waits, take_dropped, take_free, take_stolen, takeover_fresh, takeover_overrun}
+use Rattle.step_relation.specs.Moves.{Move, ask_begun, ask_failed, begin_failed, begin_faulted, begin_in_place}
+use Rattle.step_relation.specs.Moves.{begin_init, begin_overrun, begin_replaced, begin_resumed, begin_same}
+use Rattle.step_relation.specs.Moves.{clean_deleted, clean_gone, clean_init, clean_kept, clean_retained, clean_stuck}
+use Rattle.step_relation.specs.Moves.{finish, finish_last, finish_overrun, poll_failed, poll_gone, poll_ready}
+use Rattle.step_relation.specs.Moves.{poll_waits, take_dropped, take_free, take_stolen, takeover_fresh}
+use Rattle.step_relation.specs.Moves.{takeover_overrun}
 use Rattle.step_relation.specs.Orders.{row_limit}
 use Rattle.step_relation.specs.Takes.{relayed_letter, taken_job}
-use Rattle.step_relation.specs.Writes.{call_entry, complete_mark, entry_of, lock_writes, mail_entry, rows_entry, unlock_writes}
+use Rattle.step_relation.specs.Writes.{call_entry, complete_mark, entry_of, lock_writes, mail_entry, rows_entry}
+use Rattle.step_relation.specs.Writes.{unlock_writes}
 use Rattle.history.specs.Last.{IsLast}
 use Rattle.history.specs.Newest.{rollback_of}
 use Rattle.history.specs.Opening.{Opening}

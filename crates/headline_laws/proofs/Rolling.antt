@@ -18,9 +18,11 @@ use Rattle.core_state.specs.declared.entry.What.{What}
 use Rattle.core_state.specs.declared.stack.Stack.{Stack}
 use Rattle.step_relation.specs.Given.{Given}
 use Rattle.step_relation.specs.Moves.{Move}
-use Rattle.step_relation.specs.Orders.{Command, IsForward, cancel, create, create_sets, delete, delete_sets, past_of, plan_back, rollback_sets, row_limit, update, update_sets}
+use Rattle.step_relation.specs.Orders.{Command, IsForward, cancel, create, create_sets, delete, delete_sets, past_of}
+use Rattle.step_relation.specs.Orders.{plan_back, rollback_sets, row_limit, update, update_sets}
 use Rattle.step_relation.specs.Runs.{IsTied, IsTiedStep, Judges, Run, begins, goes_on}
-use Rattle.step_relation.specs.Steps.{IsNote, Step, close, command, enlist, note, notes, ran, restart, shows, stop, turn, turned, unstored}
+use Rattle.step_relation.specs.Steps.{IsNote, Step, close, command, enlist, note, notes, ran, restart, shows, stop}
+use Rattle.step_relation.specs.Steps.{turn, turned, unstored}
 use Rattle.step_relation.specs.Turns.{FollowsFailure, IsDue, Turn, plain, rolls, stays, unfailed}
 use Rattle.step_relation.specs.Writes.{entry_of}
 use Rattle.history.specs.Could.{IsPossible}
@@ -39,7 +41,8 @@ use Rattle.agree_laws.proofs.Called.{none_in}
 use Rattle.agree_laws.proofs.LaidTold.{forward_keeps}
 use Rattle.headline_laws.proofs.LastOnce.{last_once}
 use Rattle.headline_laws.proofs.Once.{possible_before}
-use Rattle.headline_laws.proofs.Rolled.{AllRolled, EndsSo, IsUnfailed, ends_so, laid_unfailed, rolled_both, rolled_unfailed, unfailed_move, unfailed_one, unfailed_silent}
+use Rattle.headline_laws.proofs.Rolled.{AllRolled, EndsSo, IsUnfailed, ends_so, laid_unfailed, rolled_both}
+use Rattle.headline_laws.proofs.Rolled.{rolled_unfailed, unfailed_move, unfailed_one, unfailed_silent}
 use Rattle.headline_laws.proofs.Steps.{KeepsSound, failed_stack, runs_sound, step_sound}
 use Rattle.core_state.specs.declared.entry.EngineChange.TheVariants as engine
 use Rattle.core_state.specs.declared.entry.What.TheVariants as what
@@ -246,7 +249,8 @@ pub run_rolled : KeepsSound → (registries : List Judges) (o : Opening) (s : St
     → AllRolled o [] h
 run_rolled keeps registries o _ _ first (begins last_ all is none) possible =
     subst (AllRolled o []) (sym none) (rolled_unfailed o [] [] (λ c among. absurd (none_in c among)))
-run_rolled keeps registries o _ _ first (goes_on judges mid last_ cs before behind all run step among tied is made)
+run_rolled keeps registries o _ _ first
+    (goes_on judges mid last_ cs before behind all run step among tied closes is made)
     possible =
     let possible_all = subst (IsPossible o) made possible in
     let possible_mid = possible_before o before behind possible_all in

@@ -9,7 +9,8 @@ use Rattle.core_state.specs.declared.entry.Cause.{Cause}
 use Rattle.core_state.specs.declared.entry.Entry.{Entry}
 use Rattle.core_state.specs.declared.entry.What.{What}
 use Rattle.core_state.specs.declared.stack.Stack.{Stack}
-use Rattle.history.specs.Marked.{Completed, FailedFor, Mark, Marked, Unmarked, mark_by_cause, mark_by_status, marked_again, marked_by, marked_stack}
+use Rattle.history.specs.Marked.{Completed, FailedFor, Mark, Marked, Unmarked, mark_by_cause, mark_by_status}
+use Rattle.history.specs.Marked.{marked_again, marked_by, marked_stack}
 use Rattle.history.specs.Opening.{Opening}
 use Rattle.soundness.specs.Headline.{FitsIn, IsIdleBook, IsSettledAs, completed, failed_before, failed_since}
 use Rattle.soundness.specs.Sound.{Sound}

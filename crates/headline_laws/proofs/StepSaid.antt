@@ -14,9 +14,11 @@ use Rattle.step_relation.specs.Asks.{cause_at, failed_entries, fault_of}
 use Rattle.step_relation.specs.Begins.{left_entries}
 use Rattle.step_relation.specs.Given.{Answer, Given}
 use Rattle.step_relation.specs.Moves.{Move, ask_failed, begin_faulted, poll_failed}
-use Rattle.step_relation.specs.Orders.{Command, cancel, create, create_sets, delete, delete_sets, plan_back, rollback_sets, update, update_sets}
+use Rattle.step_relation.specs.Orders.{Command, cancel, create, create_sets, delete, delete_sets, plan_back}
+use Rattle.step_relation.specs.Orders.{rollback_sets, update, update_sets}
 use Rattle.step_relation.specs.Runs.{IsTied, IsTiedStep, Judges, Run, begins, goes_on}
-use Rattle.step_relation.specs.Steps.{BeginsWithCall, IsNote, Step, close, command, enlist, note, notes, ran, restart, shows, stop, turn, turned, unstored}
+use Rattle.step_relation.specs.Steps.{BeginsWithCall, IsNote, Step, close, command, enlist, note, notes, ran, restart}
+use Rattle.step_relation.specs.Steps.{shows, stop, turn, turned, unstored}
 use Rattle.step_relation.specs.Turns.{Turn, plain, rolls}
 use Rattle.step_relation.specs.Writes.{call_entry, entry_of}
 use Rattle.history.specs.Could.{IsPossible}
@@ -188,7 +190,7 @@ pub run_said : KeepsSound → (registries : List Judges) (o : Opening) (s : Stat
     → AllSaid o [] [] h
 run_said keeps registries o _ _ first (begins last_ all is none) possible =
     subst (AllSaid o [] []) (sym none) (at_sound o [] o.state first (subst (IsPossible o) none possible))
-run_said keeps registries o _ _ first (goes_on judges mid last_ cs before behind all run step among tied is made)
+run_said keeps registries o _ _ first (goes_on judges mid last_ cs before behind all run step among tied closes is made)
     possible =
     let possible_all = subst (IsPossible o) made possible in
     let possible_mid = possible_before o before behind possible_all in

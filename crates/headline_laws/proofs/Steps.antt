@@ -14,14 +14,17 @@ use Rattle.core_state.specs.declared.stack.Stack.{Stack}
 use Rattle.step_relation.specs.Commands.{laid_changes}
 use Rattle.step_relation.specs.Given.{Answer, Given}
 use Rattle.step_relation.specs.Moves.{Move, ask_failed, begin_faulted, poll_failed}
-use Rattle.step_relation.specs.Orders.{Command, IsForward, cancel, create, create_sets, delete, delete_sets, plan_back, rollback_sets, update, update_sets}
+use Rattle.step_relation.specs.Orders.{Command, IsForward, cancel, create, create_sets, delete, delete_sets, plan_back}
+use Rattle.step_relation.specs.Orders.{rollback_sets, update, update_sets}
 use Rattle.step_relation.specs.Runs.{IsTied, Judges, begins, goes_on}
-use Rattle.step_relation.specs.Steps.{BeginsWithCall, close, command, engines_from, enlist, note, past_engines, restart, restart_changes, stop, turn, unstored}
+use Rattle.step_relation.specs.Steps.{BeginsWithCall, close, command, engines_from, enlist, note, past_engines, restart}
+use Rattle.step_relation.specs.Steps.{restart_changes, stop, turn, unstored}
 use Rattle.step_relation.specs.Turns.{Turn, plain, rolls}
 use Rattle.step_relation.specs.Writes.{entry_of}
 use Rattle.history.specs.Could.{IsPossible}
 use Rattle.history.specs.Opening.{Opening}
-use Rattle.soundness.specs.Groups.{IsOrdered, IsQuietEntry, IsQuietTo, KeptByEngines, ToldByCommands, ToldByMoves, creates, deletes, rolls_back, updates}
+use Rattle.soundness.specs.Groups.{IsOrdered, IsQuietEntry, IsQuietTo, KeptByEngines, ToldByCommands, ToldByMoves}
+use Rattle.soundness.specs.Groups.{creates, deletes, rolls_back, updates}
 use Rattle.soundness.specs.Laws.{SoundOpeningsStaySound, StepsKeepSound}
 use Rattle.soundness.specs.Sound.{Sound, Standing}
 use Rattle.table_laws.proofs.Rows.{same_some, stack_here}
@@ -192,7 +195,7 @@ applied-enlists : (s : StateData) (engines : List ℕ) → applied
 applied-enlists s [] = refl
 applied-enlists s (e ∷ es) = applied-enlists (record s { live = s.live ++ e ∷ [] }) es
 
-quiet_restart : (s : StateData) (count : ℕ) → IsQuietTo s (applied (restart_changes s count) s)
+pub quiet_restart : (s : StateData) (count : ℕ) → IsQuietTo s (applied (restart_changes s count) s)
 quiet_restart s count = record {
   live = enlisted_all (engines_from s.next.engine count) (stopped_all s.live s.live);
   engine = s.next.engine + count;
@@ -266,7 +269,8 @@ step_sound keeps judges o h s cs es x (close is made) tied possible =
 pub runs_sound : StepsKeepSound → SoundOpeningsStaySound
 runs_sound keep registries o _ _ first (begins last_ all is none) possible =
     subst (λ (t : StateData). Sound o all t) (sym is) (subst (λ (h : List Entry). Sound o h o.state) (sym none) first)
-runs_sound keep registries o _ _ first (goes_on judges mid last_ cs before behind all run step among tied is made)
+runs_sound keep registries o _ _ first
+    (goes_on judges mid last_ cs before behind all run step among tied closes is made)
     possible =
     let possible_all = subst (IsPossible o) made possible in
     let mid_sound = runs_sound keep registries o mid before first run

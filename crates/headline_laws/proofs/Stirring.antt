@@ -1,7 +1,8 @@
 -- A standing state stirs: a stack without a mark has a node that is ready and not done, and that is covered.
 use Rattle.std.proofs.Common.{Bool, List, ap, arith, false, inl, inr, refl, subst, suc, sym, true, zero, ◌∙◌}
 use Rattle.std.proofs.lemmas.Option.{slice_get_within}
-use Rattle.std.specs.Prelude.{All, Contains, List, None, Option, Some, [], length, slice_get, ℕ, ◌+◌, ◌<◌, ◌∷◌, ◌≡◌, ◌⊎◌}
+use Rattle.std.specs.Prelude.{All, Contains, List, None, Option, Some, [], length, slice_get, ℕ, ◌+◌, ◌<◌, ◌∷◌, ◌≡◌}
+use Rattle.std.specs.Prelude.{◌⊎◌}
 use Rattle.dep_graph.proofs.ClosingLemmas.{IsPath-length}
 use Rattle.dep_graph.specs.Paths.{IsPath, Leads}
 use Rattle.traversal_graph.specs.Builds.{Joins}

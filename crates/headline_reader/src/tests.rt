@@ -5,7 +5,8 @@ use book::{Book, Opened, StackCommand, Turn};
 use core_state::{Entry, What};
 use heat_plan::{Parameters, Plan, StackName, Status, Token};
 use heat_value::{Seq, Text};
-use script_lines::Command;
+use plain_templates::plain_plan;
+use script_lines::Line;
 use sim_cloud::{Settings, SimCloud};
 use std::alloc::{AllocError, Global};
 use std::test::Fail;
@@ -59,13 +60,15 @@ fn no_plan(alloc: Global) -> Plan {
 
 /// Makes the create that the line says, or notes that it is refused.
 fn create(alloc: Global, book: &mut Book<SimCloud>) {
-    if let Ok(Command::Create(name, plan)) = Command::read(alloc, CREATE) {
-        if book
-            .command(StackCommand::Create(name, plan, false))
-            .is_err()
-        {
-            refuse(alloc, book, "E10");
-        }
+    let Ok(Line::Create(name, body)) = Line::read(alloc, CREATE) else {
+        return;
+    };
+    let Ok(plan) = plain_plan(alloc, &body) else {
+        return;
+    };
+    let command = StackCommand::Create(name, plan, false);
+    if book.command(command).is_err() {
+        refuse(alloc, book, "E10");
     }
 }
 

@@ -4,8 +4,16 @@
 #![tactic(auto)]
 
 #[cfg(test)]
+mod cloud_tests;
+#[cfg(test)]
+mod pairs;
+#[cfg(test)]
 mod readings;
 mod said;
+#[cfg(test)]
+mod scenarios;
+#[cfg(test)]
+mod stream_tests;
 #[cfg(test)]
 mod tests;
 

@@ -12,23 +12,27 @@ use sim_cloud::SimCloud;
 use std::alloc::{AllocError, Global};
 use std::test::Fail;
 
-/// Of a stack: its newest traversal, that one's mark, and whether what is alive fits its plan.
+// Of a stack: its newest traversal, that one's mark, and whether what is alive fits its plan.
 #[derive(Clone, Copy, Debug, PartialEq, Eq)]
-struct Reading {
-    newest: Option<u64>,
-    mark: Option<Status>,
-    fits: bool,
+pub(crate) struct Reading {
+    pub(crate) newest: Option<u64>,
+    pub(crate) mark: Option<Status>,
+    pub(crate) fits: bool,
 }
 
-/// No traversal.
+// No traversal.
 const NOTHING: Reading = Reading {
     newest: None,
     mark: None,
     fits: false,
 };
 
-/// What is read of a stack's history.
-fn read(alloc: Global, entries: &[Entry], stack: &StackName) -> Result<Reading, AllocError> {
+// What is read of a stack's history.
+pub(crate) fn read(
+    alloc: Global,
+    entries: &[Entry],
+    stack: &StackName,
+) -> Result<Reading, AllocError> {
     let Some(latest) = newest(entries, stack)? else {
         return Ok(NOTHING);
     };
@@ -47,14 +51,14 @@ fn read(alloc: Global, entries: &[Entry], stack: &StackName) -> Result<Reading, 
     })
 }
 
-/// What is read of a book, which is let go; none where there was no memory.
+// What is read of a book, which is let go; none where there was no memory.
 fn read_book(alloc: Global, book: Book<SimCloud>, stack: &StackName) -> Option<Reading> {
     let seen = read(alloc, book.entries(), stack);
     let _ = book.give_back();
     seen.ok()
 }
 
-/// What is read of what is left.
+// What is read of what is left.
 fn read_end(alloc: Global, end: End<SimCloud>, stack: &StackName) -> Option<Reading> {
     match end {
         End::Book(book) => read_book(alloc, book, stack),
@@ -62,7 +66,7 @@ fn read_end(alloc: Global, end: End<SimCloud>, stack: &StackName) -> Option<Read
     }
 }
 
-/// What is read behind a script.
+// What is read behind a script.
 fn read_behind(
     alloc: Global,
     script: &[&str],
@@ -77,7 +81,7 @@ fn read_behind(
     Ok(read_end(alloc, end, stack))
 }
 
-/// A row, its script, and what is read of the stack `s`.
+// A row, its script, and what is read of the stack `s`.
 const READINGS: &[(&str, &[&str], Reading)] = &[
     ("empty_script", &[], NOTHING),
     (
@@ -98,7 +102,7 @@ const READINGS: &[(&str, &[&str], Reading)] = &[
             fits: false,
         },
     ),
-    ("form_not_built", &["bogus\n"], NOTHING),
+    ("unknown_word", &["bogus\n"], NOTHING),
 ];
 
 #[test]

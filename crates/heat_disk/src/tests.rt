@@ -6,9 +6,9 @@ use std::fs;
 use std::process::Abort;
 use std::test::Fail;
 
-/// Makes one call, with just the room that it needs, and says whether it succeeded: `w1ab` writes `ab`
-/// at 1, `c2` cuts to 2, `s` syncs, `l` and `r` ask for the length and read, all on First. `S` syncs
-/// Second.
+// Makes one call, with just the room that it needs, and says whether it succeeded: `w1ab` writes `ab`
+// at 1, `c2` cuts to 2, `s` syncs, `l` and `r` ask for the length and read, all on First. `S` syncs
+// Second.
 fn makes(disk: &mut MemDisk, call: &[u8]) -> Result<bool, AllocError> {
     match call {
         [b'w', at @ b'0'..=b'9', bytes @ ..] => writes(disk, u64::from(*at - b'0'), bytes),
@@ -41,7 +41,7 @@ fn syncs(disk: &mut MemDisk, half: Half) -> Result<bool, AllocError> {
     Ok(disk.sync(half).is_ok())
 }
 
-/// Makes the calls, of which the ones with an `n` below them have to fail, and counts those.
+// Makes the calls, of which the ones with an `n` below them have to fail, and counts those.
 fn runs(
     rt: &impl Abort,
     disk: &mut MemDisk,
@@ -58,7 +58,7 @@ fn runs(
     Ok(())
 }
 
-/// A crash with this byte where anything may stand leaves this of First.
+// A crash with this byte where anything may stand leaves this of First.
 fn leaves(
     rt: &impl Abort,
     disk: &MemDisk,
@@ -70,8 +70,8 @@ fn leaves(
     Ok(())
 }
 
-/// A line has the number of the call that fails, the calls, their answers, what First then reads as,
-/// and the longest that a crash leaves of it, with `?` where anything may stand.
+// A line has the number of the call that fails, the calls, their answers, what First then reads as,
+// and the longest that a crash leaves of it, with `?` where anything may stand.
 fn tries(rt: &impl Abort, alloc: Global, line: &[u8]) -> Result<(), AllocError> {
     let mut parts = line.split(|b| *b == b'|');
     if let (Some([number]), Some(calls), Some(answers), Some(seen), Some(longest)) = (
@@ -149,7 +149,7 @@ fn a_fuse_passes_so_many(rt: HostRuntime) -> Result<(), Fail> {
     Ok(())
 }
 
-/// The half is then these bytes and synced, if each call succeeds.
+// The half is then these bytes and synced, if each call succeeds.
 fn puts(disk: &mut FileDisk, half: Half, bytes: &[u8]) -> Result<u8, AllocError> {
     let len = bytes.len() as u64;
     disk.room(half, len, len, 3)?;

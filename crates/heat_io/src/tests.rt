@@ -18,7 +18,7 @@ fn letter(next: &Next) -> u8 {
     }
 }
 
-/// All lines that a source gives, each with `;` behind, then the letter of the last answer.
+// All lines that a source gives, each with `;` behind, then the letter of the last answer.
 fn told<S: Source>(alloc: Global, source: &mut S) -> Result<Vec<u8>, AllocError> {
     let mut reader = LineReader::new(alloc);
     let mut text = Vec::new(alloc);
@@ -37,7 +37,7 @@ fn told<S: Source>(alloc: Global, source: &mut S) -> Result<Vec<u8>, AllocError>
     Ok(text)
 }
 
-/// The same text in pieces of every size.
+// The same text in pieces of every size.
 fn gives(rt: &impl Abort, alloc: Global, script: &[u8], want: &[u8]) -> Result<(), AllocError> {
     for piece in 1..6 {
         let mut source = MemSource::new(alloc, script, piece, &[])?;
@@ -69,7 +69,7 @@ fn lines_are_cut_at_their_ends(rt: HostRuntime) -> Result<(), Fail> {
     Ok(())
 }
 
-/// The answer to a first line of so many `x` and this end.
+// The answer to a first line of so many `x` and this end.
 fn long(alloc: Global, count: usize, end: &[u8]) -> Result<u8, AllocError> {
     let mut script = vec![in alloc; b'x'; count]?;
     script.extend_from_slice(end)?;
@@ -88,7 +88,7 @@ fn a_line_has_1_048_576_bytes_at_most(rt: HostRuntime) -> Result<(), Fail> {
     Ok(())
 }
 
-/// A source that goes on for ever: buffers full of `x`, with this as the last byte.
+// A source that goes on for ever: buffers full of `x`, with this as the last byte.
 #[derive(Drop)]
 struct Endless {
     last: u8,
@@ -109,7 +109,7 @@ impl Source for Endless {
     }
 }
 
-/// How many lines it gives, and the answer that ends them.
+// How many lines it gives, and the answer that ends them.
 fn counted(alloc: Global, source: &mut Endless) -> (u32, u8) {
     let mut reader = LineReader::new(alloc);
     for lines in 0..1_000_000 {
@@ -162,7 +162,7 @@ fn the_listed_write_fails(rt: HostRuntime) -> Result<(), Fail> {
     Ok(())
 }
 
-/// A reader that fails at once.
+// A reader that fails at once.
 #[derive(Drop)]
 struct Broken;
 

@@ -2,3 +2,4 @@ pub mod Decimals
 pub mod NamesLemmas
 pub mod Parts
 pub mod OrderLemmas
+pub mod OneItem

@@ -31,11 +31,13 @@ use Rattle.core_state.specs.declared.entry.What.TheVariants as what
 use Rattle.core_state.specs.declared.entry.Why.TheVariants as why
 
 -- the entries end with a call and what its step wrote
-pub record EndsWithCall (actor : Actor) (before : List Entry) (token : Token) (request : Request) (given : Answered) : Type 0 where
+pub record EndsWithCall (actor : Actor) (before : List Entry) (token : Token) (request : Request)
+    (given : Answered) : Type 0 where
   pub earlier : List Entry
   pub rows : List RowWrite
   pub mail : List MailWrite
-  pub entries : before ≡ earlier ++ entry_of actor (what.Call token request given) ∷ (rows_entry actor rows ++ mail_entry actor mail)
+  pub entries : before ≡ earlier ++ entry_of actor (what.Call token request given)
+      ∷ (rows_entry actor rows ++ mail_entry actor mail)
 
 -- the answer is the reason, where the row's act is this
 pub data Blames (act : Act) : Answered → Why → Type 0 where
@@ -44,7 +46,8 @@ pub data Blames (act : Act) : Answered → Why → Type 0 where
   by_code : (code : List ℕ) → Blames act (answer.Broken code) (why.Broken act code)
 
 -- the call of the same step is for the cause's row, and its answer is the reason
-pub record CausedByCall (o : Opening) (before : List Entry) (actor : Actor) (stack : List ℕ) (cause : Cause) : Type 0 where
+pub record CausedByCall (o : Opening) (before : List Entry) (actor : Actor) (stack : List ℕ)
+    (cause : Cause) : Type 0 where
   pub request : Request
   pub given : Answered
   pub call : EndsWithCall actor before (token_at stack cause.name cause.row) request given
@@ -63,7 +66,8 @@ pub record IsLastFactOf (o : Opening) (h : List Entry) (stack need : List ℕ) (
   pub greatest : (other : ℕ) → tokens_of o h stack (token_at stack need other) → other ≤ row
 
 -- the step called nobody, and the item of the newest plan has that fault
-pub record CausedByPlan (o : Opening) (before : List Entry) (actor : Actor) (stack : List ℕ) (cause : Cause) : Type 0 where
+pub record CausedByPlan (o : Opening) (before : List Entry) (actor : Actor) (stack : List ℕ)
+    (cause : Cause) : Type 0 where
   pub silent : (token : Token) (request : Request) (given : Answered)
       → ¬ EndsWithCall actor before token request given
   pub latest : Latest

@@ -11,7 +11,8 @@ use Rattle.core_state.specs.declared.entry.What.TheVariants as what
 
 -- a call to the token turns each state into those of its row of the cloud's table
 abbrev pub could_by : Token → List TokenState → What → List TokenState
-could_by t states (what.Call token request given) = if same_token token t then after_each request given states else states
+could_by t states (what.Call token request given) = if same_token token t
+    then after_each request given states else states
 could_by t states (what.Command stack trav act plan rollback) = states
 could_by t states (what.Release token) = states
 could_by t states (what.Mark stack trav act cause) = states

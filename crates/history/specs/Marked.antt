@@ -38,8 +38,10 @@ abbrev pub marked_again : ℕ → Option Cause → Marked → Marked
 marked_again trav cause it = if it.trav == trav then record { trav = trav; mark = mark_by_cause cause } else it
 
 abbrev pub marked_by : List ℕ → Option Marked → What → Option Marked
-marked_by s before (what.Command stack trav act plan rollback) = if bytes_eq stack s then Some (record { trav = trav; mark = Unmarked }) else before
-marked_by s before (what.Mark stack trav act cause) = if bytes_eq stack s then option_map (marked_again trav cause) before else before
+marked_by s before (what.Command stack trav act plan rollback) = if bytes_eq stack s
+    then Some (record { trav = trav; mark = Unmarked }) else before
+marked_by s before (what.Mark stack trav act cause) = if bytes_eq stack s
+    then option_map (marked_again trav cause) before else before
 marked_by s before (what.Call token request given) = before
 marked_by s before (what.Release token) = before
 marked_by s before (what.Rows writes) = before
@@ -52,7 +54,8 @@ marked_by s before (what.Turned engine lost) = before
 marked_by s before what.Closed = before
 
 abbrev pub marked_of : Opening → List Entry → List ℕ → Option Marked
-marked_of o h s = fold (λ (before : Option Marked) (e : Entry). marked_by s before e.what) (option_map marked_stack (stack_at o.state.stacks s)) h
+marked_of o h s = fold (λ (before : Option Marked) (e : Entry). marked_by s before e.what)
+    (option_map marked_stack (stack_at o.state.stacks s)) h
 
 -- None where there is no traversal
 abbrev pub mark_of : Opening → List Entry → List ℕ → Option Mark

@@ -21,7 +21,8 @@ latest_of st = record { trav = st.trav; act = st.act; plan = st.plan }
 
 -- a command of the stack is the newest from then on
 abbrev pub newest_by : List ℕ → Option Latest → What → Option Latest
-newest_by s before (what.Command stack trav act plan rollback) = if bytes_eq stack s then Some (record { trav = trav; act = act; plan = plan }) else before
+newest_by s before (what.Command stack trav act plan rollback) = if bytes_eq stack s
+    then Some (record { trav = trav; act = act; plan = plan }) else before
 newest_by s before (what.Call token request given) = before
 newest_by s before (what.Release token) = before
 newest_by s before (what.Mark stack trav act cause) = before
@@ -36,7 +37,8 @@ newest_by s before what.Closed = before
 
 -- that of the last command; without one, that of the stack in the opening
 abbrev pub newest : Opening → List Entry → List ℕ → Option Latest
-newest o h s = fold (λ (before : Option Latest) (e : Entry). newest_by s before e.what) (option_map latest_of (stack_at o.state.stacks s)) h
+newest o h s = fold (λ (before : Option Latest) (e : Entry). newest_by s before e.what)
+    (option_map latest_of (stack_at o.state.stacks s)) h
 
 -- whether a failure of the newest traversal is rolled back
 abbrev pub rollback_by : List ℕ → Bool → What → Bool

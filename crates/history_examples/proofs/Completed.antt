@@ -2,7 +2,7 @@
 -- breaks.
 use Rattle.std.proofs.Common.{List, None, Some, [], arith, refl, suc, zero, ◌≤◌, ◌∷◌, ◌≡◌, ◌≢◌}
 use Rattle.std.proofs.lemmas.List.Elements.{All-head}
-use Rattle.std.specs.Prelude.{length}
+use Rattle.std.specs.Prelude.{length, ◌++◌}
 use Rattle.heat_plan.specs.Tables.{at, cut, put}
 use Rattle.heat_plan.specs.declared.phase.Act.TheVariants.{Delete, Update}
 use Rattle.heat_plan.specs.declared.phase.Status.TheVariants.{Complete, Failed, InProgress}
@@ -12,10 +12,11 @@ use Rattle.row_table.specs.Chains.{ends, goes}
 use Rattle.mail_table.specs.declared.mail.Stage.{Stage}
 use Rattle.mail_table.specs.declared.mail.Stage.TheVariants.{Asking, Ending, Polling, Taken}
 use Rattle.core_state.specs.Changes.{put_point}
-use Rattle.core_state.specs.State.{StateData}
 use Rattle.core_state.specs.declared.change.Change.{Change}
 use Rattle.core_state.specs.declared.change.Change.TheVariants.{Drop, DropRow, EndJob, PutJob, PutPoint, PutRow}
 use Rattle.core_state.specs.declared.change.Change.TheVariants.{PutStack}
+use Rattle.core_state.specs.declared.entry.Actor.TheVariants.{Engine}
+use Rattle.core_state.specs.declared.entry.Entry.{Entry}
 use Rattle.step_relation.specs.Asks.{Calls, by_failure, deletes, looks, marks}
 use Rattle.step_relation.specs.Cleanups.{Cleans}
 use Rattle.step_relation.specs.Finishes.{Finishes}
@@ -26,7 +27,7 @@ use Rattle.step_relation.specs.Moves.{ask_begun, ask_failed, clean_deleted, fini
 use Rattle.step_relation.specs.Moves.{take_dropped, take_free}
 use Rattle.step_relation.specs.Nexts.{TakesNext}
 use Rattle.step_relation.specs.Rows.{failed_row}
-use Rattle.step_relation.specs.Runs.{Judges, Run, nothing}
+use Rattle.step_relation.specs.Runs.{Run, nothing}
 use Rattle.step_relation.specs.Takes.{Takes, done}
 use Rattle.step_relation.specs.Targets.{of_c, of_u}
 use Rattle.step_relation.specs.Turns.{plain, stays, unfailed}
@@ -48,10 +49,11 @@ use Rattle.history_examples.specs.Setting.{token}
 use Rattle.history_examples.specs.Spoiled.{IsNoRun}
 use Rattle.history_examples.specs.Updates.{stack_two}
 use Rattle.history_examples.proofs.Finds.{each_job, each_letter}
+use Rattle.history_examples.proofs.Kept.{incomplete}
 use Rattle.history_examples.proofs.Lists.{lists_none, not_done}
 use Rattle.history_examples.proofs.Possible.{begun_states, gone_states, made_states, ready_states, some_gone, some_made}
 use Rattle.history_examples.proofs.Replaced.{run_made}
-use Rattle.history_examples.proofs.Spoiled.{no_run, runs_have_headline}
+use Rattle.history_examples.proofs.Sentences.{runs_have_headline, within}
 use Rattle.history_examples.proofs.Steps.{by_call, by_turn}
 use Rattle.core_state.specs.declared.entry.Why.TheVariants as why
 use Rattle.heat_plan.specs.declared.calls.Answered.TheVariants as reply
@@ -256,36 +258,34 @@ is_completed = record {
 }
 
 -- two resources are alive under one name
-module _ (judges : List Judges) (s : StateData) (h : Headline judges opening complete_before_clean_up s) where
-  fitted : Fits opening until_made stack_name (plan 2)
-  unfolding at
-  fitted = (h.entries 27 _ refl).completes stack_name 2 Update (record { trav = 2; act = Update; plan = Some (plan 2) })
-      refl refl
+too_many : ¬ Fits opening until_made stack_name (plan 2)
+too_many fitted =
+    let it : HasExactly opening until_made stack_name (plan 2) (item 2) =
+    All-head (HasExactly opening until_made stack_name (plan 2)) (item 2) [] fitted.each in
+    let old = it.only 1 (
+      refl,
+      record {
+        lives = record { it = living 1 (Some facts); among = contains_head (Some (living 1 (Some facts))) [] };
+        owned = λ c. contains_none (token 1) c;
+      },
+    ) in
+    let new = it.only 2 (
+      refl,
+      record {
+        lives = record {
+          it = living 2 (Some facts_two);
+          among = contains_head (Some (living 2 (Some facts_two))) [];
+        };
+        owned = λ c. contains_none (token 2) c;
+      },
+    ) in
+    omega (arith, old, new)
 
-  too_many : ⊥
-  too_many =
-      let it : HasExactly opening until_made stack_name (plan 2) (item 2) =
-      All-head (HasExactly opening until_made stack_name (plan 2)) (item 2) [] fitted.each in
-      let old = it.only 1 (
-        refl,
-        record {
-          lives = record { it = living 1 (Some facts); among = contains_head (Some (living 1 (Some facts))) [] };
-          owned = λ c. contains_none (token 1) c;
-        },
-      ) in
-      let new = it.only 2 (
-        refl,
-        record {
-          lives = record {
-            it = living 2 (Some facts_two);
-            among = contains_head (Some (living 2 (Some facts_two))) [];
-          };
-          owned = λ c. contains_none (token 2) c;
-        },
-      ) in
-      omega (arith, old, new)
+abbrev after_made : List Entry
+after_made = drop_tells ++ (clean_tells ++ (leave_tells ++ (going_tells ++ (gone_tells ++ complete_tells))))
 
 pub before_clean_up : IsNoRun complete_before_clean_up
-unfolding made_states ready_states begun_states
-before_clean_up =
-    no_run complete_before_clean_up (λ t. some_made (same_token (token 1) t) (same_token (token 2) t)) too_many
+unfolding made_states ready_states begun_states at
+before_clean_up = incomplete until_made (within registries completed until_made after_made main_theorem) (Engine 1)
+    stack_name 2 Update (record { trav = 2; act = Update; plan = Some (plan 2) }) refl too_many refl refl refl refl
+    registries made [] run_made (λ t. some_made (same_token (token 1) t) (same_token (token 2) t))

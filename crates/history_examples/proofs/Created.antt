@@ -2,6 +2,8 @@
 use Rattle.std.proofs.Common.{Bool, List, None, Some, [], arith, false, refl, true, zero, suc, ◌∷◌}
 use Rattle.std.specs.Prelude.{codes, length, ◌++◌}
 use Rattle.heat_plan.specs.Tables.{at, cut, put}
+use Rattle.heat_plan.specs.declared.item.Policy.{Policy}
+use Rattle.heat_plan.specs.declared.item.Policy.TheVariants.{Delete}
 use Rattle.heat_plan.specs.declared.phase.Act.TheVariants.{Create}
 use Rattle.heat_plan.specs.declared.phase.Status.TheVariants.{Complete, Failed, InProgress}
 use Rattle.traversal_graph.specs.declared.shape.Node.TheVariants.{U}
@@ -25,11 +27,13 @@ use Rattle.soundness.specs.Headline.{Headline}
 use Rattle.table_laws.proofs.Puts.{contains_head, contains_none}
 use Rattle.headline_laws.proofs.Empty.{empty_is_sound}
 use Rattle.whole_laws.proofs.Whole.{runs_headline}
-use Rattle.history_examples.specs.Created.{IsCreated, ask_tells, asked, begun, created, finish_tells, graph, history}
-use Rattle.history_examples.specs.Created.{point, poll_tells, ready, stack, until_asked, until_begun}
-use Rattle.history_examples.specs.FailedFirst.{fail_tells}
-use Rattle.history_examples.specs.FirstRow.{row_begun, row_done, row_ready}
-use Rattle.history_examples.specs.Setting.{facts, item, item_name, job, letter, opening, plan, registries, sized}
+use Rattle.history_examples.specs.Created.{IsCreated, ask_tells, asked, begun, begun_under, created, finish_tells}
+use Rattle.history_examples.specs.Created.{graph, history, point, poll_tells, ready, stack, stack_under, until_asked}
+use Rattle.history_examples.specs.Created.{until_begun}
+use Rattle.history_examples.specs.FailedFirst.{fail_tells, fail_tells_under}
+use Rattle.history_examples.specs.FirstRow.{row_begun, row_begun_under, row_done, row_ready}
+use Rattle.history_examples.specs.Setting.{facts, item, item_name, item_under, job, letter, opening, plan, registries}
+use Rattle.history_examples.specs.Setting.{sized}
 use Rattle.history_examples.specs.Setting.{stack_name, token}
 use Rattle.history_examples.proofs.Begun.{run_begun}
 use Rattle.history_examples.proofs.Lists.{lists_none}
@@ -40,49 +44,55 @@ use Rattle.heat_plan.specs.declared.calls.Answered.TheVariants as reply
 use Rattle.heat_plan.specs.declared.calls.Request.TheVariants as request
 
 -- the ask, and what its failure would do
-asks : (rollback : Bool) → Calls (begun rollback) 1 Asking
+asks : (policy : Policy) (rollback : Bool) → Calls (begun_under policy rollback) 1 Asking
 unfolding at
-asks rollback = record {
+asks policy rollback = record {
   job = job 1 (letter 1 1 0) 1 Asking;
-  row = row_begun;
+  row = row_begun_under policy;
   works = record { live = contains_head 1 (2 ∷ []); its = refl; stage_is = refl };
   found = refl;
 }
 
-fresh_asking : (rollback : Bool) → IsFresh (begun rollback) (letter 1 1 0) 1
+fresh_asking : (policy : Policy) (rollback : Bool) → IsFresh (begun_under policy rollback) (letter 1 1 0) 1
 unfolding at
-fresh_asking rollback = record {
-  stack = stack InProgress;
+fresh_asking policy rollback = record {
+  stack = stack_under policy InProgress;
   graph = graph false;
   node = U item_name 1;
-  row = Some row_begun;
+  row = Some (row_begun_under policy);
   names = record { in_table = refl; newest = refl; its_graph = refl; its_node = refl };
   found = refl;
-  serves = updates item_name 1 (item 1) row_begun refl (λ is. cc);
+  serves = updates item_name 1 (item_under policy 1) (row_begun_under policy) refl (λ is. cc);
 }
 
 abbrev pub ask_changes : List Change
 ask_changes = PutJob (job 1 (letter 1 1 0) 1 Polling) ∷ []
 
-abbrev pub fail_changes : List Change
-fail_changes = PutRow (failed_row row_begun) ∷ EndJob 1 ∷ PutStack (stack Failed) ∷ []
+abbrev pub fail_changes_under : Policy → List Change
+fail_changes_under policy = PutRow (failed_row (row_begun_under policy)) ∷ EndJob 1
+    ∷ PutStack (stack_under policy Failed) ∷ []
 
-pub failing : (rollback : Bool) → Move (begun rollback) 1 (Answer reply.Failed) (Some (stack InProgress)) fail_changes
-    fail_tells
+abbrev pub fail_changes : List Change
+fail_changes = fail_changes_under Delete
+
+pub failing : (policy : Policy) (rollback : Bool) → Move (begun_under policy rollback) 1 (Answer reply.Failed)
+    (Some (stack_under policy InProgress)) (fail_changes_under policy) (fail_tells_under policy)
 unfolding at asks fresh_asking
-failing rollback = ask_failed (asks rollback) (request.Create (codes "Box") (sized 1)) reply.Failed (why.Failed Create)
-    []
-    (Some (stack InProgress)) _ _ (creates refl) (by_failure _) (marks (fresh_asking rollback) refl) refl refl
+failing policy rollback = ask_failed (asks policy rollback) (request.Create (codes "Box") (sized 1)) reply.Failed
+    (why.Failed Create) [] (Some (stack_under policy InProgress)) _ _ (creates refl) (by_failure _)
+    (marks (fresh_asking policy rollback) refl) refl refl
 
 pub fails : Turn (begun false) 1 (Answer reply.Failed) fail_changes fail_tells
 unfolding at put cut
-fails = plain (Some (stack InProgress)) (failing false) (stays (stack InProgress) (λ due. let no_ = due.asked in cc))
+fails = plain (Some (stack InProgress)) (failing Delete false)
+    (stays (stack InProgress) (λ due. let no_ = due.asked in cc))
 
 pub run_asked : Run registries opening.state (asked false) (until_asked false)
 unfolding at put cut asks
-run_asked = by_call (begun false) (asked false) ask_changes (until_begun false) ask_tells (run_begun false) refl
+run_asked = by_call (begun false) (asked false) ask_changes (until_begun false) ask_tells (run_begun Delete false) refl
     1 reply.Begun fail_changes fail_tells
-    (plain None (ask_begun (asks false) (request.Create (codes "Box") (sized 1)) _ _ (creates refl) refl refl) unfailed)
+    (plain None (ask_begun (asks Delete false) (request.Create (codes "Box") (sized 1)) _ _
+    (creates refl) refl refl) unfailed)
     fails refl
 
 -- the poll, and what its failure would do

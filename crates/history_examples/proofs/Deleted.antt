@@ -10,10 +10,10 @@ use Rattle.mail_table.specs.declared.mail.Stage.{Stage}
 use Rattle.mail_table.specs.declared.mail.Stage.TheVariants.{Asking, Ending, Polling, Taken}
 use Rattle.core_state.specs.Changes.{put_point}
 use Rattle.core_state.specs.Reads.{IsReady}
-use Rattle.core_state.specs.State.{StateData}
 use Rattle.core_state.specs.declared.change.Change.{Change}
 use Rattle.core_state.specs.declared.change.Change.TheVariants.{Drop, DropRow, DropStack, EndJob, PutJob, PutPoint}
 use Rattle.core_state.specs.declared.change.Change.TheVariants.{PutRow, PutStack, Send}
+use Rattle.core_state.specs.declared.entry.Actor.TheVariants.{Engine}
 use Rattle.step_relation.specs.Asks.{Calls, by_failure, deletes, looks, marks}
 use Rattle.step_relation.specs.Cleanups.{Cleans}
 use Rattle.step_relation.specs.Finishes.{Finishes, Settles}
@@ -24,11 +24,12 @@ use Rattle.step_relation.specs.Moves.{ask_begun, ask_failed, clean_deleted, fini
 use Rattle.step_relation.specs.Moves.{take_dropped, take_free}
 use Rattle.step_relation.specs.Nexts.{TakesNext}
 use Rattle.step_relation.specs.Rows.{failed_row}
-use Rattle.step_relation.specs.Runs.{Judges, Run, nothing}
+use Rattle.step_relation.specs.Runs.{Run, nothing}
 use Rattle.step_relation.specs.Takes.{Takes, done}
 use Rattle.step_relation.specs.Targets.{of_c}
 use Rattle.step_relation.specs.Turns.{plain, stays, unfailed}
 use Rattle.history.specs.Could.{IsPossible}
+use Rattle.history.specs.Fits.{Fits}
 use Rattle.soundness.specs.Headline.{Headline}
 use Rattle.edge_laws.proofs.Keeping.{last_is, only_one}
 use Rattle.table_laws.proofs.Puts.{contains_head, contains_none}
@@ -44,11 +45,12 @@ use Rattle.history_examples.specs.DeletedHalfway.{graph_three, stack_three}
 use Rattle.history_examples.specs.Setting.{facts, letter, living, opening, registries, stack_name, token}
 use Rattle.history_examples.specs.Spoiled.{IsNoRun}
 use Rattle.history_examples.proofs.Finds.{each_job, each_letter}
+use Rattle.history_examples.proofs.Kept.{incomplete}
 use Rattle.history_examples.proofs.Lists.{lists_none, lists_one, not_done}
 use Rattle.history_examples.proofs.Possible.{begun_states, cleared_states, deleted_states, made_states, ready_states}
 use Rattle.history_examples.proofs.Possible.{some_cleared, some_deleted}
 use Rattle.history_examples.proofs.SecondGone.{second_leaves_cloud}
-use Rattle.history_examples.proofs.Spoiled.{no_run, runs_have_headline}
+use Rattle.history_examples.proofs.Sentences.{runs_have_headline, within}
 use Rattle.history_examples.proofs.Steps.{by_call, by_turn}
 use Rattle.core_state.specs.declared.change.Change.TheVariants as change_to
 use Rattle.core_state.specs.declared.entry.Why.TheVariants as why
@@ -297,20 +299,23 @@ is_deleted = record {
 }
 
 -- the first row's resource is alive still
-still_alive : (judges : List Judges) (s : StateData) → ¬ Headline judges opening marked_while_a_row_stands s
-unfolding at
-still_alive judges s h =
-    let it = (h.entries (length until_dropped) _ refl).completes stack_name 3 Delete
-    (record { trav = 3; act = Delete; plan = None }) refl refl in
-    contains_none _ (it.no_other (token 1) (
-      refl,
-      record {
-        lives = record { it = living 1 (Some facts); among = contains_head (Some (living 1 (Some facts))) [] };
-        owned = λ c. contains_none (token 1) c;
-      },
-    ))
+still_alive : ¬ Fits opening until_dropped stack_name (plan_of None)
+still_alive fits = contains_none _ (fits.no_other (token 1) (
+  refl,
+  record {
+    lives = record { it = living 1 (Some facts); among = contains_head (Some (living 1 (Some facts))) [] };
+    owned = λ c. contains_none (token 1) c;
+  },
+))
 
 pub a_row_stands : IsNoRun marked_while_a_row_stands
-unfolding cleared_states made_states ready_states begun_states
-a_row_stands = no_run marked_while_a_row_stands
-    (λ t. some_cleared (same_token (token 1) t) (same_token (token 2) t)) still_alive
+unfolding cleared_states made_states ready_states begun_states at
+a_row_stands = incomplete until_dropped (within registries dropped until_dropped [] right) (Engine 1)
+    stack_name 3 Delete (record { trav = 3; act = Delete; plan = None }) refl still_alive refl refl refl refl
+    registries dropped [] run_dropped some
+  where
+    some : IsPossible opening until_dropped
+    some t = some_cleared (same_token (token 1) t) (same_token (token 2) t)
+
+    right : Headline registries opening until_dropped dropped
+    right = runs_have_headline registries dropped until_dropped run_dropped some

@@ -10,18 +10,20 @@ use Rattle.traversal_graph.specs.Builds.{begins, goes_on}
 use Rattle.provider.specs.Same.{same_token}
 use Rattle.row_table.specs.Rows.{row_at}
 use Rattle.row_table.specs.declared.row.Row.{Row}
-use Rattle.core_state.specs.State.{StateData}
 use Rattle.core_state.specs.declared.change.Change.{Change}
 use Rattle.core_state.specs.declared.change.Change.TheVariants.{PutGraph, PutPast, PutStack, Send}
+use Rattle.core_state.specs.declared.entry.Actor.TheVariants.{Main}
 use Rattle.type_catalog.specs.Changes.{replace}
 use Rattle.type_catalog.specs.declared.effect.Effect.TheVariants.{Replace}
 use Rattle.step_relation.specs.Begins.{changed}
 use Rattle.step_relation.specs.Commands.{IsLeaf, Lays, brief_of}
+use Rattle.step_relation.specs.Freshness.{plan_of}
 use Rattle.step_relation.specs.Orders.{Command, delete}
-use Rattle.step_relation.specs.Runs.{Judges, Run}
+use Rattle.step_relation.specs.Runs.{Run}
 use Rattle.soundness.specs.Headline.{Headline}
 use Rattle.edge_laws.proofs.Keeping.{last_is}
 use Rattle.table_laws.proofs.Puts.{all_contains, contains_head, contains_none, contains_there}
+use Rattle.history.specs.Fits.{Fits}
 use Rattle.history_examples.specs.DeletedHalfway.{IsDeletedHalfway, delete_tells, deleting, halfway, history}
 use Rattle.history_examples.specs.DeletedHalfway.{marked_while_alive, stack_three, two_rows, until_halfway}
 use Rattle.history_examples.specs.DeletedHalfway.{until_retaken, until_updated}
@@ -31,9 +33,10 @@ use Rattle.history_examples.specs.Spoiled.{IsNoRun}
 use Rattle.history_examples.specs.Updates.{left, retaken, row_two, stack_two, updated}
 use Rattle.history_examples.proofs.Created.{run_created}
 use Rattle.history_examples.proofs.Finds.{each_row}
+use Rattle.history_examples.proofs.Kept.{incomplete}
 use Rattle.history_examples.proofs.Lists.{lists_one, no_path}
 use Rattle.history_examples.proofs.Possible.{begun_states, ready_states, some_ready}
-use Rattle.history_examples.proofs.Spoiled.{no_run, runs_have_headline}
+use Rattle.history_examples.proofs.Sentences.{runs_have_headline, within}
 use Rattle.history_examples.proofs.Steps.{by_command}
 use Rattle.history_examples.proofs.Updates.{run_replaced, run_retaken, run_updated}
 use Rattle.core_state.specs.declared.change.Change.TheVariants as change_to
@@ -141,19 +144,17 @@ is_deleted_halfway = record {
 }
 
 -- the resource of the first row is alive, and the plan of a delete has none
-still_alive : (judges : List Judges) (s : StateData) → ¬ Headline judges opening marked_while_alive s
-unfolding at
-still_alive judges s h =
-    let fitted = (h.entries 23 _ refl).completes stack_name 3 Delete (record { trav = 3; act = Delete; plan = None })
-    refl refl in
-    contains_none _ (fitted.no_other (token 1) (
-      refl,
-      record {
-        lives = record { it = living 1 (Some facts); among = contains_head (Some (living 1 (Some facts))) [] };
-        owned = λ c. contains_none (token 1) c;
-      },
-    ))
+still_alive : ¬ Fits opening history stack_name (plan_of None)
+still_alive fits = contains_none _ (fits.no_other (token 1) (
+  refl,
+  record {
+    lives = record { it = living 1 (Some facts); among = contains_head (Some (living 1 (Some facts))) [] };
+    owned = λ c. contains_none (token 1) c;
+  },
+))
 
 pub alive_then : IsNoRun marked_while_alive
-unfolding ready_states begun_states
-alive_then = no_run marked_while_alive (λ t. some_ready (same_token (token 1) t)) still_alive
+unfolding ready_states begun_states at
+alive_then = incomplete history (within registries deleting history [] main_theorem) Main
+    stack_name 3 Delete (record { trav = 3; act = Delete; plan = None }) refl still_alive refl refl refl refl
+    registries deleting [] run_deleting (λ t. some_ready (same_token (token 1) t))

@@ -2,10 +2,11 @@ pub mod Worn
 pub mod Finds
 pub mod Steps
 pub mod Lists
-pub mod Plans
 pub mod Possible
 pub mod Begun
 pub mod Created
+pub mod Sentences
+pub mod Kept
 pub mod Spoiled
 pub mod Updates
 pub mod Overtaken
@@ -19,3 +20,7 @@ pub mod Undone
 pub mod Released
 pub mod SecondGone
 pub mod Deleted
+pub mod Cancelled
+pub mod Stolen
+pub mod InPlace
+pub mod Retained

@@ -1,44 +1,55 @@
 -- The update that overtakes, step by step: `is_overtaken`; and what the spoiled history breaks.
-use Rattle.std.proofs.Common.{List, None, Some, [], ap, arith, false, refl, ◌∷◌, ◌≡◌}
+use Rattle.std.proofs.Common.{Bool, List, None, Some, [], ap, arith, false, refl, sym, true, ◌∙◌, ◌∷◌, ◌≡◌, ◌≢◌}
+use Rattle.std.proofs.lemmas.List.Elements.{All-head}
 use Rattle.std.specs.Prelude.{◌++◌}
 use Rattle.heat_plan.specs.Tables.{at, cut, put}
 use Rattle.heat_plan.specs.declared.phase.Act.TheVariants.{Create, Update}
 use Rattle.heat_plan.specs.declared.phase.Status.TheVariants.{Complete, InProgress}
 use Rattle.provider.specs.Same.{same_token}
+use Rattle.provider.specs.Table.{Living}
 use Rattle.mail_table.specs.declared.mail.Stage.TheVariants.{Ending, Polling}
-use Rattle.core_state.specs.State.{StateData}
 use Rattle.core_state.specs.declared.change.Change.{Change}
 use Rattle.core_state.specs.declared.change.Change.TheVariants.{EndJob, PutJob, PutRow, Send}
+use Rattle.core_state.specs.declared.entry.Actor.TheVariants.{Engine}
+use Rattle.core_state.specs.declared.entry.Entry.{Entry}
 use Rattle.step_relation.specs.Asks.{Calls, by_failure, polls}
 use Rattle.step_relation.specs.Given.{Nothing}
 use Rattle.step_relation.specs.Moves.{finish_overrun, poll_failed, poll_ready}
 use Rattle.step_relation.specs.Rows.{failed_row}
-use Rattle.step_relation.specs.Runs.{Judges, Run, nothing}
+use Rattle.step_relation.specs.Runs.{Run, nothing}
 use Rattle.step_relation.specs.Takes.{Releases}
 use Rattle.step_relation.specs.Turns.{plain, unfailed}
+use Rattle.history.specs.Fits.{Fits, HasExactly}
 use Rattle.history.specs.Newest.{Latest}
-use Rattle.soundness.specs.Headline.{Headline}
+use Rattle.history.specs.Tokens.{token_at}
+use Rattle.soundness.specs.Headline.{AtPrefix, Headline}
 use Rattle.table_laws.proofs.Puts.{contains_head}
 use Rattle.table_laws.proofs.Rows.{same_some}
+use Rattle.hot_resolve.specs.Resolve.{Props, resolve}
+use Rattle.next_laws.proofs.Listings.{in_head, in_tail}
 use Rattle.history_examples.specs.Created.{poll_tells, until_asked}
 use Rattle.history_examples.specs.FirstRow.{row_begun, row_done, row_ready}
 use Rattle.history_examples.specs.Overtaken.{IsOvertaken, freed, history, late, marked_though_overtaken, overtaken}
 use Rattle.history_examples.specs.Overtaken.{release_tells, until_late}
-use Rattle.history_examples.specs.Setting.{facts, job, letter, opening, plan, registries, sized, stack_name, token}
+use Rattle.history_examples.specs.Sentences.{Completes, Holds, Marks, Sentence}
+use Rattle.history_examples.specs.Setting.{facts, item, item_name, job, letter, opening, plan, registries, says, sized}
+use Rattle.history_examples.specs.Setting.{stack_name, token}
 use Rattle.history_examples.specs.Spoiled.{IsNoRun}
 use Rattle.history_examples.specs.Updates.{update_tells}
 use Rattle.history_examples.proofs.Created.{run_asked}
+use Rattle.history_examples.proofs.Kept.{fits_still, mark_keeps, not_completes}
 use Rattle.history_examples.proofs.Possible.{begun_states, ready_states, some_ready}
-use Rattle.history_examples.proofs.Spoiled.{no_run, runs_have_headline}
+use Rattle.history_examples.proofs.Sentences.{no_run, of_two, runs_have_headline, within}
 use Rattle.history_examples.proofs.Steps.{by_call, by_turn}
 use Rattle.history_examples.proofs.Updates.{overrun, run_updated, told_again}
+use Rattle.core_state.specs.declared.entry.What.TheVariants as what
 use Rattle.core_state.specs.declared.change.Change.TheVariants as change_to
 use Rattle.core_state.specs.declared.entry.Why.TheVariants as why
 use Rattle.heat_plan.specs.declared.calls.Answered.TheVariants as reply
 use Rattle.heat_plan.specs.declared.calls.Request.TheVariants as request
 use Rattle.step_relation.specs.Asks as ask
 
-run_overtaken : Run registries opening.state overtaken (until_asked false ++ update_tells 2)
+pub run_overtaken : Run registries opening.state overtaken (until_asked false ++ update_tells 2)
 run_overtaken =
     run_updated Create (λ is. cc) InProgress (sized 1) None (Some 1) 1 InProgress false
     (job 1 (letter 1 1 0) 1 Polling ∷ []) 2
@@ -113,14 +124,44 @@ is_overtaken = record {
 abbrev newer : Latest
 newer = record { trav = 2; act = Update; plan = Some (plan 2) }
 
-old_mark : (judges : List Judges) (s : StateData) → ¬ Headline judges opening marked_though_overtaken s
+abbrev old : Entry
+old = says (Engine 1) (what.Mark stack_name 1 Create None)
+
+old_mark : ¬ Holds Marks opening until_late old
 unfolding at
-old_mark judges s h =
-    let it = (h.entries 14 _ refl).marks stack_name 1 Create None refl in
+old_mark holds =
+    let it = holds stack_name 1 Create None refl in
     let same : newer ≡ it.it = same_some newer it.it refl it.is_newest in
     let trav : 2 ≡ it.it.trav = ap (λ (l : Latest). l.trav) same in
     omega (arith, trav, it.same)
 
-pub though_overtaken : IsNoRun marked_though_overtaken
+-- what is alive is of the old size
+not_sized : (called : Bool) (it : Living) → ready_states called ≡ Some it ∷ [] → it.props ≢ sized 2
 unfolding ready_states begun_states
-though_overtaken = no_run marked_though_overtaken (λ t. some_ready (same_token (token 1) t)) old_mark
+not_sized true it is same =
+    let one : sized 1 ≡ it.props = cc in
+    let size : sized 1 ≡ sized 2 = one ∙ same in cc
+not_sized false it is same = cc
+
+misfit : ¬ Fits opening until_late stack_name (plan 2)
+unfolding ready_states begun_states resolve
+misfit fits =
+    let it : HasExactly opening until_late stack_name (plan 2) (item 2) =
+    All-head (HasExactly opening until_late stack_name (plan 2)) (item 2) [] fits.each in
+    let props : Props (sized 2) ≡ Props it.it.props = it.props in
+    let same : sized 2 ≡ it.it.props = cc in
+    not_sized (same_token (token 1) (token_at stack_name item_name it.row)) it.it it.state (sym same)
+
+pub though_overtaken : IsNoRun marked_though_overtaken
+unfolding ready_states begun_states at
+though_overtaken = no_run marked_though_overtaken registries freed release_tells run_freed
+    (λ t. some_ready (same_token (token 1) t)) Marks (in_head (Completes ∷ []) Marks)
+    (of_two (λ (y : Sentence). ¬ Holds y opening until_late old) Marks Completes old_mark
+    (not_completes until_late late_right (Engine 1) stack_name 1 Create newer refl misfit))
+    (mark_keeps until_late late_right (Engine 1) stack_name 1 Create (Marks ∷ Completes ∷ [])
+    (λ not. absurd (not (in_head (Completes ∷ []) Marks)))
+    (λ not. absurd (not (in_tail (Completes ∷ []) Marks Completes (in_head [] Completes))))
+    (λ not. fits_still until_late late_right (Engine 1) stack_name 1 Create (λ is. cc)))
+  where
+    late_right : AtPrefix opening until_late
+    late_right = within registries freed until_late release_tells main_theorem

@@ -3,6 +3,7 @@ use Rattle.std.proofs.Common.{Bool, List, None, [], false, true, ◌∷◌, ◌�
 use Rattle.std.specs.Prelude.{codes, if◌then◌else◌}
 use Rattle.provider.specs.Table.{TokenState, after_each}
 use Rattle.history_examples.specs.Completed.{facts_two}
+use Rattle.history_examples.specs.InPlace.{facts_now}
 use Rattle.history_examples.specs.Setting.{facts, sized}
 use Rattle.heat_plan.specs.declared.calls.Answered.TheVariants as reply
 use Rattle.heat_plan.specs.declared.calls.Request.TheVariants as request
@@ -37,6 +38,20 @@ pub some_told : (called : Bool) → told_states called ≢ []
 unfolding told_states ready_states begun_states
 some_told true is = cc
 some_told false is = cc
+
+-- and an update to another size began, and it became ready again
+unfoldable pub changed_states : Bool → List TokenState
+unfolding ready_states begun_states
+changed_states called =
+    if called then after_each request.Poll (reply.Ready facts_now)
+    (if called then after_each (request.Update (sized 2)) reply.Begun (ready_states called) else ready_states called)
+    else (if called then after_each (request.Update (sized 2)) reply.Begun (ready_states called) else
+    ready_states called)
+
+pub some_changed : (called : Bool) → changed_states called ≢ []
+unfolding changed_states ready_states begun_states
+some_changed true is = cc
+some_changed false is = cc
 
 -- its create failed
 unfoldable pub failed_states : Bool → List TokenState

@@ -1,13 +1,16 @@
 -- The take-over, step by step: `is_taken_over`; and what the spoiled history breaks.
-use Rattle.std.proofs.Common.{List, None, Some, [], arith, false, refl, ◌∷◌, ◌≡◌, ◌≢◌}
+use Rattle.std.proofs.Common.{None, Some, [], arith, false, refl, ◌++◌, ◌∷◌, ◌≡◌, ◌≢◌}
 use Rattle.heat_plan.specs.Tables.{at, cut, put}
 use Rattle.heat_plan.specs.declared.phase.Status.TheVariants.{InProgress}
+use Rattle.heat_plan.specs.declared.token.Token.{Token}
 use Rattle.traversal_graph.specs.declared.shape.Node.TheVariants.{U}
 use Rattle.provider.specs.Same.{same_token}
 use Rattle.row_table.specs.Chains.{ends}
 use Rattle.mail_table.specs.declared.mail.Stage.TheVariants.{Asking, Polling, Taken}
-use Rattle.core_state.specs.State.{StateData}
 use Rattle.core_state.specs.declared.change.Change.TheVariants.{Drop, EndJob, PutJob, PutRow, Send, Stop}
+use Rattle.core_state.specs.declared.entry.Actor.TheVariants.{Engine}
+use Rattle.core_state.specs.declared.entry.Entry.{Entry}
+use Rattle.core_state.specs.declared.entry.RowWrite.TheVariants.{Purge}
 use Rattle.hot_resolve.specs.Resolve.{resolve}
 use Rattle.type_catalog.specs.Changes.{same}
 use Rattle.type_catalog.specs.declared.effect.Effect.TheVariants.{Same}
@@ -15,29 +18,34 @@ use Rattle.step_relation.specs.Begins.{Begins}
 use Rattle.step_relation.specs.Freshness.{IsFresh, updates}
 use Rattle.step_relation.specs.Given.{Nothing, Prepared}
 use Rattle.step_relation.specs.Moves.{begin_resumed, take_free, takeover_fresh}
-use Rattle.step_relation.specs.Runs.{Judges, Run, goes_on, nothing, props}
+use Rattle.step_relation.specs.Runs.{Run, goes_on, nothing, props}
 use Rattle.step_relation.specs.Steps.{stop}
 use Rattle.step_relation.specs.Takes.{Relays, Takes}
 use Rattle.step_relation.specs.Targets.{of_u}
 use Rattle.step_relation.specs.Turns.{plain, unfailed}
+use Rattle.step_relation.specs.Unjudged.{unjudged}
+use Rattle.history.specs.Could.{could_of}
 use Rattle.history.specs.Tokens.{HasRow}
 use Rattle.soundness.specs.Headline.{Headline}
 use Rattle.edge_laws.proofs.Keeping.{only_one}
 use Rattle.table_laws.proofs.Puts.{contains_head, contains_none}
 use Rattle.table_laws.proofs.Rows.{job-key, letter-key}
+use Rattle.next_laws.proofs.Listings.{in_head}
 use Rattle.history_examples.specs.Created.{asked, graph, point, stack, until_asked}
 use Rattle.history_examples.specs.FirstRow.{row_begun}
-use Rattle.history_examples.specs.Setting.{item, item_name, job, letter, living, opening, registries, sized, token}
-use Rattle.history_examples.specs.Setting.{unjudged}
+use Rattle.history_examples.specs.Sentences.{Holds, Named, Rows, Sentence}
+use Rattle.history_examples.specs.Setting.{item, item_name, job, letter, living, opening, registries, row_writes, sized}
+use Rattle.history_examples.specs.Setting.{token}
 use Rattle.history_examples.specs.Spoiled.{IsNoRun}
 use Rattle.history_examples.specs.TakenOver.{IsTakenOver, history, keep_tells, kept, purged_at_the_take_over}
 use Rattle.history_examples.specs.TakenOver.{relay_tells, relayed, resume_tells, resumed, row_free, row_kept}
 use Rattle.history_examples.specs.TakenOver.{stop_tells, stopped, until_kept, until_relayed, until_stopped}
 use Rattle.history_examples.proofs.Created.{run_asked}
 use Rattle.history_examples.proofs.Finds.{each_job, each_letter}
+use Rattle.history_examples.proofs.Kept.{write_keeps}
 use Rattle.history_examples.proofs.Lists.{not_done, requires_none}
 use Rattle.history_examples.proofs.Possible.{begun_states, some_begun}
-use Rattle.history_examples.proofs.Spoiled.{no_run, runs_have_headline}
+use Rattle.history_examples.proofs.Sentences.{no_run, of_one, runs_have_headline, within}
 use Rattle.history_examples.proofs.Steps.{by_turn}
 use Rattle.core_state.specs.declared.change.Change.TheVariants as change_to
 use Rattle.step_relation.specs.Inputs as input
@@ -45,7 +53,7 @@ use Rattle.step_relation.specs.Inputs as input
 run_stopped : Run registries opening.state stopped until_stopped
 unfolding at put cut
 run_stopped = goes_on unjudged (asked false) stopped (Stop 1 ∷ []) (until_asked false) stop_tells _ run_asked
-    (stop 1 (contains_head 1 (2 ∷ [])) refl refl) (contains_head unjudged []) tt refl refl
+    (stop 1 (contains_head 1 (2 ∷ [])) refl refl) (contains_head unjudged []) tt tt refl refl
 
 -- the second engine takes the job over
 relays : Relays stopped 2 1
@@ -159,16 +167,30 @@ unfolding at put cut
 is_taken_over = record { run = run_resumed; headline = main_theorem; mark = refl; alive = refl; rows = refl }
 
 -- no row names what is alive
-nameless : HasRow opening purged_at_the_take_over (token 1) → ⊥
+abbrev purge : Entry
+purge = row_writes 2 (Purge 1 ∷ [])
+
+nameless : HasRow opening (until_stopped ++ purge ∷ []) (token 1) → ⊥
 unfolding at put cut
 nameless w = let none : None ≡ Some w.row = w.found in cc
 
-unnamed : (judges : List Judges) (s : StateData) → ¬ Headline judges opening purged_at_the_take_over s
-unnamed judges s h = nameless ((h.prefixes 11 (omega arith)).named (token 1) (record {
+unnamed : ¬ Holds Named opening until_stopped purge
+unnamed named = nameless (named (token 1) (record {
   lives = record { it = living 1 None; among = contains_head (Some (living 1 None)) [] };
   owned = λ c. contains_none (token 1) c;
 }))
 
+no_rows : Holds Rows opening until_stopped purge
+unfolding at put cut
+no_rows n r state found among = let none : None ≡ Some r = found in cc
+
 pub purged : IsNoRun purged_at_the_take_over
 unfolding begun_states
-purged = no_run purged_at_the_take_over (λ t. some_begun (same_token (token 1) t)) unnamed
+purged = no_run purged_at_the_take_over registries stopped [] run_stopped some Named (in_head [] Named)
+    (of_one (λ (y : Sentence). ¬ Holds y opening until_stopped purge) Named unnamed)
+    (write_keeps until_stopped (Engine 2) (Purge 1 ∷ []) (Named ∷ [])
+    (within registries stopped until_stopped [] (runs_have_headline registries stopped until_stopped run_stopped some))
+    (λ not. absurd (not (in_head [] Named))) (λ not. no_rows))
+  where
+    some : (t : Token) → could_of opening until_stopped t ≢ []
+    some t = some_begun (same_token (token 1) t)

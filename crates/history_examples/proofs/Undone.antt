@@ -2,17 +2,19 @@
 use Rattle.std.proofs.Common.{List, None, Some, [], arith, refl, suc, zero, ◌∷◌, ◌≡◌, ◌≢◌}
 use Rattle.std.specs.Prelude.{length}
 use Rattle.heat_plan.specs.Tables.{at, cut, put}
+use Rattle.heat_plan.specs.declared.item.Policy.{Policy}
 use Rattle.heat_plan.specs.declared.phase.Act.TheVariants.{Delete, Rollback}
 use Rattle.heat_plan.specs.declared.phase.Status.TheVariants.{Failed}
 use Rattle.traversal_graph.specs.declared.shape.Node.TheVariants.{C}
+use Rattle.heat_plan.specs.declared.token.Token.{Token}
 use Rattle.provider.specs.Same.{same_token}
 use Rattle.mail_table.specs.declared.mail.Stage.{Stage}
 use Rattle.mail_table.specs.declared.mail.Stage.TheVariants.{Asking, Ending, Polling, Taken}
 use Rattle.core_state.specs.Changes.{put_point}
-use Rattle.core_state.specs.State.{StateData}
 use Rattle.core_state.specs.declared.change.Change.{Change}
 use Rattle.core_state.specs.declared.change.Change.TheVariants.{Drop, DropRow, EndJob, PutJob, PutPoint, PutRow}
 use Rattle.core_state.specs.declared.change.Change.TheVariants.{PutStack}
+use Rattle.core_state.specs.declared.entry.Actor.TheVariants.{Engine}
 use Rattle.step_relation.specs.Asks.{Calls, by_failure, deletes, looks, marks}
 use Rattle.step_relation.specs.Cleanups.{Cleans}
 use Rattle.step_relation.specs.Finishes.{Finishes}
@@ -22,40 +24,44 @@ use Rattle.step_relation.specs.Inputs.{AllDone}
 use Rattle.step_relation.specs.Moves.{ask_begun, ask_failed, clean_deleted, finish_last, poll_failed, poll_gone}
 use Rattle.step_relation.specs.Moves.{take_free}
 use Rattle.step_relation.specs.Rows.{failed_row}
-use Rattle.step_relation.specs.Runs.{Judges, Run, nothing}
+use Rattle.step_relation.specs.Runs.{Run, nothing}
 use Rattle.step_relation.specs.Takes.{Takes}
 use Rattle.step_relation.specs.Targets.{of_c}
 use Rattle.step_relation.specs.Turns.{plain, stays, unfailed}
 use Rattle.history.specs.Could.{IsPossible}
+use Rattle.history.specs.Fits.{Fits}
 use Rattle.history.specs.Tokens.{IsCertain}
 use Rattle.soundness.specs.Headline.{Headline}
 use Rattle.table_laws.proofs.Puts.{contains_head, contains_none}
 use Rattle.table_laws.proofs.Rows.{letter-key}
-use Rattle.history_examples.specs.FailedFirst.{row_failed}
-use Rattle.history_examples.specs.RolledBack.{going_back, graph_back, stack_back}
+use Rattle.history_examples.specs.FailedFirst.{row_failed_under}
+use Rattle.history_examples.specs.RolledBack.{going_back, going_back_under, graph_back, stack_back}
 use Rattle.history_examples.specs.Setting.{letter, living, opening, registries, stack_name, token}
 use Rattle.history_examples.specs.Spoiled.{IsNoRun}
-use Rattle.history_examples.specs.Undone.{IsUndone, clean_tells, cleaning, cleans, complete_tells, done, going}
-use Rattle.history_examples.specs.Undone.{going_tells, gone, gone_tells, graph_done, history, leave_tells, leaving}
-use Rattle.history_examples.specs.Undone.{marked_in_doubt, row_held, row_leaving, stack_undone, undone, until_cleaning}
-use Rattle.history_examples.specs.Undone.{until_going, until_gone, until_leaving}
+use Rattle.history_examples.specs.Undone.{IsUndone, clean_tells, cleaning, cleaning_under, cleans, complete_tells, done}
+use Rattle.history_examples.specs.Undone.{going, going_tells, gone, gone_tells, graph_done, history, leave_tells}
+use Rattle.history_examples.specs.Undone.{leaving}
+use Rattle.history_examples.specs.Undone.{marked_in_doubt, row_held, row_held_under, row_leaving, stack_undone, undone}
+use Rattle.history_examples.specs.Undone.{until_cleaning, until_cleaning_under, until_going, until_gone, until_leaving}
 use Rattle.history_examples.specs.Updates.{open_point}
 use Rattle.history_examples.proofs.Finds.{each_job, each_letter}
+use Rattle.history_examples.proofs.Kept.{incomplete}
 use Rattle.history_examples.proofs.Lists.{lists_none, not_done}
 use Rattle.history_examples.proofs.Possible.{failed_states, some_failed, some_undone, undone_states}
 use Rattle.history_examples.proofs.RolledBack.{run_back}
-use Rattle.history_examples.proofs.Spoiled.{no_run, runs_have_headline}
+use Rattle.history_examples.proofs.Sentences.{runs_have_headline, within}
 use Rattle.history_examples.proofs.Steps.{by_call, by_turn}
 use Rattle.core_state.specs.declared.entry.Why.TheVariants as why
+use Rattle.heat_plan.specs.declared.item.Policy.TheVariants as policies
 use Rattle.heat_plan.specs.declared.calls.Answered.TheVariants as reply
 use Rattle.heat_plan.specs.declared.calls.Request.TheVariants as request
 use Rattle.history_examples.specs.RolledBack as before
 use Rattle.step_relation.specs.Freshness as serve
 
 -- the letter for the clean-up node is taken
-takes : Takes going_back 1
+takes : (policy : Policy) → Takes (going_back_under policy) 1
 unfolding at
-takes = record {
+takes policy = record {
   letter = letter 2 2 0;
   next = record {
     live = contains_head 1 (2 ∷ []);
@@ -74,29 +80,31 @@ takes = record {
       stack = stack_back;
       graph = graph_back;
       node = C 1;
-      row = Some row_failed;
+      row = Some (row_failed_under policy);
       names = record { in_table = refl; newest = refl; its_graph = refl; its_node = refl };
       found = refl;
-      serves = serve.cleans 1 (Some row_failed);
+      serves = serve.cleans 1 (Some (row_failed_under policy));
     };
     to = of_c 1;
   };
   open_ = λ d. not_done (open_point 0) d.point refl d.there d.done;
 }
 
-run_cleaning : Run registries opening.state cleaning until_cleaning
+pub run_cleaning : (policy : Policy)
+    → Run registries opening.state (cleaning_under policy) (until_cleaning_under policy)
 unfolding at put cut takes
-run_cleaning =
-    by_turn going_back cleaning (PutRow row_held ∷ Drop 2 ∷ PutJob (cleans Taken) ∷ []) before.history clean_tells
-    run_back refl
+run_cleaning policy = by_turn (going_back_under policy) (cleaning_under policy)
+    (PutRow (row_held_under policy) ∷ Drop 2 ∷ PutJob (cleans Taken) ∷ []) (before.history_under policy)
+    (clean_tells policy) (run_back policy) refl
     1 Nothing (λ a is. cc)
-    (plain None (take_free takes _ _ (λ g j at_g. each_job (λ j. j.row ≢ 1) [] tt g j at_g) refl refl) unfailed) refl
-    nothing
+    (plain None (take_free (takes policy) _ _ (λ g j at_g. each_job (λ j. j.row ≢ 1) [] tt g j at_g) refl refl)
+    unfailed)
+    refl nothing
 
 -- no plan has the row's name any more: it is to go
-begins_ : Cleans cleaning 1
+unfoldable pub begins_ : (policy : Policy) → Cleans (cleaning_under policy) 1
 unfolding at
-begins_ = record {
+begins_ policy = record {
   job = cleans Taken;
   stack = stack_back;
   graph = graph_back;
@@ -108,8 +116,9 @@ begins_ = record {
 run_leaving : Run registries opening.state leaving until_leaving
 unfolding at put cut begins_
 run_leaving = by_turn cleaning leaving (PutRow row_leaving ∷ PutJob (cleans Asking) ∷ []) until_cleaning leave_tells
-    run_cleaning refl
-    1 Nothing (λ a is. cc) (plain None (clean_deleted begins_ row_held _ _ refl (λ kept. contains_none _ kept.planned)
+    (run_cleaning policies.Delete) refl
+    1 Nothing (λ a is. cc)
+    (plain None (clean_deleted (begins_ policies.Delete) row_held _ _ refl (λ kept. contains_none _ kept.planned)
     (λ is. cc) (λ stuck. let act = stuck.act in cc) (λ is. cc) refl refl) unfailed) refl nothing
 
 -- the cloud is asked for that, and what a failure would do
@@ -156,9 +165,9 @@ run_gone = by_call going gone (DropRow 1 ∷ PutJob (cleans Ending) ∷ []) unti
     (stays stack_back (λ due. let no_ = due.asked in cc))) refl
 
 -- the only node is done
-finishes : Finishes gone 1
+unfoldable pub finishes : (given : List Token) → Finishes (record gone { released = given }) 1
 unfolding at
-finishes = record {
+finishes given = record {
   job = cleans Ending;
   works = record { live = contains_head 1 (2 ∷ []); its = refl; stage_is = refl };
   fresh = record {
@@ -176,7 +185,7 @@ finishes = record {
   ready_are = lists_none _ (λ k it. contains_none k it.0);
 }
 
-all_done : AllDone graph_done
+pub all_done : AllDone graph_done
 all_done zero node is = record { point = done; there = refl; done = refl }
 all_done (suc i) node is = cc
 
@@ -184,7 +193,8 @@ run_undone : Run registries opening.state undone history
 unfolding at put cut put_point finishes
 run_undone = by_turn gone undone (EndJob 1 ∷ PutPoint done ∷ PutStack stack_undone ∷ []) until_gone complete_tells
     run_gone refl 1 Nothing (λ a is. cc)
-    (plain None (finish_last finishes _ _ (record { all = all_done; unmarked = refl }) refl refl) unfailed) refl nothing
+    (plain None (finish_last (finishes []) _ _ (record { all = all_done; unmarked = refl }) refl refl) unfailed)
+    refl nothing
 
 possible : IsPossible opening history
 unfolding undone_states failed_states
@@ -209,13 +219,18 @@ is_undone = record {
 in_doubt : IsCertain (None ∷ Some (living 1 None) ∷ []) → ⊥
 in_doubt it = let alone : None ∷ Some (living 1 None) ∷ [] ≡ it.state ∷ [] = it.alone in cc
 
-doubted : (judges : List Judges) (s : StateData) → ¬ Headline judges opening marked_in_doubt s
-unfolding at
-doubted judges s h =
-    let it = (h.entries 13 _ refl).completes stack_name 2 Rollback
-    (record { trav = 2; act = Rollback; plan = Some (plan_of None) }) refl refl in
-    in_doubt (it.certain (token 1) refl (λ c. contains_none (token 1) c))
+doubted : ¬ Fits opening before.history stack_name (plan_of None)
+doubted fits = in_doubt (fits.certain (token 1) refl (λ c. contains_none (token 1) c))
 
 pub not_in_doubt : IsNoRun marked_in_doubt
-unfolding failed_states
-not_in_doubt = no_run marked_in_doubt (λ t. some_failed (same_token (token 1) t)) doubted
+unfolding failed_states at
+not_in_doubt = incomplete before.history (within registries going_back before.history [] right) (Engine 1)
+    stack_name 2 Rollback (record { trav = 2; act = Rollback; plan = Some (plan_of None) }) refl doubted refl
+    refl refl refl
+    registries going_back [] (run_back policies.Delete) some
+  where
+    some : IsPossible opening before.history
+    some t = some_failed (same_token (token 1) t)
+
+    right : Headline registries opening before.history going_back
+    right = runs_have_headline registries going_back before.history (run_back policies.Delete) some

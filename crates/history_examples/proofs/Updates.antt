@@ -5,6 +5,7 @@ use Rattle.std.proofs.Common.{ℕ, ◌+◌, ◌∷◌, ◌≡◌, ◌≢◌}
 use Rattle.std.specs.Prelude.{Contains, ltb, ◌++◌, ◌^◌}
 use Rattle.heat_value.specs.Data.{Members}
 use Rattle.heat_plan.specs.Plans.{PlanData}
+use Rattle.heat_plan.proofs.OneItem.{one_is_plan}
 use Rattle.heat_plan.specs.Tables.{at, cut, put}
 use Rattle.heat_plan.specs.declared.facts.Facts.{Facts}
 use Rattle.heat_plan.specs.declared.phase.Act.{Act}
@@ -48,7 +49,6 @@ use Rattle.history_examples.specs.Updates.{again, graph_two, left, open_point, r
 use Rattle.history_examples.specs.Updates.{retaken, row_two, stack_two, two_nodes, update_tells, updated}
 use Rattle.history_examples.proofs.Finds.{each_job, each_letter, each_row}
 use Rattle.history_examples.proofs.Lists.{lists_one, no_path, not_done, one_sorted, requires_none}
-use Rattle.history_examples.proofs.Plans.{one_is_plan}
 use Rattle.history_examples.proofs.Steps.{by_command, by_turn}
 use Rattle.core_state.specs.declared.change.Change.TheVariants as change_to
 use Rattle.step_relation.specs.Commands as lay
@@ -208,7 +208,7 @@ module _ (a : Act) (kept : a ≢ Delete) (status : Status) (p : Members) (f : Op
         (rw small refl)
         nothing
 
-    begins_ : Begins (retaken size back r) 1
+    unfoldable pub begins_ : Begins (retaken size back r) 1
     unfolding at
     begins_ = record {
       job = job 1 (letter 2 2 0) 1 Taken;

@@ -25,8 +25,10 @@ use Rattle.history.specs.Stored.{stored}
 use Rattle.soundness.specs.Headline.{Headline}
 use Rattle.history_examples.specs.FirstRow.{row_done}
 use Rattle.history_examples.specs.Overtaken.{freed}
+use Rattle.history_examples.specs.Sentences.{CompleteFits, Completes}
 use Rattle.history_examples.specs.Setting.{item_name, job, letter, living, mail_writes, opening, plan, registries}
 use Rattle.history_examples.specs.Setting.{row_writes, says, sized, stack_name, token}
+use Rattle.history_examples.specs.Spoiled.{Spoiled}
 use Rattle.history_examples.specs.Updates.{again, left, open_point, replace_tells, retake_tells, row_two, stack_two}
 use Rattle.history_examples.specs.Updates.{two_nodes}
 use Rattle.heat_plan.specs.declared.calls.Answered.TheVariants as answer
@@ -208,5 +210,9 @@ pub record IsCompleted : Type 0 where
   pub rows : stored opening history ≡ row_made ∷ []
 
 -- spoiled: it is marked complete once the update node is done, before the clean-up
-abbrev pub complete_before_clean_up : List Entry
-complete_before_clean_up = until_made ++ says (Engine 1) (what.Mark stack_name 2 Update None) ∷ []
+abbrev pub complete_before_clean_up : Spoiled
+complete_before_clean_up = record {
+  before = until_made;
+  entry = says (Engine 1) (what.Mark stack_name 2 Update None);
+  broken = Completes ∷ CompleteFits ∷ [];
+}

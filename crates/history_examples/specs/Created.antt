@@ -1,5 +1,7 @@
 -- A stack is created: command, take, begin, ask, poll, finish. The main theorem's first example.
 use Rattle.std.specs.Prelude.{Bool, List, None, Some, [], codes, false, true, ◌++◌, ◌∷◌, ◌≡◌}
+use Rattle.heat_plan.specs.declared.item.Policy.{Policy}
+use Rattle.heat_plan.specs.declared.item.Policy.TheVariants.{Delete}
 use Rattle.heat_plan.specs.declared.phase.Act.TheVariants.{Create}
 use Rattle.heat_plan.specs.declared.phase.Status.{Status}
 use Rattle.heat_plan.specs.declared.phase.Status.TheVariants.{Complete, InProgress}
@@ -21,8 +23,9 @@ use Rattle.history.specs.Fits.{Fits}
 use Rattle.history.specs.Marked.{Completed, mark_of}
 use Rattle.history.specs.Stored.{stored}
 use Rattle.soundness.specs.Headline.{Headline}
-use Rattle.history_examples.specs.FirstRow.{row_begun, row_done, row_made, row_ready, row_taken}
+use Rattle.history_examples.specs.FirstRow.{row_begun_under, row_done, row_made_under, row_ready, row_taken_under}
 use Rattle.history_examples.specs.Setting.{facts, item_name, job, letter, living, mail_writes, opening, plan}
+use Rattle.history_examples.specs.Setting.{plan_under}
 use Rattle.history_examples.specs.Setting.{registries}
 use Rattle.history_examples.specs.Setting.{row_writes, says, sized, stack_name, token}
 use Rattle.heat_plan.specs.declared.calls.Answered.TheVariants as answer
@@ -30,8 +33,18 @@ use Rattle.heat_plan.specs.declared.calls.Request.TheVariants as request
 use Rattle.core_state.specs.declared.entry.What.TheVariants as what
 
 -- the stack's first traversal, and its graph of one node
+abbrev pub stack_under : Policy → Status → Stack
+stack_under policy status = record {
+  name = stack_name;
+  no = 1;
+  trav = 1;
+  act = Create;
+  status = status;
+  plan = Some (plan_under policy 1);
+}
+
 abbrev pub stack : Status → Stack
-stack status = record { name = stack_name; no = 1; trav = 1; act = Create; status = status; plan = Some (plan 1) }
+stack = stack_under Delete
 
 abbrev pub one_node : TravGraph
 one_node = record { nodes = U item_name 1 ∷ []; edges = [] }
@@ -46,12 +59,12 @@ abbrev pub past : Bool → Past
 past rollback = record { stack = stack_name; rollback = rollback; back = None }
 
 -- the states behind each step; a failure is rolled back, or isn't
-abbrev pub commanded : Bool → StateData
-commanded rollback = record {
-  stacks = stack InProgress ∷ [];
+abbrev pub commanded_under : Policy → Bool → StateData
+commanded_under policy rollback = record {
+  stacks = stack_under policy InProgress ∷ [];
   graphs = graph false ∷ [];
   pasts = past rollback ∷ [];
-  rows = row_made ∷ [];
+  rows = row_made_under policy ∷ [];
   letters = letter 1 1 0 ∷ [];
   jobs = [];
   live = 1 ∷ 2 ∷ [];
@@ -59,12 +72,24 @@ commanded rollback = record {
   next = record { stack = 2; trav = 2; row = 2; engine = 3; letter = 2 };
 }
 
-abbrev pub taken : Bool → StateData
-taken rollback =
-    record (commanded rollback) { rows = row_taken ∷ []; letters = []; jobs = job 1 (letter 1 1 0) 1 Taken ∷ [] }
+abbrev pub taken_under : Policy → Bool → StateData
+taken_under policy rollback = record (commanded_under policy rollback) {
+  rows = row_taken_under policy ∷ [];
+  letters = [];
+  jobs = job 1 (letter 1 1 0) 1 Taken ∷ [];
+}
+
+abbrev pub begun_under : Policy → Bool → StateData
+begun_under policy rollback = record (taken_under policy rollback) {
+  rows = row_begun_under policy ∷ [];
+  jobs = job 1 (letter 1 1 0) 1 Asking ∷ [];
+}
+
+abbrev pub commanded : Bool → StateData
+commanded = commanded_under Delete
 
 abbrev pub begun : Bool → StateData
-begun rollback = record (taken rollback) { rows = row_begun ∷ []; jobs = job 1 (letter 1 1 0) 1 Asking ∷ [] }
+begun = begun_under Delete
 
 abbrev pub asked : Bool → StateData
 asked rollback = record (begun rollback) { jobs = job 1 (letter 1 1 0) 1 Polling ∷ [] }
@@ -77,19 +102,22 @@ created rollback =
     record (ready rollback) { stacks = stack Complete ∷ []; graphs = graph true ∷ []; rows = row_done ∷ []; jobs = [] }
 
 -- what each step tells
-abbrev pub command_tells : Bool → List Entry
-command_tells rollback =
-    says Main (what.Command stack_name 1 Create (Some (plan 1)) rollback)
-    ∷ says Main (what.Rows (Set row_made ∷ []))
+abbrev pub command_tells : Policy → Bool → List Entry
+command_tells policy rollback =
+    says Main (what.Command stack_name 1 Create (Some (plan_under policy 1)) rollback)
+    ∷ says Main (what.Rows (Set (row_made_under policy) ∷ []))
     ∷ says Main (what.Mail (Sent (letter 1 1 0) ∷ []))
     ∷ []
 
-abbrev pub take_tells : List Entry
-take_tells = row_writes 1 (Set row_taken ∷ []) ∷ mail_writes 1 (Dropped 1 ∷ Held (job 1 (letter 1 1 0) 1 Taken) ∷ [])
+abbrev pub take_tells : Policy → List Entry
+take_tells policy =
+    row_writes 1 (Set (row_taken_under policy) ∷ [])
+    ∷ mail_writes 1 (Dropped 1 ∷ Held (job 1 (letter 1 1 0) 1 Taken) ∷ [])
     ∷ []
 
-abbrev pub begin_tells : List Entry
-begin_tells = row_writes 1 (Set row_begun ∷ []) ∷ mail_writes 1 (Held (job 1 (letter 1 1 0) 1 Asking) ∷ []) ∷ []
+abbrev pub begin_tells : Policy → List Entry
+begin_tells policy =
+    row_writes 1 (Set (row_begun_under policy) ∷ []) ∷ mail_writes 1 (Held (job 1 (letter 1 1 0) 1 Asking) ∷ []) ∷ []
 
 abbrev pub ask_tells : List Entry
 ask_tells =
@@ -112,11 +140,14 @@ finish_tells =
     ∷ []
 
 -- the histories so far
-abbrev pub until_taken : Bool → List Entry
-until_taken rollback = command_tells rollback ++ take_tells
+abbrev pub until_taken : Policy → Bool → List Entry
+until_taken policy rollback = command_tells policy rollback ++ take_tells policy
+
+abbrev pub until_begun_under : Policy → Bool → List Entry
+until_begun_under policy rollback = until_taken policy rollback ++ begin_tells policy
 
 abbrev pub until_begun : Bool → List Entry
-until_begun rollback = until_taken rollback ++ begin_tells
+until_begun = until_begun_under Delete
 
 abbrev pub until_asked : Bool → List Entry
 until_asked rollback = until_begun rollback ++ ask_tells

@@ -24,8 +24,10 @@ use Rattle.history.specs.Stored.{stored}
 use Rattle.soundness.specs.Headline.{Headline}
 use Rattle.history_examples.specs.Completed.{facts_two, row_made, row_old, row_ready}
 use Rattle.history_examples.specs.DeletedHalfway.{deleting, two_rows}
+use Rattle.history_examples.specs.Sentences.{CompleteFits, Completes}
 use Rattle.history_examples.specs.Setting.{job, letter, mail_writes, opening, registries, row_writes, says, sized}
 use Rattle.history_examples.specs.Setting.{stack_name, token}
+use Rattle.history_examples.specs.Spoiled.{Spoiled}
 use Rattle.history_examples.specs.Updates.{open_point}
 use Rattle.heat_plan.specs.declared.calls.Answered.TheVariants as answer
 use Rattle.heat_plan.specs.declared.calls.Request.TheVariants as request
@@ -225,5 +227,9 @@ pub record IsDeleted : Type 0 where
   pub rows : stored opening history ≡ []
 
 -- spoiled: the delete is marked while a row stands, whose resource is alive
-abbrev pub marked_while_a_row_stands : List Entry
-marked_while_a_row_stands = until_dropped ++ says (Engine 1) (what.Mark stack_name 3 Delete None) ∷ []
+abbrev pub marked_while_a_row_stands : Spoiled
+marked_while_a_row_stands = record {
+  before = until_dropped;
+  entry = says (Engine 1) (what.Mark stack_name 3 Delete None);
+  broken = Completes ∷ CompleteFits ∷ [];
+}

@@ -17,7 +17,9 @@ use Rattle.history.specs.Newest.{newest}
 use Rattle.history.specs.Stored.{stored}
 use Rattle.soundness.specs.Headline.{Headline}
 use Rattle.history_examples.specs.FirstRow.{row_done}
+use Rattle.history_examples.specs.Sentences.{CompleteFits, Completes}
 use Rattle.history_examples.specs.Setting.{facts, letter, living, opening, plan, registries, says, stack_name, token}
+use Rattle.history_examples.specs.Spoiled.{Spoiled}
 use Rattle.history_examples.specs.Updates.{left, open_point, replace_tells, replaced, retake_tells, row_two}
 use Rattle.history_examples.specs.Updates.{update_tells}
 use Rattle.core_state.specs.declared.entry.What.TheVariants as what
@@ -72,5 +74,9 @@ pub record IsDeletedHalfway : Type 0 where
   pub rows : stored opening history ≡ left row_done ∷ row_two 2 ∷ []
 
 -- spoiled: the delete is marked complete at once, though a resource is alive
-abbrev pub marked_while_alive : List Entry
-marked_while_alive = history ++ says Main (what.Mark stack_name 3 Delete None) ∷ []
+abbrev pub marked_while_alive : Spoiled
+marked_while_alive = record {
+  before = history;
+  entry = says Main (what.Mark stack_name 3 Delete None);
+  broken = Completes ∷ CompleteFits ∷ [];
+}

@@ -1,5 +1,7 @@
 -- The create fails, and the stack is updated: another row takes the failed one's place.
 use Rattle.std.specs.Prelude.{List, None, Some, [], codes, false, ◌++◌, ◌∷◌, ◌≡◌}
+use Rattle.heat_plan.specs.declared.item.Policy.{Policy}
+use Rattle.heat_plan.specs.declared.item.Policy.TheVariants.{Delete}
 use Rattle.heat_plan.specs.declared.phase.Act.TheVariants.{Create}
 use Rattle.heat_plan.specs.declared.phase.Status.TheVariants.{Failed}
 use Rattle.row_table.specs.declared.row.Row.{Row}
@@ -15,9 +17,11 @@ use Rattle.history.specs.Marked.{FailedFor, Unmarked, mark_of}
 use Rattle.history.specs.Stored.{stored}
 use Rattle.soundness.specs.Headline.{Headline}
 use Rattle.history_examples.specs.Created.{begun, stack, until_begun}
-use Rattle.history_examples.specs.FirstRow.{row_begun}
+use Rattle.history_examples.specs.FirstRow.{row_begun_under}
+use Rattle.history_examples.specs.Sentences.{Asked}
 use Rattle.history_examples.specs.Setting.{item_name, living, mail_writes, opening, registries, row_writes, says, sized}
 use Rattle.history_examples.specs.Setting.{stack_name, token}
+use Rattle.history_examples.specs.Spoiled.{Spoiled}
 use Rattle.history_examples.specs.Updates.{left, replace_tells, replaced, retake_tells, row_two, update_tells}
 use Rattle.heat_plan.specs.declared.calls.Answered.TheVariants as answer
 use Rattle.heat_plan.specs.declared.calls.Request.TheVariants as request
@@ -25,8 +29,11 @@ use Rattle.core_state.specs.declared.entry.What.TheVariants as what
 use Rattle.core_state.specs.declared.entry.Why.TheVariants as why
 
 -- the row whose create failed: what it asked for may be alive, or not
+abbrev pub row_failed_under : Policy → Row
+row_failed_under policy = record (row_begun_under policy) { status = Failed; engine = None; key = 2 }
+
 abbrev pub row_failed : Row
-row_failed = record row_begun { status = Failed; engine = None; key = 2 }
+row_failed = row_failed_under Delete
 
 abbrev pub cause : Cause
 cause = record { name = item_name; row = 1; why = why.Failed Create }
@@ -34,13 +41,16 @@ cause = record { name = item_name; row = 1; why = why.Failed Create }
 abbrev pub failed : StateData
 failed = record (begun false) { stacks = stack Failed ∷ []; rows = row_failed ∷ []; jobs = [] }
 
-abbrev pub fail_tells : List Entry
-fail_tells =
+abbrev pub fail_tells_under : Policy → List Entry
+fail_tells_under policy =
     says (Engine 1) (what.Call (token 1) (request.Create (codes "Box") (sized 1)) answer.Failed)
-    ∷ row_writes 1 (Set row_failed ∷ [])
+    ∷ row_writes 1 (Set (row_failed_under policy) ∷ [])
     ∷ mail_writes 1 (Ended 1 ∷ [])
     ∷ says (Engine 1) (what.Mark stack_name 1 Create (Some cause))
     ∷ []
+
+abbrev pub fail_tells : List Entry
+fail_tells = fail_tells_under Delete
 
 abbrev pub until_failed : List Entry
 until_failed = until_begun false ++ fail_tells
@@ -64,6 +74,9 @@ pub record IsUpdatedAfterFailure : Type 0 where
   pub rows : stored opening history ≡ left row_failed ∷ row_two 1 ∷ []
 
 -- spoiled: the failed row is updated in place, though there may be nothing to update
-abbrev pub asked_of_what_may_be_absent : List Entry
-asked_of_what_may_be_absent =
-    until_retaken ++ says (Engine 1) (what.Call (token 1) (request.Update (sized 1)) answer.Begun) ∷ []
+abbrev pub asked_of_what_may_be_absent : Spoiled
+asked_of_what_may_be_absent = record {
+  before = until_retaken;
+  entry = says (Engine 1) (what.Call (token 1) (request.Update (sized 1)) answer.Begun);
+  broken = Asked ∷ [];
+}

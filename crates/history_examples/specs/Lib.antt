@@ -1,6 +1,7 @@
 pub mod Setting
 pub mod FirstRow
 pub mod Created
+pub mod Sentences
 pub mod Spoiled
 pub mod Updates
 pub mod Overtaken
@@ -11,3 +12,7 @@ pub mod RolledBack
 pub mod Completed
 pub mod Undone
 pub mod Deleted
+pub mod Cancelled
+pub mod Stolen
+pub mod InPlace
+pub mod Retained

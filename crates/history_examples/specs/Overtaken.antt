@@ -16,9 +16,11 @@ use Rattle.soundness.specs.Headline.{Headline}
 use Rattle.soundness.specs.Stir.{EachStirs}
 use Rattle.history_examples.specs.Created.{poll_tells, until_asked}
 use Rattle.history_examples.specs.FirstRow.{row_begun, row_done, row_ready}
+use Rattle.history_examples.specs.Sentences.{Completes, Marks}
 use Rattle.history_examples.specs.Setting.{facts, job, letter, living, mail_writes, opening, plan, registries}
 use Rattle.history_examples.specs.Setting.{row_writes}
 use Rattle.history_examples.specs.Setting.{says, stack_name, token}
+use Rattle.history_examples.specs.Spoiled.{Spoiled}
 use Rattle.history_examples.specs.Updates.{update_tells, updated}
 use Rattle.core_state.specs.declared.entry.What.TheVariants as what
 
@@ -56,5 +58,9 @@ pub record IsOvertaken : Type 0 where
   pub rows : stored opening history ≡ row_done ∷ []
 
 -- spoiled: the old traversal is marked complete, though it isn't the newest
-abbrev pub marked_though_overtaken : List Entry
-marked_though_overtaken = until_late ++ says (Engine 1) (what.Mark stack_name 1 Create None) ∷ []
+abbrev pub marked_though_overtaken : Spoiled
+marked_though_overtaken = record {
+  before = until_late;
+  entry = says (Engine 1) (what.Mark stack_name 1 Create None);
+  broken = Marks ∷ Completes ∷ [];
+}

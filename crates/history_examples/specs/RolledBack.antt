@@ -1,5 +1,7 @@
 -- The create fails and is rolled back: the stack's plan is then to have nothing.
 use Rattle.std.specs.Prelude.{List, None, Some, [], false, true, ◌++◌, ◌∷◌, ◌≡◌}
+use Rattle.heat_plan.specs.declared.item.Policy.{Policy}
+use Rattle.heat_plan.specs.declared.item.Policy.TheVariants.{Delete}
 use Rattle.heat_plan.specs.declared.phase.Act.TheVariants.{Rollback, Update}
 use Rattle.heat_plan.specs.declared.phase.Status.TheVariants.{InProgress}
 use Rattle.traversal_graph.specs.declared.shape.Node.TheVariants.{C}
@@ -17,10 +19,12 @@ use Rattle.history.specs.Marked.{Unmarked, mark_of}
 use Rattle.history.specs.Newest.{newest}
 use Rattle.history.specs.Stored.{stored}
 use Rattle.soundness.specs.Headline.{Headline}
-use Rattle.history_examples.specs.Created.{begun, until_begun}
-use Rattle.history_examples.specs.FailedFirst.{fail_tells, row_failed}
+use Rattle.history_examples.specs.Created.{begun_under, until_begun, until_begun_under}
+use Rattle.history_examples.specs.FailedFirst.{fail_tells, fail_tells_under, row_failed, row_failed_under}
+use Rattle.history_examples.specs.Sentences.{Follows}
 use Rattle.history_examples.specs.Setting.{letter, living, mail_writes, opening, plan, registries, says, stack_name}
 use Rattle.history_examples.specs.Setting.{token}
+use Rattle.history_examples.specs.Spoiled.{Spoiled}
 use Rattle.history_examples.specs.Updates.{open_point}
 use Rattle.core_state.specs.declared.entry.What.TheVariants as what
 
@@ -41,15 +45,18 @@ one_row = record { nodes = C 1 ∷ []; edges = [] }
 abbrev pub graph_back : Graph
 graph_back = record { stack = stack_name; graph = one_row; points = open_point 0 ∷ [] }
 
-abbrev pub going_back : StateData
-going_back = record (begun false) {
+abbrev pub going_back_under : Policy → StateData
+going_back_under policy = record (begun_under policy false) {
   stacks = stack_back ∷ [];
   graphs = graph_back ∷ [];
-  rows = row_failed ∷ [];
+  rows = row_failed_under policy ∷ [];
   letters = letter 2 2 0 ∷ [];
   jobs = [];
   next = record { stack = 2; trav = 3; row = 2; engine = 3; letter = 3 };
 }
+
+abbrev pub going_back : StateData
+going_back = going_back_under Delete
 
 abbrev pub rollback_tells : List Entry
 rollback_tells =
@@ -58,8 +65,11 @@ rollback_tells =
     ∷ []
 
 -- the failure and its rollback are one step
+abbrev pub history_under : Policy → List Entry
+history_under policy = until_begun_under policy true ++ (fail_tells_under policy ++ rollback_tells)
+
 abbrev pub history : List Entry
-history = until_begun true ++ (fail_tells ++ rollback_tells)
+history = history_under Delete
 
 -- the newest traversal is the rollback, and what may be alive is named until it is gone
 pub record IsRolledBack : Type 0 where
@@ -72,6 +82,9 @@ pub record IsRolledBack : Type 0 where
   pub rows : stored opening history ≡ row_failed ∷ []
 
 -- spoiled: the engine commands an update in place of the rollback
-abbrev pub updated_by_an_engine : List Entry
-updated_by_an_engine =
-    until_begun true ++ (fail_tells ++ says (Engine 1) (what.Command stack_name 2 Update (Some (plan 2)) false) ∷ [])
+abbrev pub updated_by_an_engine : Spoiled
+updated_by_an_engine = record {
+  before = until_begun true ++ fail_tells;
+  entry = says (Engine 1) (what.Command stack_name 2 Update (Some (plan 2)) false);
+  broken = Follows ∷ [];
+}

@@ -1,9 +1,10 @@
 -- What every example speaks of: one stack with one resource, and two engines over an empty cloud.
-use Rattle.std.specs.Prelude.{List, None, Option, [], codes, false, pos, ℕ, ◌∷◌}
+use Rattle.std.specs.Prelude.{List, Option, [], codes, false, pos, ℕ, ◌∷◌}
 use Rattle.heat_value.specs.Data.{Members, member, no_members, whole}
 use Rattle.heat_plan.specs.Plans.{PlanData}
 use Rattle.heat_plan.specs.declared.facts.Facts.{Facts}
 use Rattle.heat_plan.specs.declared.item.Item.{Item}
+use Rattle.heat_plan.specs.declared.item.Policy.{Policy}
 use Rattle.heat_plan.specs.declared.item.Policy.TheVariants.{Delete}
 use Rattle.heat_plan.specs.declared.kind.Kind.{Kind}
 use Rattle.heat_plan.specs.declared.token.Token.{Token}
@@ -18,6 +19,7 @@ use Rattle.core_state.specs.declared.entry.RowWrite.{RowWrite}
 use Rattle.core_state.specs.declared.entry.What.{What}
 use Rattle.provider.specs.Table.{Living}
 use Rattle.step_relation.specs.Runs.{Judges}
+use Rattle.step_relation.specs.Unjudged.{unjudged}
 use Rattle.history.specs.Opening.{Opening, empty_opening}
 use Rattle.core_state.specs.declared.entry.What.TheVariants as what
 
@@ -35,12 +37,26 @@ box = record { name = codes "Box"; attrs = []; soft = [] }
 abbrev pub sized : ℕ → Members
 sized size = member (codes "size") (whole (pos size)) no_members
 
--- the plan of one resource, of this size
+-- the plan of one resource, of this policy and this size
+abbrev pub item_under : Policy → ℕ → Item
+item_under policy size = record { name = item_name; kind = box; props = sized size; needs = []; policy = policy }
+
+abbrev pub plan_under : Policy → ℕ → PlanData
+plan_under policy size = record {
+  items = item_under policy size ∷ [];
+  outputs = [];
+  params = no_members;
+  conds = [];
+  files = [];
+  absent = [];
+}
+
+-- which is deleted where it isn't planned any more, but in one example
 abbrev pub item : ℕ → Item
-item size = record { name = item_name; kind = box; props = sized size; needs = []; policy = Delete }
+item = item_under Delete
 
 abbrev pub plan : ℕ → PlanData
-plan size = record { items = item size ∷ []; outputs = []; params = no_members; conds = []; files = []; absent = [] }
+plan = plan_under Delete
 
 -- what the cloud tells of the resource that is ready, and the token of a row
 abbrev pub facts : Facts
@@ -58,9 +74,6 @@ abbrev pub opening : Opening
 opening = empty_opening 2 (λ t. false)
 
 -- one registry, without a judge
-abbrev pub unjudged : Judges
-unjudged name = None
-
 abbrev pub registries : List Judges
 registries = unjudged ∷ []
 

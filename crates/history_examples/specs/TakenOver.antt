@@ -14,8 +14,10 @@ use Rattle.history.specs.Stored.{stored}
 use Rattle.soundness.specs.Headline.{Headline}
 use Rattle.history_examples.specs.Created.{asked, until_asked}
 use Rattle.history_examples.specs.FirstRow.{row_begun}
+use Rattle.history_examples.specs.Sentences.{Named}
 use Rattle.history_examples.specs.Setting.{job, letter, living, mail_writes, opening, registries, row_writes, says}
 use Rattle.history_examples.specs.Setting.{stack_name, token}
+use Rattle.history_examples.specs.Spoiled.{Spoiled}
 use Rattle.core_state.specs.declared.entry.EngineChange.TheVariants as engine
 use Rattle.core_state.specs.declared.entry.What.TheVariants as what
 
@@ -80,5 +82,9 @@ pub record IsTakenOver : Type 0 where
   pub rows : stored opening history ≡ row_kept ∷ []
 
 -- spoiled: the stopped engine's row is purged, though its resource is alive
-abbrev pub purged_at_the_take_over : List Entry
-purged_at_the_take_over = until_stopped ++ row_writes 2 (Purge 1 ∷ []) ∷ []
+abbrev pub purged_at_the_take_over : Spoiled
+purged_at_the_take_over = record {
+  before = until_stopped;
+  entry = row_writes 2 (Purge 1 ∷ []);
+  broken = Named ∷ [];
+}

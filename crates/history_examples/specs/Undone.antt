@@ -1,5 +1,6 @@
 -- The rollback goes on to its end: the failed row is cleaned up, and what it may have asked for is gone.
 use Rattle.std.specs.Prelude.{List, None, Some, [], true, ◌++◌, ◌∷◌, ◌≡◌}
+use Rattle.heat_plan.specs.declared.item.Policy.{Policy}
 use Rattle.heat_plan.specs.declared.phase.Act.TheVariants.{Delete, Rollback}
 use Rattle.heat_plan.specs.declared.phase.Status.TheVariants.{Complete, InProgress}
 use Rattle.row_table.specs.declared.row.Row.{Row}
@@ -21,19 +22,25 @@ use Rattle.history.specs.Fits.{Fits}
 use Rattle.history.specs.Marked.{Completed, mark_of}
 use Rattle.history.specs.Stored.{stored}
 use Rattle.soundness.specs.Headline.{Headline}
-use Rattle.history_examples.specs.FailedFirst.{row_failed}
-use Rattle.history_examples.specs.RolledBack.{going_back, one_row, stack_back}
+use Rattle.history_examples.specs.FailedFirst.{row_failed_under}
+use Rattle.history_examples.specs.RolledBack.{going_back_under, one_row, stack_back}
+use Rattle.history_examples.specs.Sentences.{CompleteFits, Completes}
 use Rattle.history_examples.specs.Setting.{job, letter, mail_writes, opening, registries, row_writes, says, stack_name}
 use Rattle.history_examples.specs.Setting.{token}
+use Rattle.history_examples.specs.Spoiled.{Spoiled}
 use Rattle.history_examples.specs.Updates.{open_point}
 use Rattle.heat_plan.specs.declared.calls.Answered.TheVariants as answer
 use Rattle.heat_plan.specs.declared.calls.Request.TheVariants as request
 use Rattle.core_state.specs.declared.entry.What.TheVariants as what
+use Rattle.heat_plan.specs.declared.item.Policy.TheVariants as policies
 use Rattle.history_examples.specs.RolledBack as before
 
 -- the failed row, taken and leaving
+abbrev pub row_held_under : Policy → Row
+row_held_under policy = record (row_failed_under policy) { engine = Some 1; key = 3 }
+
 abbrev pub row_held : Row
-row_held = record row_failed { engine = Some 1; key = 3 }
+row_held = row_held_under policies.Delete
 
 abbrev pub row_leaving : Row
 row_leaving = record row_held { act = Delete; status = InProgress; trav = 2 }
@@ -52,8 +59,15 @@ abbrev pub stack_undone : Stack
 stack_undone = record stack_back { status = Complete }
 
 -- the states: the row is taken, is to go, is leaving, is gone, and the rollback is complete
+abbrev pub cleaning_under : Policy → StateData
+cleaning_under policy = record (going_back_under policy) {
+  rows = row_held_under policy ∷ [];
+  letters = [];
+  jobs = cleans Taken ∷ [];
+}
+
 abbrev pub cleaning : StateData
-cleaning = record going_back { rows = row_held ∷ []; letters = []; jobs = cleans Taken ∷ [] }
+cleaning = cleaning_under policies.Delete
 
 abbrev pub leaving : StateData
 leaving = record cleaning { rows = row_leaving ∷ []; jobs = cleans Asking ∷ [] }
@@ -68,8 +82,9 @@ abbrev pub undone : StateData
 undone = record gone { stacks = stack_undone ∷ []; graphs = graph_done ∷ []; jobs = [] }
 
 -- what each step tells
-abbrev pub clean_tells : List Entry
-clean_tells = row_writes 1 (Set row_held ∷ []) ∷ mail_writes 1 (Dropped 2 ∷ Held (cleans Taken) ∷ []) ∷ []
+abbrev pub clean_tells : Policy → List Entry
+clean_tells policy =
+    row_writes 1 (Set (row_held_under policy) ∷ []) ∷ mail_writes 1 (Dropped 2 ∷ Held (cleans Taken) ∷ []) ∷ []
 
 abbrev pub leave_tells : List Entry
 leave_tells = row_writes 1 (Set row_leaving ∷ []) ∷ mail_writes 1 (Held (cleans Asking) ∷ []) ∷ []
@@ -89,8 +104,11 @@ abbrev pub complete_tells : List Entry
 complete_tells = mail_writes 1 (Ended 1 ∷ []) ∷ says (Engine 1) (what.Mark stack_name 2 Rollback None) ∷ []
 
 -- the histories so far
+abbrev pub until_cleaning_under : Policy → List Entry
+until_cleaning_under policy = before.history_under policy ++ clean_tells policy
+
 abbrev pub until_cleaning : List Entry
-until_cleaning = before.history ++ clean_tells
+until_cleaning = until_cleaning_under policies.Delete
 
 abbrev pub until_leaving : List Entry
 until_leaving = until_cleaning ++ leave_tells
@@ -114,5 +132,9 @@ pub record IsUndone : Type 0 where
   pub rows : stored opening history ≡ []
 
 -- spoiled: it is marked complete at once, though what failed may be alive
-abbrev pub marked_in_doubt : List Entry
-marked_in_doubt = before.history ++ says (Engine 1) (what.Mark stack_name 2 Rollback None) ∷ []
+abbrev pub marked_in_doubt : Spoiled
+marked_in_doubt = record {
+  before = before.history;
+  entry = says (Engine 1) (what.Mark stack_name 2 Rollback None);
+  broken = Completes ∷ CompleteFits ∷ [];
+}

@@ -2,23 +2,33 @@
 //! Nothing here is run: each function has an empty body and stands for its clause.
 #![tactic(auto)]
 
+ghost use Rattle.history_examples.specs.Cancelled.{IsCancelled, cancelled_by_an_engine};
 ghost use Rattle.history_examples.specs.Completed.{IsCompleted, complete_before_clean_up};
 ghost use Rattle.history_examples.specs.Created.{IsCreated};
 ghost use Rattle.history_examples.specs.Deleted.{IsDeleted, marked_while_a_row_stands};
 ghost use Rattle.history_examples.specs.DeletedHalfway.{IsDeletedHalfway, marked_while_alive};
 ghost use Rattle.history_examples.specs.FailedFirst.{IsUpdatedAfterFailure};
 ghost use Rattle.history_examples.specs.FailedFirst.{asked_of_what_may_be_absent};
+ghost use Rattle.history_examples.specs.InPlace.{IsUpdatedInPlace, updated_without_asking};
 ghost use Rattle.history_examples.specs.Overtaken.{IsOvertaken, marked_though_overtaken};
+ghost use Rattle.history_examples.specs.Retained.{IsRetained, given_up_twice};
 ghost use Rattle.history_examples.specs.RolledBack.{IsRolledBack, updated_by_an_engine};
+ghost use Rattle.history_examples.specs.Sentences.{SentencesAreAll};
 ghost use Rattle.history_examples.specs.Spoiled.{IsNoRun, RunsHaveHeadline, called_when_complete};
 ghost use Rattle.history_examples.specs.Spoiled.{marked_before_ready, marked_twice};
 ghost use Rattle.history_examples.specs.Spoiled.{purged_while_alive, released_without_retain};
+ghost use Rattle.history_examples.specs.Stolen.{IsStolen, marked_at_the_steal};
 ghost use Rattle.history_examples.specs.TakenOver.{IsTakenOver, purged_at_the_take_over};
 ghost use Rattle.history_examples.specs.Undone.{IsUndone, marked_in_doubt};
 
 /// A run from the opening of the examples has the main theorem, where its answers are a provider's.
 pub fn runs_have_headline()
     ensures { RunsHaveHeadline }
+{}
+
+/// The sentences on one entry are all that the main theorem says of it and of the moment behind it.
+pub fn sentences_are_all()
+    ensures { SentencesAreAll }
 {}
 
 /// A stack is created: the traversal is complete, and its one resource is alive as the plan asks.
@@ -133,4 +143,44 @@ pub fn a_rollback_is_completed()
 /// No run marks the rollback while what failed may be alive.
 pub fn no_rollback_is_marked_in_doubt()
     ensures { IsNoRun marked_in_doubt }
+{}
+
+/// A create is cancelled between ask and poll: it is rolled back to nothing.
+pub fn a_create_is_cancelled()
+    ensures { IsCancelled }
+{}
+
+/// No run has the cancel by an engine, where nothing has failed.
+pub fn no_engine_cancels()
+    ensures { IsNoRun cancelled_by_an_engine }
+{}
+
+/// An engine stops with an overtaken job, and another takes the update's letter and the row with it.
+pub fn a_row_is_stolen()
+    ensures { IsStolen }
+{}
+
+/// No run marks the update at the steal.
+pub fn no_update_is_marked_at_the_steal()
+    ensures { IsNoRun marked_at_the_steal }
+{}
+
+/// An update changes the resource in place, as a judge of the registry allows.
+pub fn a_stack_is_updated_in_place()
+    ensures { IsUpdatedInPlace }
+{}
+
+/// No run writes a row as updated without asking the cloud.
+pub fn no_row_is_updated_without_asking()
+    ensures { IsNoRun updated_without_asking }
+{}
+
+/// A create under the policy Retain fails and is rolled back: what may be alive is given up.
+pub fn a_resource_is_retained()
+    ensures { IsRetained }
+{}
+
+/// No run gives it up again.
+pub fn none_is_given_up_twice()
+    ensures { IsNoRun given_up_twice }
 {}

@@ -21,14 +21,16 @@ use Rattle.letter_laws.proofs.Commands.{Lain, lain}
 use Rattle.link_laws.proofs.Laid.{links_by_commands}
 use Rattle.job_laws.proofs.Onward.{Grounds, Was, jobs_fit, stays}
 
-module _ (s : StateData) (h : Standing s) (name : List ℕ) (items : List Item) (k : Lays s name items) (it : Sets) (t : StateData)
+module _ (s : StateData) (h : Standing s) (name : List ℕ) (items : List Item) (k : Lays s name items) (it : Sets)
+    (t : StateData)
     (frame : Elsewhere name s t) (w : Lain s h name items k it t) where
   was : (e : ℕ) (j : Job) → job_at s.jobs e ≡ Some j → (st : Stack) → IsNewest t j.letter st → Was s t j st
   was e j its st newest = elim (text_or_not j.letter.stack name) [
     | inl is ↦
         let lt = (h.links.numbered.jobs e j its).its_letter.newest in
         let same = newest.newest in
-        let new = w.newest st (subst (λ (y : List ℕ). stack_at t.stacks y ≡ Some st) is newest.in_table) in absurd (omega arith)
+        let new = w.newest st (subst (λ (y : List ℕ). stack_at t.stacks y ≡ Some st) is newest.in_table) in
+        absurd (omega arith)
     | inr ne ↦ record {
       stack = st;
       status = st.status;
@@ -48,10 +50,15 @@ module _ (s : StateData) (h : Standing s) (name : List ℕ) (items : List Item) 
   laid_fits b = jobs_fit s t h b (λ e j at.
       let its : job_at s.jobs e ≡ Some j = subst (λ (y : List Job). job_at y e ≡ Some j) w.jobs at in
       stays its (subst (λ (y : List Row). row_at y j.row ≡ row_at s.rows j.row) (sym w.rows)
-      (old_stays s name s.next.trav s.next.row items k.chosen k.rows s.rows k.chooses j.row (h.links.numbered.jobs e j its).its_row))
+      (old_stays s name s.next.trav s.next.row items k.chosen k.rows s.rows k.chooses j.row
+      (h.links.numbered.jobs e j its).its_row))
       (was e j its))
 
 pub jobs_laid : KeptByCommands JobsFit
 jobs_laid s name items it k h ordered =
-    laid_fits s h name items k it (applied (laid_changes s name items it k) s) (commands_on_one s name items it k h ordered) (lain s h name items k it)
-    (record { current = (links_by_commands s name items it k h ordered).current; graphs = graphs_laid s name items it k h ordered })
+    laid_fits s h name items k it (applied (laid_changes s name items it k) s)
+    (commands_on_one s name items it k h ordered) (lain s h name items k it)
+    (record {
+      current = (links_by_commands s name items it k h ordered).current;
+      graphs = graphs_laid s name items it k h ordered;
+    })

@@ -18,7 +18,8 @@ use Rattle.job_laws.proofs.Onward.{Grounds, Was, grown_same, jobs_fit, stays}
 use Rattle.core_state.specs.declared.change.Change.TheVariants as change_to
 
 -- neither jobs nor rows, graphs or stacks are written
-pub quiet : (s t : StateData) → Standing s → Grounds t → t.jobs ≡ s.jobs → t.rows ≡ s.rows → t.graphs ≡ s.graphs → t.stacks ≡ s.stacks → JobsFit t
+pub quiet : (s t : StateData) → Standing s → Grounds t → t.jobs ≡ s.jobs → t.rows ≡ s.rows → t.graphs ≡ s.graphs
+    → t.stacks ≡ s.stacks → JobsFit t
 quiet s t h b jobs rows graphs stacks = jobs_fit s t h b (λ e j at.
     stays (subst (λ (y : List Job). job_at y e ≡ Some j) jobs at)
     (subst (λ (y : List Row). row_at y j.row ≡ row_at s.rows j.row) (sym rows) refl)
@@ -28,14 +29,19 @@ quiet s t h b jobs rows graphs stacks = jobs_fit s t h b (λ e j at.
         stack = st;
         status = st.status;
         is = refl;
-        newest = record { in_table = subst (λ (y : List Stack). stack_at y j.letter.stack ≡ Some st) stacks newest.in_table; newest = newest.newest };
+        newest = record {
+          in_table = subst (λ (y : List Stack). stack_at y j.letter.stack ≡ Some st) stacks
+              newest.in_table;
+          newest = newest.newest;
+        };
         grown = λ g at. grown_same s t graphs j.letter.stack g j.letter.node at;
       }
 
 pub jobs_kept : KeptByEngines JobsFit
 jobs_kept = record {
   stop = λ s e h live. quiet s (applied (Stop e ∷ []) s) h
-      (record { current = (links_by_engines.stop s e h live).current; graphs = graphs_kept.stop s e h live }) refl refl refl refl;
+      (record { current = (links_by_engines.stop s e h live).current; graphs = graphs_kept.stop s e h live }) refl
+      refl refl refl;
   enlist = λ s h. quiet s (applied (change_to.Numbers (past_engines s.next 1) ∷ Enlist s.next.engine ∷ []) s) h
       (record { current = (links_by_engines.enlist s h).current; graphs = graphs_kept.enlist s h }) refl refl refl refl;
   restart = λ s count h.

@@ -34,14 +34,18 @@ pub graph_there : (t : StateData) (name : List ℕ) (g : Graph) → graph_at t.g
 graph_there t name g at = ap (graph_or name) at
 
 -- a current row of an update node's name is the node's target
-pub target_in : (t : StateData) → Grounds t → (name : List ℕ) (st : Stack) → stack_at t.stacks name ≡ Some st → (g : Graph)
-    → graph_at t.graphs name ≡ Some g → (i n m : ℕ) (word : List ℕ) → IsNode g i (U word n) → (q : Row) → row_at t.rows m ≡ Some q
+pub target_in : (t : StateData) → Grounds t → (name : List ℕ) (st : Stack) → stack_at t.stacks name ≡ Some st
+    → (g : Graph)
+    → graph_at t.graphs name ≡ Some g → (i n m : ℕ) (word : List ℕ) → IsNode g i (U word n) → (q : Row)
+    → row_at t.rows m ≡ Some q
     → q.stack ≡ st.name → q.name ≡ word → IsCurrent q → IsTarget t.rows st.name (U word n) m
 target_in t b name st at_st g at_g i n m word at q at_q of called current =
     let fits : GraphFits t st g = subst (GraphFits t st) (graph_there t name g at_g) (b.graphs name st at_st) in
     let (a, f) = fits.targets.updates i n word at in
-    let up : m ≤ a.no = b.current.newest a.no m a q f.is.found at_q (f.is.stack_is ∙ sym of) (f.is.name_is ∙ sym called) f.is.current in
-    let down : a.no ≤ m = b.current.newest m a.no q a at_q f.is.found (of ∙ sym f.is.stack_is) (called ∙ sym f.is.name_is) current in
+    let up : m ≤ a.no = b.current.newest a.no m a q f.is.found at_q (f.is.stack_is ∙ sym of)
+    (f.is.name_is ∙ sym called) f.is.current in
+    let down : a.no ≤ m = b.current.newest m a.no q a at_q f.is.found (of ∙ sym f.is.stack_is)
+    (called ∙ sym f.is.name_is) current in
     subst (λ (x : ℕ). IsTarget t.rows st.name (U word n) x) (equal a.no m down up) f.to where
       equal : (x y : ℕ) → x ≤ y → y ≤ x → x ≡ y
       equal x y a b = omega arith
@@ -54,7 +58,8 @@ pub record Grown (t : StateData) (name : List ℕ) (g : Graph) (i : ℕ) : Type 
   pub ready : (k : ℕ) → IsReady g k → IsReady graph k
   pub undone : ¬ IsDone g i → ¬ IsDone graph i
 
-pub grown_same : (s t : StateData) → t.graphs ≡ s.graphs → (name : List ℕ) (g : Graph) (i : ℕ) → graph_at s.graphs name ≡ Some g → Grown t name g i
+pub grown_same : (s t : StateData) → t.graphs ≡ s.graphs → (name : List ℕ) (g : Graph) (i : ℕ)
+    → graph_at s.graphs name ≡ Some g → Grown t name g i
 grown_same s t same name g i at = record {
   graph = g;
   found = subst (λ (gs : List Graph). graph_at gs name ≡ Some g) (sym same) at;
@@ -75,7 +80,8 @@ pub record Was (s t : StateData) (j : Job) (st : Stack) : Type 0 where
 pub data Goes (s t : StateData) (e : ℕ) (j : Job) : Type 0 where
   stays : job_at s.jobs e ≡ Some j → row_at t.rows j.row ≡ row_at s.rows j.row
       → ((st : Stack) → IsNewest t j.letter st → Was s t j st) → Goes s t e j
-  fits : (IsUnderWay j.stage → HasUnderWay t j) → ((st : Stack) → IsNewest t j.letter st → JobStands t j st) → Goes s t e j
+  fits : (IsUnderWay j.stage → HasUnderWay t j) → ((st : Stack) → IsNewest t j.letter st → JobStands t j st)
+      → Goes s t e j
 
 module _ (s t : StateData) (h : Standing s) (b : Grounds t) where
   module _ (e : ℕ) (j : Job) (its : job_at s.jobs e ≡ Some j) (same : row_at t.rows j.row ≡ row_at s.rows j.row) where
@@ -98,13 +104,16 @@ module _ (s t : StateData) (h : Standing s) (b : Grounds t) where
       old_fits = subst (GraphFits s o) (graph_there s j.letter.stack stood.graph stood.names.its_graph)
           (h.shape.graphs j.letter.stack o was.in_table)
 
-      target : (node : Node) → IsNode stood.graph j.letter.node node → IsTarget s.rows o.name node j.row → IsTarget t.rows o.name node j.row
-      target (C n) at to = subst (λ (m : ℕ). IsTarget t.rows o.name (C n) m) (cleanup_target s.rows o.name n j.row to) (of_c n)
+      target : (node : Node) → IsNode stood.graph j.letter.node node → IsTarget s.rows o.name node j.row
+          → IsTarget t.rows o.name node j.row
+      target (C n) at to = subst (λ (m : ℕ). IsTarget t.rows o.name (C n) m)
+          (cleanup_target s.rows o.name n j.row to) (of_c n)
       target (U word n) at to =
           let (q, f) = old_fits.targets.updates j.letter.node n word at in
           let number : q.no ≡ j.row = target_once s.rows o.name (U word n) q.no j.row f.to to in
           let at_q : row_at s.rows j.row ≡ Some q = subst (λ (m : ℕ). row_at s.rows m ≡ Some q) number f.is.found in
-          target_in t b j.letter.stack (with_status x o) newest.in_table more.graph more.found j.letter.node n j.row word
+          target_in t b j.letter.stack
+          (with_status x o) newest.in_table more.graph more.found j.letter.node n j.row word
           (more.nodes j.letter.node (U word n) at) q (same ∙ at_q) f.is.stack_is f.is.name_is f.is.current
 
       stands : JobStands t j (with_status x o)
@@ -130,7 +139,10 @@ module _ (s t : StateData) (h : Standing s) (b : Grounds t) where
       }
 
   pub jobs_fit : ((e : ℕ) (j : Job) → job_at t.jobs e ≡ Some j → Goes s t e j) → JobsFit t
-  jobs_fit goes = record { under_way = λ e j at. way e j (goes e j at); newest = λ e j st at k. stand e j st k (goes e j at) } where
+  jobs_fit goes = record {
+    under_way = λ e j at. way e j (goes e j at);
+    newest = λ e j st at k. stand e j st k (goes e j at);
+  } where
     way : (e : ℕ) (j : Job) → Goes s t e j → IsUnderWay j.stage → HasUnderWay t j
     way e j (stays its same was) = under_way e j its same
     way e j (fits under newest) = under
@@ -138,5 +150,6 @@ module _ (s t : StateData) (h : Standing s) (b : Grounds t) where
     stand : (e : ℕ) (j : Job) (st : Stack) → IsNewest t j.letter st → Goes s t e j → JobStands t j st
     stand e j st k (stays its same was) =
         let w = was st k in
-        subst (JobStands t j) w.is (stands e j its same w.stack w.status (subst (IsNewest t j.letter) (sym w.is) k) w.newest w.grown)
+        subst (JobStands t j) w.is
+        (stands e j its same w.stack w.status (subst (IsNewest t j.letter) (sym w.is) k) w.newest w.grown)
     stand e j st k (fits under newest) = newest st k

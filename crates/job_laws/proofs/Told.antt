@@ -25,7 +25,8 @@ use Rattle.step_relation.specs.Rows.{failed_row, ready_row, unlocked}
 use Rattle.step_relation.specs.Takes.{released_changes}
 use Rattle.step_relation.specs.Writes.{mark_failed}
 use Rattle.soundness.specs.GraphFits.{GraphFits, TargetFits}
-use Rattle.soundness.specs.MailFits.{HasUnderWay, IsNewest, IsUnderWay, JobStands, JobsFit, SuitsAct, asks, cleans, polls, updates}
+use Rattle.soundness.specs.MailFits.{HasUnderWay, IsNewest, IsUnderWay, JobStands, JobsFit, SuitsAct, asks, cleans}
+use Rattle.soundness.specs.MailFits.{polls, updates}
 use Rattle.soundness.specs.Sound.{Standing}
 use Rattle.table_laws.proofs.Rows.{row-key, row_else, same_some}
 use Rattle.table_laws.proofs.Targets.{target_once}
@@ -44,12 +45,15 @@ complete_is_over : {o : Status} → o ≡ InProgress → o ≡ Complete → ⊥
 complete_is_over u d = cc
 
 -- the row of a job at an update node is the name's current one
-pub job_aims : (s : StateData) → Standing s → (e : ℕ) (j : Job) → job_at s.jobs e ≡ Some j → (st : Stack) (gr : Graph) (word : List ℕ) (n : ℕ)
+pub job_aims : (s : StateData) → Standing s → (e : ℕ) (j : Job) → job_at s.jobs e ≡ Some j
+    → (st : Stack) (gr : Graph) (word : List ℕ) (n : ℕ)
     → Names s j.letter st gr (U word n) → (r : Row) → row_at s.rows j.row ≡ Some r → TargetFits s st word n r
 job_aims s h e j its st gr word n names r at =
-    let f : GraphFits s st gr = subst (GraphFits s st) (graph_there s j.letter.stack gr names.its_graph) (h.shape.graphs j.letter.stack st names.in_table) in
+    let f : GraphFits s st gr = subst (GraphFits s st) (graph_there s j.letter.stack gr names.its_graph)
+    (h.shape.graphs j.letter.stack st names.in_table) in
     let (q, is) = f.targets.updates j.letter.node n word names.its_node in
-    let number : q.no ≡ j.row = target_once s.rows st.name (U word n) q.no j.row is.to (job_target s h e j its st gr (U word n) names) in
+    let number : q.no ≡ j.row = target_once s.rows st.name (U word n) q.no j.row is.to
+    (job_target s h e j its st gr (U word n) names) in
     subst (λ (x : Row). TargetFits s st word n x)
     (same_some q r (subst (λ (m : ℕ). row_at s.rows m ≡ Some q) number is.is.found) at) is
 
@@ -67,14 +71,18 @@ module _ (s : StateData) (h : Standing s) where
     way : HasUnderWay s k.job
     way = h.shape.jobs.under_way e k.job k.works.its (subst IsUnderWay (sym k.works.stage_is) asks)
 
-    pub asks_on : Grounds (applied (onward_changes k.job Polling) s) → JobsFit (applied (onward_changes k.job Polling) s)
-    asks_on b = gone_on s asked_to h b e k.job k.works.its (λ n ne lt. refl) (were_same s asked_to e (stacks_same s.stacks) refl) k.job.row Polling refl
+    pub asks_on : Grounds (applied (onward_changes k.job Polling) s)
+        → JobsFit (applied (onward_changes k.job Polling) s)
+    asks_on b = gone_on s asked_to h b e k.job k.works.its (λ n ne lt. refl)
+        (were_same s asked_to e (stacks_same s.stacks) refl) k.job.row Polling refl
         (fits (λ u. record { row = way.row; found = way.found; status = way.status; newest = way.newest }) stand) where
-          stand : (st : Stack) → IsNewest asked_to k.job.letter st → JobStands asked_to (record k.job { row = k.job.row; stage = Polling }) st
+          stand : (st : Stack) → IsNewest asked_to k.job.letter st
+              → JobStands asked_to (record k.job { row = k.job.row; stage = Polling }) st
           stand st newest =
               let o : JobStands s k.job st = h.shape.jobs.newest e k.job st k.works.its
               (newest_was s asked_to h b e k.job k.works.its refl refl st newest) in
-              own_at s asked_to h b e k.job k.works.its refl refl st o.graph o.node o.names k.job.row Polling o.fits.target
+              own_at s asked_to h b e k.job k.works.its refl refl st o.graph o.node o.names k.job.row Polling
+              o.fits.target
               (λ r u at. o.fits.suits r (subst IsUnderWay (sym k.works.stage_is) asks) at)
               (λ word n is stage. absurd (polling_goes_on stage))
               (λ n r is stage at. absurd (polling_goes_on stage))
@@ -103,12 +111,14 @@ module _ (s : StateData) (h : Standing s) where
       abbrev ready_to : StateData
       ready_to = applied (begun_changes k.job Ending (ready_row k.row facts)) s
 
-      ready_stands : Grounds ready_to → (st : Stack) (gr : Graph) (node : Node) → Names s k.job.letter st gr node → SuitsAct k.row.act node
+      ready_stands : Grounds ready_to → (st : Stack) (gr : Graph) (node : Node) → Names s k.job.letter st gr node
+          → SuitsAct k.row.act node
           → JobStands ready_to (record k.job { row = k.job.row; stage = Ending }) st
       ready_stands b st gr (C n) names suits = absurd (kept (suits_cleanup k.row.act n suits))
       ready_stands b st gr (U word n) names suits =
           let f = job_aims s h e k.job k.works.its st gr word n names k.row k.found in
-          update_stands s ready_to h b e k.job k.works.its refl refl st gr word n names k.job.row Ending (ready_row k.row facts)
+          update_stands s ready_to h b e k.job k.works.its refl refl st gr word n names k.job.row Ending
+          (ready_row k.row facts)
           (put_there s (ready_row k.row facts) k.job.row number) f.is.stack_is f.is.name_is
           (record { kept = f.is.current.kept; last = f.is.current.last }) (its_trav ∙ sym names.newest)
           (λ stage. (refl, λ act. complete_is_over in_progress ((h.shape.each_row k.job.row k.row k.found).init act)))
@@ -126,10 +136,12 @@ module _ (s : StateData) (h : Standing s) where
       abbrev gone_to : StateData
       gone_to = applied (purged_changes k.job k.row) s
 
-      gone_stands : Grounds gone_to → (st : Stack) (gr : Graph) (node : Node) → Names s k.job.letter st gr node → SuitsAct k.row.act node
+      gone_stands : Grounds gone_to → (st : Stack) (gr : Graph) (node : Node) → Names s k.job.letter st gr node
+          → SuitsAct k.row.act node
           → JobStands gone_to (record k.job { stage = Ending }) st
       gone_stands b st gr (U word n) names suits = absurd (suits_update k.row.act word n suits act)
-      gone_stands b st gr (C n) names suits = cleanup_stands s gone_to h b e k.job k.works.its refl refl st gr n names Ending
+      gone_stands b st gr (C n) names suits =
+          cleanup_stands s gone_to h b e k.job k.works.its refl refl st gr n names Ending
           (λ u. absurd (not_over Ending u refl)) (λ q stage at_q. absurd (cut_gone s k.row.no k.job.row q number at_q))
 
       pub goes : Grounds gone_to → JobsFit gone_to
@@ -141,26 +153,35 @@ module _ (s : StateData) (h : Standing s) where
           gone_stands b st o.graph o.node o.names (o.fits.suits k.row is_polling k.found)))
 
   -- the rows but for one that is unlocked
-  pub but_then : (r : Option Row) (m : ℕ) → row_at s.rows m ≡ r → (n : ℕ) → m ≢ n → row_at (rows_then r s.rows) n ≡ row_at s.rows n
+  pub but_then : (r : Option Row) (m : ℕ) → row_at s.rows m ≡ r → (n : ℕ) → m ≢ n
+      → row_at (rows_then r s.rows) n ≡ row_at s.rows n
   but_then None m at n ne = refl
   but_then (Some r) m at n ne = row_else (unlocked r) s.rows n (λ eq. ne (sym (row-key s.rows m r at) ∙ eq))
 
-  pub releases : (f : ℕ) (j : Job) (r : Option Row) (ls : List Letter) → job_at s.jobs f ≡ Some j → row_at s.rows j.row ≡ r
+  pub releases : (f : ℕ) (j : Job) (r : Option Row) (ls : List Letter) → job_at s.jobs f ≡ Some j
+      → row_at s.rows j.row ≡ r
       → Grounds (applied (released_changes s f r ls) s) → JobsFit (applied (released_changes s f r ls) s)
   releases f j r ls its at b = subst JobsFit (sym (release_comes s f r ls))
-      (ended s (released_to s f r ls) h (subst Grounds (release_comes s f r ls) b) f j its (λ n ne lt. but_then r j.row at n ne)
+      (ended s (released_to s f r ls) h (subst Grounds (release_comes s f r ls) b) f j its
+      (λ n ne lt. but_then r j.row at n ne)
       (were_same s (released_to s f r ls) f (stacks_same s.stacks) refl) refl)
 
-  pub falls : (e : ℕ) (j : Job) (r : Row) (ls : List Letter) (failed : Option Stack) → job_at s.jobs e ≡ Some j → row_at s.rows j.row ≡ Some r
-      → Falls s j ls failed → Grounds (applied (failed_changes s e r ls failed) s) → JobsFit (applied (failed_changes s e r ls failed) s)
-  falls e j r ls failed its at f b = subst JobsFit (sym (failure_comes s e r ls failed)) (by ls failed f (subst Grounds (failure_comes s e r ls failed) b)) where
-    by : (ls : List Letter) (failed : Option Stack) → Falls s j ls failed → Grounds (applied (mark_failed failed) (failed_to s e r ls))
-        → JobsFit (applied (mark_failed failed) (failed_to s e r ls))
-    by ls failed (overrun _ _ _) c = ended s (failed_to s e r ls) h c e j its (but_put s (failed_row r) j.row (row-key s.rows j.row r at))
-        (were_same s (failed_to s e r ls) e (stacks_same s.stacks) refl) refl
-    by ls failed (marked _ _) c = ended s (failed_to s e r []) h c e j its (but_put s (failed_row r) j.row (row-key s.rows j.row r at))
-        (were_same s (failed_to s e r []) e (stacks_same s.stacks) refl) refl
-    by ls failed (marks k _) c = ended s (applied (mark_failed (Some k.stack)) (failed_to s e r [])) h c e j its
-        (but_put s (failed_row r) j.row (row-key s.rows j.row r at))
-        (were_same s (applied (mark_failed (Some k.stack)) (failed_to s e r [])) e
-        (stacks_marked s.stacks j.letter.stack k.stack Failed k.names.in_table) refl) refl
+  pub falls : (e : ℕ) (j : Job) (r : Row) (ls : List Letter) (failed : Option Stack) → job_at s.jobs e ≡ Some j
+      → row_at s.rows j.row ≡ Some r
+      → Falls s j ls failed → Grounds (applied (failed_changes s e r ls failed) s)
+      → JobsFit (applied (failed_changes s e r ls failed) s)
+  falls e j r ls failed its at f b = subst JobsFit (sym (failure_comes s e r ls failed))
+      (by ls failed f (subst Grounds (failure_comes s e r ls failed) b)) where
+        by : (ls : List Letter) (failed : Option Stack) → Falls s j ls failed
+            → Grounds (applied (mark_failed failed) (failed_to s e r ls))
+            → JobsFit (applied (mark_failed failed) (failed_to s e r ls))
+        by ls failed (overrun _ _ _) c = ended s (failed_to s e r ls) h c e j its
+            (but_put s (failed_row r) j.row (row-key s.rows j.row r at))
+            (were_same s (failed_to s e r ls) e (stacks_same s.stacks) refl) refl
+        by ls failed (marked _ _) c = ended s (failed_to s e r []) h c e j its
+            (but_put s (failed_row r) j.row (row-key s.rows j.row r at))
+            (were_same s (failed_to s e r []) e (stacks_same s.stacks) refl) refl
+        by ls failed (marks k _) c = ended s (applied (mark_failed (Some k.stack)) (failed_to s e r [])) h c e j its
+            (but_put s (failed_row r) j.row (row-key s.rows j.row r at))
+            (were_same s (applied (mark_failed (Some k.stack)) (failed_to s e r [])) e
+            (stacks_marked s.stacks j.letter.stack k.stack Failed k.names.in_table) refl) refl

@@ -62,10 +62,12 @@ could_one t states (what.Ran idle turns) ne = refl
 could_one t states (what.Turned engine lost) ne = refl
 could_one t states what.Closed ne = refl
 
-pub could_apart : (t : Token) (states : List TokenState) (es : List Entry) → AreApart t.stack es → could_on t states es ≡ states
+pub could_apart : (t : Token) (states : List TokenState) (es : List Entry) → AreApart t.stack es
+    → could_on t states es ≡ states
 could_apart t states [] apart = refl
 could_apart t states (e ∷ es) apart =
-    ap (λ (x : List TokenState). could_on t x es) (could_one t states e.what apart.all.0) ∙ could_apart t states es (apart_rest t.stack e es apart)
+    ap (λ (x : List TokenState). could_on t x es) (could_one t states e.what apart.all.0)
+    ∙ could_apart t states es (apart_rest t.stack e es apart)
 
 newest_one : (name : List ℕ) (b : Option Latest) (w : What) → IsApart name w → newest_by name b w ≡ b
 newest_one name b (what.Command stack trav act plan rollback) ne = rw (other_text stack name ne) refl
@@ -84,7 +86,8 @@ newest_one name b what.Closed ne = refl
 pub newest_apart : (name : List ℕ) (b : Option Latest) (es : List Entry) → AreApart name es → newest_on name b es ≡ b
 newest_apart name b [] apart = refl
 newest_apart name b (e ∷ es) apart =
-    ap (λ (x : Option Latest). newest_on name x es) (newest_one name b e.what apart.all.0) ∙ newest_apart name b es (apart_rest name e es apart)
+    ap (λ (x : Option Latest). newest_on name x es) (newest_one name b e.what apart.all.0)
+    ∙ newest_apart name b es (apart_rest name e es apart)
 
 marked_one : (name : List ℕ) (b : Option Marked) (w : What) → IsApart name w → marked_by name b w ≡ b
 marked_one name b (what.Command stack trav act plan rollback) ne = rw (other_text stack name ne) refl
@@ -103,7 +106,8 @@ marked_one name b what.Closed ne = refl
 pub marked_apart : (name : List ℕ) (b : Option Marked) (es : List Entry) → AreApart name es → marked_on name b es ≡ b
 marked_apart name b [] apart = refl
 marked_apart name b (e ∷ es) apart =
-    ap (λ (x : Option Marked). marked_on name x es) (marked_one name b e.what apart.all.0) ∙ marked_apart name b es (apart_rest name e es apart)
+    ap (λ (x : Option Marked). marked_on name x es) (marked_one name b e.what apart.all.0)
+    ∙ marked_apart name b es (apart_rest name e es apart)
 
 rollback_one : (name : List ℕ) (b : Bool) (w : What) → IsApart name w → rollback_by name b w ≡ b
 rollback_one name b (what.Command stack trav act plan rollback) ne = rw (other_text stack name ne) refl
@@ -122,9 +126,11 @@ rollback_one name b what.Closed ne = refl
 pub rollback_apart : (name : List ℕ) (b : Bool) (es : List Entry) → AreApart name es → rollback_on name b es ≡ b
 rollback_apart name b [] apart = refl
 rollback_apart name b (e ∷ es) apart =
-    ap (λ (x : Bool). rollback_on name x es) (rollback_one name b e.what apart.all.0) ∙ rollback_apart name b es (apart_rest name e es apart)
+    ap (λ (x : Bool). rollback_on name x es) (rollback_one name b e.what apart.all.0)
+    ∙ rollback_apart name b es (apart_rest name e es apart)
 
-released_one : (t : Token) (tokens : List Token) (w : What) → IsApart t.stack w → Contains (released_by tokens w) t ↔ Contains tokens t
+released_one : (t : Token) (tokens : List Token) (w : What) → IsApart t.stack w
+    → Contains (released_by tokens w) t ↔ Contains tokens t
 released_one t tokens (what.Release token) ne = (back, λ has. Contains-append_left tokens (token ∷ []) t has) where
   back : Contains (tokens ++ token ∷ []) t → Contains tokens t
   back has = elim (Contains-append_cases tokens (token ∷ []) t has) [
@@ -146,7 +152,8 @@ released_one t tokens (what.Ran idle turns) ne = (λ has. has, λ has. has)
 released_one t tokens (what.Turned engine lost) ne = (λ has. has, λ has. has)
 released_one t tokens what.Closed ne = (λ has. has, λ has. has)
 
-pub released_apart : (t : Token) (tokens : List Token) (es : List Entry) → AreApart t.stack es → Contains (released_on tokens es) t ↔ Contains tokens t
+pub released_apart : (t : Token) (tokens : List Token) (es : List Entry) → AreApart t.stack es
+    → Contains (released_on tokens es) t ↔ Contains tokens t
 released_apart t tokens [] apart = (λ has. has, λ has. has)
 released_apart t tokens (e ∷ es) apart =
     let one = released_one t tokens e.what apart.all.0 in

@@ -7,7 +7,7 @@ use Rattle.row_table.specs.declared.row.Row.{Row}
 use Rattle.mail_table.specs.Mails.{job_at, letter_at}
 use Rattle.mail_table.specs.declared.mail.Job.{Job}
 use Rattle.mail_table.specs.declared.mail.Letter.{Letter}
-use Rattle.core_state.specs.Changes.{applied, apply}
+use Rattle.core_state.specs.Changes.{applied}
 use Rattle.core_state.specs.State.{StateData, graph_at, past_at, stack_at}
 use Rattle.core_state.specs.declared.change.Change.{Change}
 use Rattle.core_state.specs.declared.change.Change.TheVariants.{Enlist, Stop}
@@ -15,8 +15,10 @@ use Rattle.core_state.specs.declared.entry.Actor.TheVariants.{Engine, Main}
 use Rattle.core_state.specs.declared.entry.Entry.{Entry}
 use Rattle.core_state.specs.declared.entry.What.{What}
 use Rattle.step_relation.specs.Given.{Answer, Given}
-use Rattle.step_relation.specs.Orders.{Command, cancel, create, create_sets, delete, delete_sets, plan_back, rollback_sets, update, update_sets}
-use Rattle.step_relation.specs.Steps.{IsNote, close, command, engines_from, enlist, notes, note, ran, restart, shows, stop, turn, turned, unstored}
+use Rattle.step_relation.specs.Orders.{Command, cancel, create, create_sets, delete, delete_sets, plan_back}
+use Rattle.step_relation.specs.Orders.{rollback_sets, update, update_sets}
+use Rattle.step_relation.specs.Steps.{IsNote, close, command, engines_from, enlist, notes, note, ran, restart, shows}
+use Rattle.step_relation.specs.Steps.{stop, turn, turned, unstored}
 use Rattle.step_relation.specs.Turns.{Turn, plain, rolls}
 use Rattle.history.specs.Could.{could_of}
 use Rattle.history.specs.Marked.{marked_of}
@@ -28,11 +30,12 @@ use Rattle.soundness.specs.Sound.{Standing}
 use Rattle.frame_laws.proofs.Commands.{laid_on}
 use Rattle.frame_laws.proofs.OnOne.{moves_on_one}
 use Rattle.frame_laws.specs.Laws.{stack_of}
-use Rattle.leave_laws.proofs.Apart.{AreApart, IsApart, could_apart, marked_apart, newest_apart, released_apart, rollback_apart}
+use Rattle.leave_laws.proofs.Apart.{AreApart, IsApart, could_apart, marked_apart, newest_apart, released_apart}
+use Rattle.leave_laws.proofs.Apart.{rollback_apart}
 use Rattle.leave_laws.proofs.Told.{failed_stack, laid_apart, move_apart}
 use Rattle.leave_laws.specs.Leaves.{LeavesStack, StepsLeaveOthers, command_stack, turn_stack}
 use Rattle.link_laws.proofs.Kept.{links_after}
-use Rattle.table_laws.proofs.Frame.{then}
+use Rattle.table_laws.proofs.Frame.{applied-append, then}
 use Rattle.table_laws.proofs.Puts.{all_append}
 use Rattle.tell_laws.proofs.Appends.{could-append, marked-append, newest-append, released-append, rollback-append}
 
@@ -42,7 +45,8 @@ pub record StateLeaves (name : List ℕ) (s t : StateData) : Type 0 where
   pub graph : graph_at t.graphs name ≡ graph_at s.graphs name
   pub past : past_at t.pasts name ≡ past_at s.pasts name
   pub rows : (n : ℕ) (r : Row) → r.stack ≡ name → (row_at t.rows n ≡ Some r) ↔ (row_at s.rows n ≡ Some r)
-  pub letters : (n : ℕ) (l : Letter) → l.stack ≡ name → (letter_at t.letters n ≡ Some l) ↔ (letter_at s.letters n ≡ Some l)
+  pub letters : (n : ℕ) (l : Letter) → l.stack ≡ name
+      → (letter_at t.letters n ≡ Some l) ↔ (letter_at s.letters n ≡ Some l)
   pub jobs : (e : ℕ) (j : Job) → j.letter.stack ≡ name → (job_at t.jobs e ≡ Some j) ↔ (job_at s.jobs e ≡ Some j)
 
 state_elsewhere : (own name : List ℕ) (s t : StateData) → Elsewhere own s t → own ≢ name → StateLeaves name s t
@@ -67,7 +71,8 @@ state_same name s = record {
 }
 
 -- only engines came and went
-state_engines : (name : List ℕ) (s : StateData) (live : List ℕ) (next : _) → StateLeaves name s (record s { live = live; next = next })
+state_engines : (name : List ℕ) (s : StateData) (live : List ℕ) (next : _)
+    → StateLeaves name s (record s { live = live; next = next })
 state_engines name s live next = record {
   stack = refl;
   graph = refl;
@@ -78,7 +83,8 @@ state_engines name s live next = record {
 }
 
 -- and the history says nothing of it
-leaves : (o : Opening) (name : List ℕ) (s : StateData) (h : List Entry) (t : StateData) (es : List Entry) → StateLeaves name s t → AreApart name es
+leaves : (o : Opening) (name : List ℕ) (s : StateData) (h : List Entry) (t : StateData) (es : List Entry)
+    → StateLeaves name s t → AreApart name es
     → LeavesStack o name s h t (h ++ es)
 leaves o name s h t es L apart = record {
   stack = L.stack;
@@ -87,7 +93,8 @@ leaves o name s h t es L apart = record {
   rows = L.rows;
   letters = L.letters;
   jobs = L.jobs;
-  tokens = λ token is. could-append o h es token ∙ could_apart token (could_of o h token) es (subst (λ (x : List ℕ). AreApart x es) (sym is) apart);
+  tokens = λ token is. could-append o h es token
+      ∙ could_apart token (could_of o h token) es (subst (λ (x : List ℕ). AreApart x es) (sym is) apart);
   owned = λ token is.
       subst (λ (x : List Token). Contains x token ↔ Contains (released o h) token) (sym (released-append o h es))
       (released_apart token (released o h) es (subst (λ (x : List ℕ). AreApart x es) (sym is) apart));
@@ -96,31 +103,35 @@ leaves o name s h t es L apart = record {
   rollback = rollback-append o h es name ∙ rollback_apart name (rollback_of o h name) es apart;
 }
 
-applied-append : (first last : List Change) (s : StateData) → applied (first ++ last) s ≡ applied last (applied first s)
-applied-append [] last s = refl
-applied-append (c ∷ cs) last s = applied-append cs last (apply c s)
-
 apart_both : (name : List ℕ) (es fs : List Entry) → AreApart name es → AreApart name fs → AreApart name (es ++ fs)
 apart_both name es fs one two = record { all = all_append (λ (e : Entry). IsApart name e.what) es fs one.all two.all }
 
 -- a turn
 module _ (s : StateData) (S : Standing s) (e : ℕ) (given : Given) where
-  turn_elsewhere : (cs : List Change) (es : List Entry) → (it : Turn s e given cs es) → Elsewhere (turn_stack s e given cs es it) s (applied cs s)
+  pub turn_elsewhere : (cs : List Change) (es : List Entry) → (it : Turn s e given cs es)
+      → Elsewhere (turn_stack s e given cs es it) s (applied cs s)
   turn_elsewhere cs es (plain failed move quiet) = moves_on_one s e given failed cs es S move
   turn_elsewhere cs es (rolls st first last firsts lasts move due follows is made) =
       let own = stack_of s e given (Some st) first firsts move in
-      let same : follows.failed.name ≡ stack_of s e given (Some st) first firsts move = follows.its_name ∙ failed_stack s e given st first firsts S move in
-      subst (Elsewhere (stack_of s e given (Some st) first firsts move) s) (sym (ap (λ (x : List Change). applied x s) is ∙ applied-append first last s))
-      (then _ s (applied first s) (applied last (applied first s)) (moves_on_one s e given (Some st) first firsts S move)
+      let same : follows.failed.name ≡ stack_of s e given (Some st) first firsts move = follows.its_name
+      ∙ failed_stack s e given st first firsts S move in
+      subst (Elsewhere (stack_of s e given (Some st) first firsts move) s)
+      (sym (ap (λ (x : List Change). applied x s) is ∙ applied-append first last s))
+      (then _ s (applied first s) (applied last (applied first s))
+      (moves_on_one s e given (Some st) first firsts S move)
       (subst (λ (x : List ℕ). Elsewhere x (applied first s) (applied last (applied first s))) same
-      (subst (λ (x : List Change). Elsewhere follows.failed.name (applied first s) (applied x (applied first s))) (sym follows.changes)
-      (laid_on (applied first s) (links_after s e given (Some st) first firsts S move) follows.failed.name (plan_back (applied first s) follows.failed).items
+      (subst (λ (x : List Change). Elsewhere follows.failed.name (applied first s) (applied x (applied first s)))
+      (sym follows.changes)
+      (laid_on (applied first s) (links_after s e given (Some st) first firsts S move) follows.failed.name
+      (plan_back (applied first s) follows.failed).items
       (rollback_sets (applied first s) follows.failed (Engine e)) follows.lays refl))))
 
-  turn_apart : (cs : List Change) (es : List Entry) → (it : Turn s e given cs es) → (name : List ℕ) → turn_stack s e given cs es it ≢ name → AreApart name es
+  turn_apart : (cs : List Change) (es : List Entry) → (it : Turn s e given cs es) → (name : List ℕ)
+      → turn_stack s e given cs es it ≢ name → AreApart name es
   turn_apart cs es (plain failed move quiet) name ne = move_apart s e given failed cs es S move name ne
   turn_apart cs es (rolls st first last firsts lasts move due follows is made) name ne =
-      let same : follows.failed.name ≡ stack_of s e given (Some st) first firsts move = follows.its_name ∙ failed_stack s e given st first firsts S move in
+      let same : follows.failed.name ≡ stack_of s e given (Some st) first firsts move = follows.its_name
+      ∙ failed_stack s e given st first firsts S move in
       subst (AreApart name) (sym made)
       (apart_both name firsts lasts (move_apart s e given (Some st) first firsts S move name ne)
       (subst (AreApart name) (sym follows.entries)
@@ -129,23 +140,29 @@ module _ (s : StateData) (S : Standing s) (e : ℕ) (given : Given) where
 
 -- a command
 module _ (s : StateData) (S : Standing s) where
-  command_elsewhere : (cs : List Change) (es : List Entry) → (it : Command s cs es) → Elsewhere (command_stack s cs es it) s (applied cs s)
+  pub command_elsewhere : (cs : List Change) (es : List Entry) → (it : Command s cs es)
+      → Elsewhere (command_stack s cs es it) s (applied cs s)
   command_elsewhere cs es (create name plan rollback k proper free few room is made) =
-      subst (λ (x : List Change). Elsewhere name s (applied x s)) (sym is) (laid_on s S.links name plan.items (create_sets s name plan rollback) k refl)
+      subst (λ (x : List Change). Elsewhere name s (applied x s)) (sym is)
+      (laid_on s S.links name plan.items (create_sets s name plan rollback) k refl)
   command_elsewhere cs es (update st plan rollback k proper in_table keeps room is made) =
-      subst (λ (x : List Change). Elsewhere st.name s (applied x s)) (sym is) (laid_on s S.links st.name plan.items (update_sets s st plan rollback) k refl)
+      subst (λ (x : List Change). Elsewhere st.name s (applied x s)) (sym is)
+      (laid_on s S.links st.name plan.items (update_sets s st plan rollback) k refl)
   command_elsewhere cs es (delete st k in_table is made) =
-      subst (λ (x : List Change). Elsewhere st.name s (applied x s)) (sym is) (laid_on s S.links st.name [] (delete_sets s st) k refl)
+      subst (λ (x : List Change). Elsewhere st.name s (applied x s)) (sym is)
+      (laid_on s S.links st.name [] (delete_sets s st) k refl)
   command_elsewhere cs es (cancel st k in_table forward unmarked room is made) =
       subst (λ (x : List Change). Elsewhere st.name s (applied x s)) (sym is)
       (laid_on s S.links st.name (plan_back s st).items (rollback_sets s st Main) k refl)
 
-  command_apart : (cs : List Change) (es : List Entry) → (it : Command s cs es) → (name : List ℕ) → command_stack s cs es it ≢ name → AreApart name es
+  command_apart : (cs : List Change) (es : List Entry) → (it : Command s cs es) → (name : List ℕ)
+      → command_stack s cs es it ≢ name → AreApart name es
   command_apart cs es (create own plan rollback k proper free few room is made) name ne =
       subst (AreApart name) (sym made) (laid_apart s own plan.items (create_sets s own plan rollback) k name ne)
   command_apart cs es (update st plan rollback k proper in_table keeps room is made) name ne =
       subst (AreApart name) (sym made) (laid_apart s st.name plan.items (update_sets s st plan rollback) k name ne)
-  command_apart cs es (delete st k in_table is made) name ne = subst (AreApart name) (sym made) (laid_apart s st.name [] (delete_sets s st) k name ne)
+  command_apart cs es (delete st k in_table is made) name ne =
+      subst (AreApart name) (sym made) (laid_apart s st.name [] (delete_sets s st) k name ne)
   command_apart cs es (cancel st k in_table forward unmarked room is made) name ne =
       subst (AreApart name) (sym made) (laid_apart s st.name (plan_back s st).items (rollback_sets s st Main) k name ne)
 
@@ -167,7 +184,8 @@ note_apart name _ (notes line code path) = tt
 note_apart name _ (ran idle turns) = tt
 note_apart name _ (turned e lost) = tt
 
-by_step : (o : Opening) (name : List ℕ) (s : StateData) (h : List Entry) (cs ds : List Change) (es fs : List Entry) → cs ≡ ds → es ≡ fs
+by_step : (o : Opening) (name : List ℕ) (s : StateData) (h : List Entry) (cs ds : List Change) (es fs : List Entry)
+    → cs ≡ ds → es ≡ fs
     → LeavesStack o name s h (applied ds s) (h ++ fs) → LeavesStack o name s h (applied cs s) (h ++ es)
 by_step o name s h cs ds es fs is made now =
     subst (λ (x : List Change). LeavesStack o name s h (applied x s) (h ++ es)) (sym is)
@@ -176,21 +194,27 @@ by_step o name s h cs ds es fs is made now =
 pub leaves_others : StepsLeaveOthers
 leaves_others o h s cs es S (command it fits) name other =
     let ne : command_stack s cs es it ≢ name = λ eq. other (ap Some eq) in
-    leaves o name s h (applied cs s) es (state_elsewhere _ name s (applied cs s) (command_elsewhere s S cs es it) ne) (command_apart s S cs es it name ne)
+    leaves o name s h (applied cs s) es (state_elsewhere _ name s (applied cs s) (command_elsewhere s S cs es it) ne)
+    (command_apart s S cs es it name ne)
 leaves_others o h s cs es S (turn e given it fits) name other =
     let ne : turn_stack s e given cs es it ≢ name = λ eq. other (ap Some eq) in
-    leaves o name s h (applied cs s) es (state_elsewhere _ name s (applied cs s) (turn_elsewhere s S e given cs es it) ne) (turn_apart s S e given cs es it name ne)
+    leaves o name s h (applied cs s) es (state_elsewhere _ name s (applied cs s)
+    (turn_elsewhere s S e given cs es it) ne) (turn_apart s S e given cs es it name ne)
 leaves_others o h s cs es S (unstored e given lost all call it some fits first is made) name other =
     let ne : turn_stack s e (Answer given) lost all it ≢ name = λ eq. other (ap Some eq) in
     let apart = subst (AreApart name) first.entries (turn_apart s S e (Answer given) lost all it name ne) in
-    by_step o name s h cs [] es (call ∷ []) is made (leaves o name s h s (call ∷ []) (state_same name s) (record { all = (apart.all.0, tt) }))
+    by_step o name s h cs [] es (call ∷ []) is made
+    (leaves o name s h s (call ∷ []) (state_same name s) (record { all = (apart.all.0, tt) }))
 leaves_others o h s cs es S (stop e live is made) name other =
-    by_step o name s h cs _ es _ is made (leaves o name s h _ _ (state_engines name s _ s.next) (record { all = (tt, tt) }))
+    by_step o name s h cs _ es _ is made
+    (leaves o name s h _ _ (state_engines name s _ s.next) (record { all = (tt, tt) }))
 leaves_others o h s cs es S (enlist few below is made) name other =
     by_step o name s h cs _ es _ is made (leaves o name s h _ _ (state_engines name s _ _) (record { all = (tt, tt) }))
 leaves_others o h s cs es S (restart count some few below is made) name other =
-    by_step o name s h cs _ es _ is made (leaves o name s h _ _ (stops name s _ s.live _ s.live (λ l. enlists name s _ count s.next.engine l)) (record { all = (tt, tt) }))
+    by_step o name s h cs _ es _ is made (leaves o name s h _ _
+    (stops name s _ s.live _ s.live (λ l. enlists name s _ count s.next.engine l)) (record { all = (tt, tt) }))
 leaves_others o h s cs es S (note it noted is made) name other =
-    by_step o name s h cs _ es _ is made (leaves o name s h s _ (state_same name s) (record { all = (note_apart name it noted, tt) }))
+    by_step o name s h cs _ es _ is made
+    (leaves o name s h s _ (state_same name s) (record { all = (note_apart name it noted, tt) }))
 leaves_others o h s cs es S (close is made) name other =
     by_step o name s h cs _ es _ is made (leaves o name s h s _ (state_same name s) (record { all = (tt, tt) }))

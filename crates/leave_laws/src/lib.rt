@@ -1,12 +1,24 @@
-//! What a step on one stack leaves of every other. Nothing here is run: the function has an empty body
-//! and stands for its clause.
+//! What a step on one stack leaves of every other, and what it bears on its own. Nothing here is run:
+//! each function has an empty body and stands for its clause.
 #![tactic(auto)]
 
-ghost use Rattle.leave_laws.specs.Leaves.{StepsLeaveOthers};
+ghost use Rattle.leave_laws.specs.Closings.{RunsCloseOnce};
+ghost use Rattle.leave_laws.specs.Leaves.{StepsBear, StepsLeaveOthers};
 
 /// A step on one stack leaves every other stack's record, graph with its points, past, rows, letters and
 /// jobs as they were, and all that the history says of it: its tokens' states, its newest traversal and
 /// its mark. Engines that come and go, notes and the closing leave those of all.
 pub fn steps_leave_others()
     ensures { StepsLeaveOthers }
+{}
+
+/// A row of the step's own stack that stands behind the step was a row of that stack, or has a number
+/// from the next one on; and no next number falls, whatever the step. So a row that is gone stays gone.
+pub fn steps_bear_new_rows()
+    ensures { StepsBear }
+{}
+
+/// In the history of a run the input is closed once at most.
+pub fn runs_close_once()
+    ensures { RunsCloseOnce }
 {}

@@ -36,19 +36,23 @@ module _ (s : StateData) (h : Standing s) (name : List ℕ) (items : List Item) 
     pub newest : (st : Stack) → stack_at t.stacks name ≡ Some st → st.trav ≡ s.next.trav
     pub graph : (st : Stack) → stack_at t.stacks name ≡ Some st → graph_at t.graphs name ≡ Some (g s h name items k)
 
-  by_there : (it : Sets) (t : StateData) → t.letters ≡ sent (first_letters s name items it k) s.letters → t.rows ≡ put_rows k.rows s.rows
+  by_there : (it : Sets) (t : StateData) → t.letters ≡ sent (first_letters s name items it k) s.letters
+      → t.rows ≡ put_rows k.rows s.rows
       → t.jobs ≡ s.jobs
-      → t.graphs ≡ (laid s h name items k it).graphs → (there : Stack) → stack_at t.stacks name ≡ Some there → there.trav ≡ s.next.trav → Lain it t
+      → t.graphs ≡ (laid s h name items k it).graphs → (there : Stack) → stack_at t.stacks name ≡ Some there
+      → there.trav ≡ s.next.trav → Lain it t
   by_there it t letters rows jobs graphs there at newest = record {
     letters = letters;
     rows = rows;
     jobs = jobs;
     newest = λ x at_x. ap (λ (y : Stack). y.trav) (same_some x there at_x at) ∙ newest;
-    graph = λ x at_x. subst (λ (gs : List Graph). graph_at gs name ≡ Some (g s h name items k)) (sym graphs) (graph_here (g s h name items k) s.graphs);
+    graph = λ x at_x. subst (λ (gs : List Graph). graph_at gs name ≡ Some (g s h name items k)) (sym graphs)
+        (graph_here (g s h name items k) s.graphs);
   }
 
   marked : (it : Sets) (a : Act)
-      → Lain (record it { act = a }) (applied (mark_complete (stack_set s name (record it { act = a }) InProgress)) (laid s h name items k (record it { act = a })))
+      → Lain (record it { act = a }) (applied (mark_complete (stack_set s name (record it { act = a }) InProgress))
+      (laid s h name items k (record it { act = a })))
   marked it Delete = record {
     letters = refl;
     rows = refl;
@@ -56,18 +60,28 @@ module _ (s : StateData) (h : Standing s) (name : List ℕ) (items : List Item) 
     newest = λ x at. absurd ((stack_cut name (laid s h name items k (record it { act = Delete })).stacks at).0 refl);
     graph = λ x at. absurd ((stack_cut name (laid s h name items k (record it { act = Delete })).stacks at).0 refl);
   }
-  marked it Init = by_there (record it { act = Init }) _ refl refl refl refl (with_status Complete (st s h name items k (record it { act = Init })))
-      (stack_here (with_status Complete (st s h name items k (record it { act = Init }))) (laid s h name items k (record it { act = Init })).stacks) refl
-  marked it Create = by_there (record it { act = Create }) _ refl refl refl refl (with_status Complete (st s h name items k (record it { act = Create })))
-      (stack_here (with_status Complete (st s h name items k (record it { act = Create }))) (laid s h name items k (record it { act = Create })).stacks) refl
-  marked it Update = by_there (record it { act = Update }) _ refl refl refl refl (with_status Complete (st s h name items k (record it { act = Update })))
-      (stack_here (with_status Complete (st s h name items k (record it { act = Update }))) (laid s h name items k (record it { act = Update })).stacks) refl
-  marked it Rollback = by_there (record it { act = Rollback }) _ refl refl refl refl (with_status Complete (st s h name items k (record it { act = Rollback })))
-      (stack_here (with_status Complete (st s h name items k (record it { act = Rollback }))) (laid s h name items k (record it { act = Rollback })).stacks) refl
+  marked it Init = by_there (record it { act = Init }) _ refl refl refl refl
+      (with_status Complete (st s h name items k (record it { act = Init })))
+      (stack_here (with_status Complete (st s h name items k (record it { act = Init })))
+      (laid s h name items k (record it { act = Init })).stacks) refl
+  marked it Create = by_there (record it { act = Create }) _ refl refl refl refl
+      (with_status Complete (st s h name items k (record it { act = Create })))
+      (stack_here (with_status Complete (st s h name items k (record it { act = Create })))
+      (laid s h name items k (record it { act = Create })).stacks) refl
+  marked it Update = by_there (record it { act = Update }) _ refl refl refl refl
+      (with_status Complete (st s h name items k (record it { act = Update })))
+      (stack_here (with_status Complete (st s h name items k (record it { act = Update })))
+      (laid s h name items k (record it { act = Update })).stacks) refl
+  marked it Rollback = by_there (record it { act = Rollback }) _ refl refl refl refl
+      (with_status Complete (st s h name items k (record it { act = Rollback })))
+      (stack_here (with_status Complete (st s h name items k (record it { act = Rollback })))
+      (laid s h name items k (record it { act = Rollback })).stacks) refl
 
-  settled : (it : Sets) (nodes : List Node) → Lain it (applied (settles_at_once nodes s name it) (laid s h name items k it))
+  settled : (it : Sets) (nodes : List Node)
+      → Lain it (applied (settles_at_once nodes s name it) (laid s h name items k it))
   settled it [] = marked it it.act
-  settled it (node ∷ nodes) = by_there it (laid s h name items k it) refl refl refl refl (st s h name items k it) (stack_here (st s h name items k it) s.stacks) refl
+  settled it (node ∷ nodes) = by_there it (laid s h name items k it) refl refl refl refl (st s h name items k it)
+      (stack_here (st s h name items k it) s.stacks) refl
 
   pub lain : (it : Sets) → Lain it (applied (laid_changes s name items it k) s)
   lain it = subst (Lain it) (sym (comes s h name items k it)) (settled it k.graph.nodes)
@@ -79,11 +93,17 @@ module _ (s : StateData) (h : Standing s) (name : List ℕ) (items : List Item) 
       | inl is ↦
           let lt = (h.links.numbered.letters n l at).newest in
           let e = newest.newest in
-          let f = w.newest x (subst (λ (y : List ℕ). stack_at t.stacks y ≡ Some x) is newest.in_table) in absurd (omega arith)
+          let f = w.newest x (subst (λ (y : List ℕ). stack_at t.stacks y ≡ Some x) is newest.in_table) in
+          absurd (omega arith)
       | inr ne ↦ record {
         stack = x;
         newest = record { in_table = sym (frame.stacks l.stack ne) ∙ newest.in_table; newest = newest.newest };
-        grown = λ y at_y. record { graph = y; found = frame.graphs l.stack ne ∙ at_y; nodes = λ i node there. there; ready = λ i ready. ready };
+        grown = λ y at_y. record {
+          graph = y;
+          found = frame.graphs l.stack ne ∙ at_y;
+          nodes = λ i node there. there;
+          ready = λ i ready. ready;
+        };
       }
     ]
 
@@ -103,11 +123,13 @@ module _ (s : StateData) (h : Standing s) (name : List ℕ) (items : List Item) 
 
     fits : LettersFit t
     fits = letters_fit s t h.shape.letters old
-        (λ n l at. elim (sent_found (first_letters s name items it k) s.letters n l (subst (λ (y : List Letter). letter_at y n ≡ Some l) w.letters at)) [
+        (λ n l at. elim (sent_found (first_letters s name items it k) s.letters n l
+        (subst (λ (y : List Letter). letter_at y n ≡ Some l) w.letters at)) [
           | inl was ↦ inl was
           | inr sent_now ↦ inr (new l sent_now)
         ])
 
 pub letters_laid : KeptByCommands LettersFit
 letters_laid s name items it k h ordered =
-    fits s h name items k it (applied (laid_changes s name items it k) s) (commands_on_one s name items it k h ordered) (lain s h name items k it)
+    fits s h name items k it (applied (laid_changes s name items it k) s) (commands_on_one s name items it k h ordered)
+    (lain s h name items k it)

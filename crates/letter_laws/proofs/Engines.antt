@@ -13,7 +13,9 @@ use Rattle.core_state.specs.declared.change.Change.TheVariants as change_to
 pub letters_kept : KeptByEngines LettersFit
 letters_kept = record {
   stop = λ s e h live. silent s h (applied (Stop e ∷ []) s) (stacks_same s.stacks) refl refl;
-  enlist = λ s h. silent s h (applied (change_to.Numbers (past_engines s.next 1) ∷ Enlist s.next.engine ∷ []) s) (stacks_same s.stacks) refl refl;
-  restart = λ s count h. subst LettersFit (sym (lives s.live (engines_from s.next.engine count) (record s { next = past_engines s.next count })))
+  enlist = λ s h. silent s h (applied (change_to.Numbers (past_engines s.next 1) ∷ Enlist s.next.engine ∷ []) s)
+      (stacks_same s.stacks) refl refl;
+  restart = λ s count h. subst LettersFit
+      (sym (lives s.live (engines_from s.next.engine count) (record s { next = past_engines s.next count })))
       (silent s h _ (stacks_same s.stacks) refl refl);
 }

@@ -29,18 +29,26 @@ use Rattle.graph_laws.proofs.Passed.{after_is, passed_is}
 use Rattle.letter_laws.proofs.Onward.{Goes, Grown, letters_are, letters_fit, sent_found, was_same}
 
 -- no node is less ready than it was
-pub ready_still : (g : Graph) (i : ℕ) (x : Input) (succs : List ℕ) (k : ℕ) → IsReady g k → IsReady (passed g i x succs) k
+pub ready_still : (g : Graph) (i : ℕ) (x : Input) (succs : List ℕ) (k : ℕ) → IsReady g k
+    → IsReady (passed g i x succs) k
 ready_still g i x succs k ready = subst (λ (y : Graph). IsReady y k) (sym (passed_is g i x succs)) (λ a edge.
     let d = ready a edge in
     let (p, at, after) = after_is g i x succs k d.point d.there in
-    record { point = p; input = d.input; there = at; among = inputs_keep i x succs g.stack k d.point p after d.input d.among; from = d.from })
+    record {
+      point = p;
+      input = d.input;
+      there = at;
+      among = inputs_keep i x succs g.stack k d.point p after d.input d.among;
+      from = d.from;
+    })
 
 grown_passed : (t : StateData) (name : List ℕ) (g : Graph) (i : ℕ) (x : Input) (succs : List ℕ)
     → graph_at t.graphs name ≡ Some (passed g i x succs) → Grown t name g
 grown_passed t name g i x succs at = record {
   graph = passed g i x succs;
   found = at;
-  nodes = λ k node there. subst (λ (y : Graph). slice_get y.graph.nodes k ≡ Some node) (sym (passed_is g i x succs)) there;
+  nodes = λ k node there. subst (λ (y : Graph). slice_get y.graph.nodes k ≡ Some node)
+      (sym (passed_is g i x succs)) there;
   ready = ready_still g i x succs;
 }
 
@@ -70,8 +78,12 @@ module _ (s : StateData) (h : Standing s) (e : ℕ) (k : Finishes s e) where
       let lt : n < length (graph_of s own).graph.nodes =
       ((h.shape.graphs own k.fresh.stack k.fresh.names.in_table).nodes.ends i n
       (subst (λ (y : Graph). Joins y.graph.edges i n) (sym (graph_is s h e k)) edge)).1 in
-      let (node, at) = node_at k.fresh.graph.graph.nodes n (subst (λ (y : Graph). n < length y.graph.nodes) (graph_is s h e k) lt) in
-      (node, subst (λ (y : Graph). slice_get y.graph.nodes n ≡ Some node) (sym (passed_is k.fresh.graph i x k.succs)) at)
+      let (node, at) = node_at k.fresh.graph.graph.nodes n
+      (subst (λ (y : Graph). n < length y.graph.nodes) (graph_is s h e k) lt) in (
+        node,
+        subst (λ (y : Graph). slice_get y.graph.nodes n ≡ Some node)
+            (sym (passed_is k.fresh.graph i x k.succs)) at,
+      )
 
   module _ (t : StateData) (stacks : SameStacks s.stacks t.stacks)
       (others : (name : List ℕ) → name ≢ own → graph_at t.graphs name ≡ graph_at s.graphs name)
@@ -85,24 +97,34 @@ module _ (s : StateData) (h : Standing s) (e : ℕ) (k : Finishes s e) where
         let (node, there) = node_there l.node succ in record {
           graph = after;
           node = node;
-          its_graph = subst (λ (y : List ℕ). graph_at t.graphs y ≡ Some after) (sym is) (mine st (subst (λ (y : List ℕ). stack_at t.stacks y ≡ Some st) is at));
+          its_graph = subst (λ (y : List ℕ). graph_at t.graphs y ≡ Some after) (sym is)
+              (mine st (subst (λ (y : List ℕ). stack_at t.stacks y ≡ Some st) is at));
           its_node = there;
           ready = ready;
         }
 
-    grown : (name : List ℕ) (st : Stack) → stack_at t.stacks name ≡ Some st → (g : Graph) → graph_at s.graphs name ≡ Some g → Grown t name g
+    grown : (name : List ℕ) (st : Stack) → stack_at t.stacks name ≡ Some st → (g : Graph)
+        → graph_at s.graphs name ≡ Some g → Grown t name g
     grown name st at g at_g = elim (text_or_not name own) [
       | inl is ↦
-          let same : k.fresh.graph ≡ g = same_some k.fresh.graph g k.fresh.names.its_graph (subst (λ (y : List ℕ). graph_at s.graphs y ≡ Some g) is at_g) in
+          let same : k.fresh.graph ≡ g = same_some k.fresh.graph g k.fresh.names.its_graph
+          (subst (λ (y : List ℕ). graph_at s.graphs y ≡ Some g) is at_g) in
           subst (Grown t name) same (grown_passed t name k.fresh.graph i x k.succs
-          (subst (λ (y : List ℕ). graph_at t.graphs y ≡ Some after) (sym is) (mine st (subst (λ (y : List ℕ). stack_at t.stacks y ≡ Some st) is at))))
-      | inr ne ↦ record { graph = g; found = others name ne ∙ at_g; nodes = λ n node there. there; ready = λ n ready. ready }
+          (subst (λ (y : List ℕ). graph_at t.graphs y ≡ Some after) (sym is)
+          (mine st (subst (λ (y : List ℕ). stack_at t.stacks y ≡ Some st) is at))))
+      | inr ne ↦ record {
+        graph = g;
+        found = others name ne ∙ at_g;
+        nodes = λ n node there. there;
+        ready = λ n ready. ready;
+      }
     ]
 
     fits : LettersFit t
     fits = letters_fit s t h.shape.letters
         (λ n l st at newest. was_same s t stacks l st newest (grown l.stack st newest.in_table))
-        (λ n l at. elim (sent_found (ready_letters s e k) s.letters n l (subst (λ (y : List Letter). letter_at y n ≡ Some l) letters at)) [
+        (λ n l at. elim (sent_found (ready_letters s e k) s.letters n l
+        (subst (λ (y : List Letter). letter_at y n ≡ Some l) letters at)) [
           | inl was ↦ inl was
           | inr sent_now ↦ inr (new l sent_now)
         ])
@@ -111,22 +133,30 @@ module _ (s : StateData) (h : Standing s) (e : ℕ) (k : Finishes s e) where
   others_stay name ne = written_else (v s h e k) own (its_stack s h e k) (i ∷ k.succs) s.graphs name ne
 
   mine_then : graph_at (between s h e k).graphs own ≡ Some after
-  mine_then = written_here (v s h e k) own (its_stack s h e k) (i ∷ k.succs) s.graphs k.fresh.graph k.fresh.names.its_graph
+  mine_then = written_here (v s h e k) own (its_stack s h e k)
+      (i ∷ k.succs) s.graphs k.fresh.graph k.fresh.names.its_graph
 
   marked : (a : Act) → stack_at s.stacks own ≡ Some (record k.fresh.stack { act = a })
       → LettersFit (applied (mark_complete (record k.fresh.stack { act = a })) (between s h e k))
   marked Delete at = fits (applied (DropStack k.fresh.stack.name ∷ []) (between s h e k)) cut
-      (λ name ne. graph_kept k.fresh.stack.name (between s h e k).graphs name (λ eq. ne (sym eq ∙ its_name)) ∙ others_stay name ne)
+      (λ name ne. graph_kept k.fresh.stack.name (between s h e k).graphs name (λ eq. ne (sym eq ∙ its_name))
+      ∙ others_stay name ne)
       (λ st there. absurd ((stack_cut k.fresh.stack.name s.stacks there).0 its_name)) refl where
         cut : SameStacks s.stacks (cut_stack k.fresh.stack.name s.stacks)
         cut name st there = (st, st.status, (stack_cut k.fresh.stack.name s.stacks there).1, refl)
-  marked Init at = fits _ (stacks_marked s.stacks own (record k.fresh.stack { act = Init }) Complete at) others_stay (λ st there. mine_then) refl
-  marked Create at = fits _ (stacks_marked s.stacks own (record k.fresh.stack { act = Create }) Complete at) others_stay (λ st there. mine_then) refl
-  marked Update at = fits _ (stacks_marked s.stacks own (record k.fresh.stack { act = Update }) Complete at) others_stay (λ st there. mine_then) refl
-  marked Rollback at = fits _ (stacks_marked s.stacks own (record k.fresh.stack { act = Rollback }) Complete at) others_stay (λ st there. mine_then) refl
+  marked Init at = fits _ (stacks_marked s.stacks own (record k.fresh.stack { act = Init }) Complete at) others_stay
+      (λ st there. mine_then) refl
+  marked Create at = fits _ (stacks_marked s.stacks own (record k.fresh.stack { act = Create }) Complete at) others_stay
+      (λ st there. mine_then) refl
+  marked Update at = fits _ (stacks_marked s.stacks own (record k.fresh.stack { act = Update }) Complete at) others_stay
+      (λ st there. mine_then) refl
+  marked Rollback at = fits _ (stacks_marked s.stacks own (record k.fresh.stack { act = Rollback }) Complete at)
+      others_stay (λ st there. mine_then) refl
 
   pub finish_keeps : LettersFit (applied (finished_changes s e k []) s)
-  finish_keeps = subst LettersFit (sym (comes s h e k [])) (fits (between s h e k) (stacks_same s.stacks) others_stay (λ st there. mine_then) refl)
+  finish_keeps = subst LettersFit (sym (comes s h e k []))
+      (fits (between s h e k) (stacks_same s.stacks) others_stay (λ st there. mine_then) refl)
 
   pub finish_marks : LettersFit (applied (finished_changes s e k (mark_complete k.fresh.stack)) s)
-  finish_marks = subst LettersFit (sym (comes s h e k (mark_complete k.fresh.stack))) (marked k.fresh.stack.act k.fresh.names.in_table)
+  finish_marks = subst LettersFit (sym (comes s h e k (mark_complete k.fresh.stack)))
+      (marked k.fresh.stack.act k.fresh.names.in_table)

@@ -79,7 +79,8 @@ was_same s t stacks l st k grown =
     }
 
 -- the same graph
-pub grown_same : (s t : StateData) → t.graphs ≡ s.graphs → (name : List ℕ) (g : Graph) → graph_at s.graphs name ≡ Some g → Grown t name g
+pub grown_same : (s t : StateData) → t.graphs ≡ s.graphs → (name : List ℕ) (g : Graph) → graph_at s.graphs name ≡ Some g
+    → Grown t name g
 grown_same s t same name g at = record {
   graph = g;
   found = subst (λ (gs : List Graph). graph_at gs name ≡ Some g) (sym same) at;
@@ -107,14 +108,21 @@ pub record IsTo (st : Stack) (nodes : List ℕ) (l : Letter) : Type 0 where
   pub stack : l.stack ≡ st.name
   pub among : Contains nodes l.node
 
-pub letters_are : (st : Stack) (number : ℕ) (nodes : List ℕ) (l : Letter) → Contains (letters_to st number nodes) l → IsTo st nodes l
+pub letters_are : (st : Stack) (number : ℕ) (nodes : List ℕ) (l : Letter) → Contains (letters_to st number nodes) l
+    → IsTo st nodes l
 letters_are st number [] l c = absurd (nothing l c)
 letters_are st number (k ∷ nodes) l c =
     elim (Contains-append_cases (letter_to st number k ∷ []) (letters_to st (number + 1) nodes) l c) [
       | inl first ↦ let is = only_one (letter_to st number k) l first in
-          record { stack = ap (λ (x : Letter). x.stack) (sym is); among = (0, omega arith, ap (λ (x : Letter). x.node) is) }
+          record {
+            stack = ap (λ (x : Letter). x.stack) (sym is);
+            among = (0, omega arith, ap (λ (x : Letter). x.node) is);
+          }
       | inr later ↦ let more = letters_are st (number + 1) nodes l later in
-          record { stack = more.stack; among = (suc more.among.0, (let lt = more.among.1 in omega (arith, lt)), more.among.2) }
+          record {
+            stack = more.stack;
+            among = (suc more.among.0, (let lt = more.among.1 in omega (arith, lt)), more.among.2);
+          }
     ] where
       only_one : (x y : Letter) → Contains (x ∷ []) y → x ≡ y
       only_one x y (n, lt, is) = let first : n ≡ 0 = omega arith in rw first at is

@@ -20,7 +20,7 @@ use Rattle.step_relation.specs.Begins.{Begins, left_changes, moved_job, next_row
 use Rattle.step_relation.specs.Freshness.{plan_of}
 use Rattle.step_relation.specs.Rows.{created_row, deleted_row, ready_row, replaced, same_row, unlocked, updated_row}
 use Rattle.step_relation.specs.Writes.{mark_failed}
-use Rattle.soundness.specs.Elsewhere.{Rises}
+use Rattle.core_state.specs.Applies.{NoneFalls}
 use Rattle.soundness.specs.Linked.{IsOf, Links, Owned}
 use Rattle.soundness.specs.Numbered.{AllBelow}
 use Rattle.soundness.specs.Sound.{Standing}
@@ -71,28 +71,32 @@ module _ (s : StateData) (S : Standing s) (e : ℕ) (k : Begins s e) where
   required_below : AllBelow s.next.row k.required
   required_below n has =
       let it = (k.requires_are.each n).0 has in
-      let l = (h.numbered.graphs k.job.letter.stack k.graph k.names.its_graph).inputs k.job.letter.node k.point it.input k.its_point it.among in
+      let l = (h.numbered.graphs k.job.letter.stack k.graph k.names.its_graph).inputs k.job.letter.node k.point it.input
+      k.its_point it.among in
       let same : it.input.row ≡ n = it.row in omega arith
 
   pub rewrites_created : (props : Members) → Rewrites s k.row (created_row k.row k.item k.stack.trav props k.required)
   rewrites_created props = record {
     stood = row_self s.rows k.job.row k.row k.found;
     links = record { no_ = refl; stack = refl; name = refl; replaces = refl; replaced_by = refl; kept = λ _. k.kept };
-    below = kept_below s k.row (created_row k.row k.item k.stack.trav props k.required) b refl trav_below required_below refl refl refl;
+    below = kept_below s k.row (created_row k.row k.item k.stack.trav props k.required) b refl trav_below required_below
+        refl refl refl;
   }
 
   pub rewrites_same : Rewrites s k.row (same_row k.row k.item k.stack.trav k.required)
   rewrites_same = record {
     stood = row_self s.rows k.job.row k.row k.found;
     links = record { no_ = refl; stack = refl; name = refl; replaces = refl; replaced_by = refl; kept = λ _. k.kept };
-    below = kept_below s k.row (same_row k.row k.item k.stack.trav k.required) b refl trav_below required_below refl refl refl;
+    below = kept_below s k.row (same_row k.row k.item k.stack.trav k.required) b refl trav_below required_below
+        refl refl refl;
   }
 
   pub rewrites_updated : (props : Members) → Rewrites s k.row (updated_row k.row k.item k.stack.trav props k.required)
   rewrites_updated props = record {
     stood = row_self s.rows k.job.row k.row k.found;
     links = record { no_ = refl; stack = refl; name = refl; replaces = refl; replaced_by = refl; kept = λ _. k.kept };
-    below = kept_below s k.row (updated_row k.row k.item k.stack.trav props k.required) b refl trav_below required_below refl refl refl;
+    below = kept_below s k.row (updated_row k.row k.item k.stack.trav props k.required) b refl trav_below required_below
+        refl refl refl;
   }
 
   begun_current : IsCurrent k.row
@@ -108,7 +112,7 @@ module _ (s : StateData) (S : Standing s) (e : ℕ) (k : Begins s e) where
     abbrev moved : Job
     moved = moved_job s k.job
 
-    up : Rises s.next (past_row s.next)
+    up : NoneFalls s.next (past_row s.next)
     up = record {
       stack = omega arith;
       trav = omega arith;

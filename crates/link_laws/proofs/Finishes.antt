@@ -1,5 +1,6 @@
 -- A call fails; a node is done.
-use Rattle.std.proofs.Common.{◌≡◌, ◌<◌, ◌≤◌, inl, inr, ℕ, suc, ◌+◌, List, [], ◌∷◌, ◌++◌, map, Option, Some, None, refl, sym, ap, ◌∙◌, subst, arith}
+use Rattle.std.proofs.Common.{◌≡◌, ◌<◌, ◌≤◌, inl, inr, ℕ, suc, ◌+◌, List, [], ◌∷◌, ◌++◌, map, Option, Some, None, refl}
+use Rattle.std.proofs.Common.{sym, ap, ◌∙◌, subst, arith}
 use Rattle.std.specs.Prelude.{Contains, length, slice_get}
 use Rattle.std.specs.List.{AllByRecursion}
 use Rattle.heat_plan.specs.Plans.{PlanData, names_of}
@@ -26,7 +27,7 @@ use Rattle.step_relation.specs.Inputs.{AllDone, input_of, passed_points}
 use Rattle.step_relation.specs.Rows.{failed_row}
 use Rattle.step_relation.specs.Targets.{IsTarget}
 use Rattle.step_relation.specs.Writes.{letters_to, mark_failed, unlock}
-use Rattle.soundness.specs.Elsewhere.{Rises}
+use Rattle.core_state.specs.Applies.{NoneFalls}
 use Rattle.soundness.specs.GraphFits.{GraphFits, IsNode}
 use Rattle.soundness.specs.Linked.{Links}
 use Rattle.soundness.specs.MailFits.{JobFits}
@@ -35,7 +36,8 @@ use Rattle.soundness.specs.Sound.{Standing}
 use Rattle.link_laws.proofs.Numbers.{GraphBelow-rises, LetterFor, PointBelow}
 use Rattle.link_laws.proofs.Points.{passed_below, passed_done, points_graph}
 use Rattle.link_laws.proofs.Rewrites.{Links-ended, Links-left, rewrites_failed}
-use Rattle.link_laws.proofs.Single.{Links-Numbers, Links-failed, Links-points, Links-sends, MarkFor, NoRow, draws, letters-below}
+use Rattle.link_laws.proofs.Single.{Links-Numbers, Links-failed, Links-points, Links-sends, MarkFor, NoRow, draws}
+use Rattle.link_laws.proofs.Single.{letters-below}
 use Rattle.link_laws.proofs.Takes.{behind, resent_below}
 use Rattle.soundness.specs.Numbered.{StackBelow}
 use Rattle.table_laws.proofs.Facts.{job_fits, named_fits, named_marks, named_rows, named_stack}
@@ -48,11 +50,11 @@ module _ (s : StateData) (h : Links s) (e : ℕ) (j : Job) (its : job_at s.jobs 
   fails : (letters : List Letter) (failed : Option Stack)
       → ((next : Numbers) → s.next.letter + length letters ≤ next.letter → next.trav ≡ s.next.trav → AllByRecursion
       (LetterFor next) letters)
-      → ((next : Numbers) → Rises s.next next → MarkFor next failed)
+      → ((next : Numbers) → NoneFalls s.next next → MarkFor next failed)
       → Links (applied (failed_changes s e r letters failed) s)
   fails letters failed below mark = draws Links s letters
       (PutRow (failed_row r) ∷ EndJob e ∷ (map Send letters ++ mark_failed failed)) more where
-        more : (next : Numbers) → Rises s.next next → s.next.letter + length letters ≤ next.letter
+        more : (next : Numbers) → NoneFalls s.next next → s.next.letter + length letters ≤ next.letter
             → next.trav ≡ s.next.trav
             → Links (applied (PutRow (failed_row r) ∷ EndJob e ∷ (map Send letters ++ mark_failed failed))
             (record s { next = next }))
@@ -66,7 +68,7 @@ module _ (s : StateData) (h : Links s) (e : ℕ) (j : Job) (its : job_at s.jobs 
             (Links-left (record s { next = next }) h_t e j its r (failed_row r) at refl refl
             (rewrites_failed (record s { next = next }) h_t j.row r at))
 
-  stack_rises : (st : Stack) → StackBelow s.next.stack s.next.trav st → (next : Numbers) → Rises s.next next
+  stack_rises : (st : Stack) → StackBelow s.next.stack s.next.trav st → (next : Numbers) → NoneFalls s.next next
       → StackBelow next.stack next.trav st
   stack_rises st b next up = record {
     no_ = let l = b.no_ in let m = up.stack in omega arith;
@@ -79,7 +81,7 @@ module _ (s : StateData) (h : Links s) (e : ℕ) (j : Job) (its : job_at s.jobs 
       fails letters None (resent_below s h j.letter.stack j.row letters resends) (λ next up st is. cc)
   Links-call_failed _ _ (marked k other) = fails [] None (λ next le same. tt) (λ next up st is. cc)
   Links-call_failed _ _ (marks k is) = fails [] (Some k.stack) (λ next le same. tt) below where
-    below : (next : Numbers) → Rises s.next next → MarkFor next (Some k.stack)
+    below : (next : Numbers) → NoneFalls s.next next → MarkFor next (Some k.stack)
     below next up st same =
         let is_st : k.stack ≡ st = cc in
         subst (StackBelow next.stack next.trav) is_st (stack_rises k.stack
@@ -108,7 +110,7 @@ module _ (s : StateData) (S : Standing s) (e : ℕ) (k : Finishes s e) where
   input_below (C n) at = (h.numbered.graphs k.job.letter.stack g k.fresh.names.its_graph).nodes k.job.letter.node
       (C n) at
 
-  pub st_below : (next : Numbers) → Rises s.next next → StackBelow next.stack next.trav st
+  pub st_below : (next : Numbers) → NoneFalls s.next next → StackBelow next.stack next.trav st
   st_below next up = let b = h.numbered.stacks k.job.letter.stack st k.fresh.names.in_table in record {
     no_ = let l = b.no_ in let m = up.stack in omega arith;
     newest = let l = b.newest in let m = up.trav in omega arith;
@@ -121,13 +123,13 @@ module _ (s : StateData) (S : Standing s) (e : ℕ) (k : Finishes s e) where
   unlocked_rows (Some r) next = refl
 
   module _ (mark : List Change)
-      (marked : (t : StateData) → Rises s.next t.next → t.rows ≡
+      (marked : (t : StateData) → NoneFalls s.next t.next → t.rows ≡
       (applied (unlock k.fresh.row (EndJob e ∷ [])) s).rows → Links t → Links (applied mark t)) where
     abbrev rest : List Change
     rest = map PutPoint (passed_points g k.job.letter.node (given_input s e k) k.succs) ++
         (map Send (ready_letters s e k) ++ mark)
 
-    module _ (next : Numbers) (up : Rises s.next next)
+    module _ (next : Numbers) (up : NoneFalls s.next next)
         (le : s.next.letter + length (ready_letters s e k) ≤ next.letter) (same : next.trav ≡ s.next.trav) where
       points_below : AllByRecursion (PointBelow next.row)
           (passed_points g k.job.letter.node (given_input s e k) k.succs)
@@ -156,14 +158,15 @@ module _ (s : StateData) (S : Standing s) (e : ℕ) (k : Finishes s e) where
           (subst (λ (n : Numbers). AllByRecursion (LetterFor n) (ready_letters s e k))
           (sym (same_u ∙ same_next)) letters_below)
           (λ v same_v rows_v h_v.
-          marked v (subst (Rises s.next) (sym (same_v ∙ (same_u ∙ same_next))) up)
+          marked v (subst (NoneFalls s.next) (sym (same_v ∙ (same_u ∙ same_next))) up)
           (rows_v ∙ (rows_u ∙ (rows ∙ unlocked_rows k.fresh.row next))) h_v) h_u) h_t
 
       ends : Links (applied (unlock k.fresh.row (EndJob e ∷ rest)) (record s { next = next }))
       ends =
           behind (record s { next = next }) k.job.row k.fresh.row e rest k.fresh.found
           (λ t same_next _ _ rows h_t. behind_end t same_next rows h_t)
-          (Links-ended (record s { next = next }) (Links-Numbers s next up h) e k.job k.works.its k.fresh.row k.fresh.found)
+          (Links-ended (record s { next = next })
+          (Links-Numbers s next up h) e k.job k.works.its k.fresh.row k.fresh.found)
 
     pub Links-finished : Links (applied (finished_changes s e k mark) s)
     Links-finished = draws Links s (ready_letters s e k) (unlock k.fresh.row (EndJob e ∷ rest))
@@ -178,10 +181,11 @@ module _ (s : StateData) (S : Standing s) (e : ℕ) (k : Finishes s e) where
     fits = named_fits s S k.job.letter st g node k.fresh.names
 
     unplanned : (word : List ℕ) → Contains (names_of (plan_of st.plan).items) word → ⊥
-    unplanned word has = nothing (st.plan) ((named_marks s S k.job.letter st g node k.fresh.names).deletes.0 act) has where
-      nothing : (p : Option PlanData) → p ≡ None → Contains (names_of (plan_of p).items) word → ⊥
-      nothing None is (n, lt, at) = absurd (omega arith)
-      nothing (Some p) is has = cc
+    unplanned word has = nothing (st.plan)
+        ((named_marks s S k.job.letter st g node k.fresh.names).deletes.0 act) has where
+          nothing : (p : Option PlanData) → p ≡ None → Contains (names_of (plan_of p).items) word → ⊥
+          nothing None is (n, lt, at) = absurd (omega arith)
+          nothing (Some p) is has = cc
 
     unwanted : (r : Row) → IsWanted st r → ⊥
     unwanted r is = unplanned r.name is.planned

@@ -14,7 +14,12 @@ use Rattle.core_state.specs.declared.stack.Stack.{Stack}
 use Rattle.step_relation.specs.Asks.{Falls, marked, marks, overrun}
 use Rattle.step_relation.specs.Finishes.{Finishes, Settles, finished_changes}
 use Rattle.core_state.specs.declared.entry.Entry.{Entry}
-use Rattle.step_relation.specs.Moves.{Move, ask_begun, ask_failed, begin_failed, begin_faulted, begin_in_place, begin_init, begin_overrun, begin_replaced, begin_resumed, begin_same, clean_deleted, clean_gone, clean_init, clean_kept, clean_retained, clean_stuck, finish, finish_last, finish_overrun, poll_failed, poll_gone, poll_ready, poll_waits, take_dropped, take_free, take_stolen, takeover_fresh, takeover_overrun}
+use Rattle.step_relation.specs.Moves.{Move, ask_begun, ask_failed, begin_failed, begin_faulted, begin_in_place}
+use Rattle.step_relation.specs.Moves.{begin_init, begin_overrun, begin_replaced, begin_resumed, begin_same}
+use Rattle.step_relation.specs.Moves.{clean_deleted, clean_gone, clean_init, clean_kept, clean_retained, clean_stuck}
+use Rattle.step_relation.specs.Moves.{finish, finish_last, finish_overrun, poll_failed, poll_gone, poll_ready}
+use Rattle.step_relation.specs.Moves.{poll_waits, take_dropped, take_free, take_stolen, takeover_fresh}
+use Rattle.step_relation.specs.Moves.{takeover_overrun}
 use Rattle.step_relation.specs.Given.{Given}
 use Rattle.step_relation.specs.Rows.{token_of, unlocked}
 use Rattle.step_relation.specs.Takes.{Relays, Releases, Takes, relayed_letter, released_changes}
@@ -23,7 +28,8 @@ use Rattle.soundness.specs.Groups.{KeptByMoves}
 use Rattle.soundness.specs.Linked.{IsOf, Links}
 use Rattle.soundness.specs.Numbered.{StackBelow}
 use Rattle.soundness.specs.Sound.{Standing}
-use Rattle.link_laws.proofs.Begins.{Links-faulted, Links-replaced, rewrites_created, rewrites_deleted, rewrites_ready, rewrites_same, rewrites_updated}
+use Rattle.link_laws.proofs.Begins.{Links-faulted, Links-replaced, rewrites_created, rewrites_deleted, rewrites_ready}
+use Rattle.link_laws.proofs.Begins.{rewrites_same, rewrites_updated}
 use Rattle.link_laws.proofs.Finishes.{Links-call_failed, Links-finished, none_left, st_below}
 use Rattle.link_laws.proofs.Rewrites.{Links-begun, Links-left, Links-onward, Links-purged, rewrites_unlocked}
 use Rattle.link_laws.proofs.Single.{Links-Drop, Links-Release, Links-complete, MarkFor, NoRow, NoRow-put, letters-below}
@@ -87,7 +93,8 @@ links_after s e given failed cs es S (take_free k _ _ free is _) =
     (taken_owned s S e k) k.next k.meant.fresh.row k.meant.fresh.found free)
 links_after s e given failed cs es S (take_stolen k f j _ _ holder stopped is _) =
     by_changes s cs _ is
-    (Links-stolen s S.links e k.letter k.meant.target (taken_owned s S e k) k.next k.meant.fresh.row f j k.meant.fresh.found holder.its holder.has)
+    (Links-stolen s S.links e k.letter k.meant.target
+    (taken_owned s S e k) k.next k.meant.fresh.row f j k.meant.fresh.found holder.its holder.has)
 links_after s e given failed cs es S (begin_overrun j _ _ works k is _) = by_changes s cs _ is
     (released_to s S e j works.its k)
 links_after s e given failed cs es S (begin_faulted k code path mark _ _ falls is _) =

@@ -1,5 +1,6 @@
 -- A command keeps the links.
-use Rattle.std.proofs.Common.{◌≡◌, ◌<◌, inl, inr, ℕ, ◌+◌, List, [], ◌∷◌, ◌++◌, map, Some, refl, sym, ap, ◌∙◌, subst, arith}
+use Rattle.std.proofs.Common.{◌≡◌, ◌<◌, inl, inr, ℕ, ◌+◌, List, [], ◌∷◌, ◌++◌, map, Some, refl, sym, ap, ◌∙◌, subst}
+use Rattle.std.proofs.Common.{arith}
 use Rattle.std.specs.Prelude.{Contains, IsSome, bytes_eq, length, slice_get}
 use Rattle.std.proofs.lemmas.List.Sorted.{length_permutation}
 use Rattle.std.proofs.lemmas.Slice.Eq.{bytes_eq-Decides}
@@ -16,8 +17,9 @@ use Rattle.core_state.specs.State.{StateData, stack_at, stack_key}
 use Rattle.core_state.specs.declared.change.Change.TheVariants.{PutGraph, PutPast, PutStack, Send}
 use Rattle.core_state.specs.declared.numbers.Numbers.{Numbers}
 use Rattle.core_state.specs.declared.stack.Stack.{Stack}
-use Rattle.step_relation.specs.Commands.{Chooses, Lays, Sets, brief_of, current, first_letters, fresh, laid_changes, none, past_command, settles_at_once, stack_set}
-use Rattle.soundness.specs.Elsewhere.{Rises}
+use Rattle.step_relation.specs.Commands.{Chooses, Lays, Sets, brief_of, current, first_letters, fresh, laid_changes}
+use Rattle.step_relation.specs.Commands.{none, past_command, settles_at_once, stack_set}
+use Rattle.core_state.specs.Applies.{NoneFalls}
 use Rattle.soundness.specs.Groups.{IsOrdered, KeptByCommands, creates, deletes, rolls_back, updates}
 use Rattle.soundness.specs.Linked.{IsOf, Links, by_row}
 use Rattle.soundness.specs.Numbered.{Numbered, StackBelow, row_of}
@@ -75,7 +77,7 @@ module _ (s : StateData) (S : Standing s) (name : List ℕ) (items : List Item) 
   abbrev rows : List Row
   rows = put_rows k.rows s.rows
 
-  up : Rises s.next next
+  up : NoneFalls s.next next
   up = record {
     stack = omega arith;
     trav = omega arith;
@@ -120,6 +122,7 @@ module _ (s : StateData) (S : Standing s) (name : List ℕ) (items : List Item) 
       letters = first_numbered.letters;
       jobs = first_numbered.jobs;
       live = first_numbered.live;
+      once = first_numbered.once;
     };
     current = N.current;
     chained = N.chained;

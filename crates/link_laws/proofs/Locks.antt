@@ -7,7 +7,8 @@ use Rattle.mail_table.specs.declared.mail.Job.{Job}
 use Rattle.step_relation.specs.Takes.{HasNoHolder}
 use Rattle.soundness.specs.Linked.{Locked}
 use Rattle.table_laws.proofs.Alike.{job_again, row_swapped, row_twice}
-use Rattle.table_laws.proofs.Rows.{job_cut, job_else, job_gone, job_here, job_kept, job_put, row_cut, row_here, row_put, same_or_not, same_some}
+use Rattle.table_laws.proofs.Rows.{job_cut, job_else, job_gone, job_here, job_kept, job_put, row_cut, row_here, row_put}
+use Rattle.table_laws.proofs.Rows.{same_or_not, same_some}
 
 -- only what is found matters
 pub Locked-same : (rows rows' : List Row) (jobs jobs' : List Job) → ((n : ℕ) → row_at rows' n ≡ row_at rows n)

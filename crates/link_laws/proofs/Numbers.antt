@@ -1,9 +1,12 @@
 -- What each change keeps of `Numbered`.
-use Rattle.std.proofs.Common.{◌≡◌, ◌≢◌, ◌<◌, ◌≤◌, ◌⊎◌, inl, inr, ℕ, ◌+◌, zero, suc, List, [], ◌∷◌, Option, Some, sym, ap, subst, arith}
-use Rattle.std.specs.Prelude.{Contains, IsSome, false, nat_eq, slice_get}
+use Rattle.std.proofs.Common.{◌≡◌, ◌≢◌, ◌<◌, ◌≤◌, ◌⊎◌, inl, inr, ℕ, ◌+◌, zero, suc, List, [], ◌∷◌, ◌++◌, Option, Some}
+use Rattle.std.proofs.Common.{sym, ap, subst, ◌∙◌, arith}
+use Rattle.std.specs.Prelude.{Contains, IsSome, false, nat_eq, slice_get, slice_index_or}
 use Rattle.std.specs.Str.{bytes_eq}
 use Rattle.std.proofs.lemmas.Bool.Decides.{Decides-eqb}
 use Rattle.std.proofs.lemmas.List.Elements.{Contains-append_cases}
+use Rattle.std.proofs.lemmas.List.Quantifiers.{all_pairs_push}
+use Rattle.std.proofs.lemmas.Option.{get_or_from_slice_get, slice_get-get_or}
 use Rattle.std.proofs.lemmas.Slice.Eq.{bytes_eq-Decides}
 use Rattle.heat_plan.specs.declared.token.Token.{Token}
 use Rattle.traversal_graph.specs.declared.shape.Node.{Node}
@@ -18,13 +21,17 @@ use Rattle.mail_table.specs.declared.mail.Letter.{Letter}
 use Rattle.core_state.specs.Changes.{apply, fresh_graph, with_point}
 use Rattle.core_state.specs.Graphs.{fresh_points}
 use Rattle.core_state.specs.State.{StateData, graph_at, graph_key, stack_at, stack_key}
-use Rattle.core_state.specs.declared.change.Change.TheVariants.{Drop, DropRow, DropStack, EndJob, Enlist, PutGraph, PutJob, PutPast, PutPoint, PutRow, PutStack, Release, Send, Stop}
+use Rattle.core_state.specs.declared.change.Change.TheVariants.{Drop, DropRow, DropStack, EndJob, Enlist, PutGraph}
+use Rattle.core_state.specs.declared.change.Change.TheVariants.{PutJob, PutPast, PutPoint, PutRow, PutStack, Release}
+use Rattle.core_state.specs.declared.change.Change.TheVariants.{Send, Stop}
 use Rattle.core_state.specs.declared.graph.Graph.{Graph}
 use Rattle.core_state.specs.declared.numbers.Numbers.{Numbers}
 use Rattle.core_state.specs.declared.past.Past.{Past}
 use Rattle.core_state.specs.declared.stack.Stack.{Stack}
-use Rattle.soundness.specs.Elsewhere.{Rises}
-use Rattle.soundness.specs.Numbered.{AllBelow, BelowIfThere, GraphBelow, JobBelow, LetterBelow, Numbered, RowBelow, StackBelow, row_of}
+use Rattle.core_state.specs.Applies.{NoneFalls}
+use Rattle.soundness.specs.Numbered.{AllBelow, BelowIfThere, EachOnce, GraphBelow, JobBelow, LetterBelow, Numbered}
+use Rattle.soundness.specs.Numbered.{RowBelow, StackBelow, row_of}
+use Rattle.table_laws.proofs.Frame.{only_one}
 use Rattle.table_laws.proofs.Points.{point_found}
 use Rattle.table_laws.proofs.Rows.{graph_cut, row_cut, stack_cut, stack_kept}
 use Rattle.table_laws.proofs.Tables.{Each-cut, Each-put, set_found, some_put}
@@ -45,7 +52,7 @@ below_more o a b le h n is = let l = h n is in omega arith
 all_more : (ns : List ℕ) (a b : ℕ) → a ≤ b → AllBelow a ns → AllBelow b ns
 all_more ns a b le h n has = let l = h n has in omega arith
 
-module _ (a b : Numbers) (u : Rises a b) where
+module _ (a b : Numbers) (u : NoneFalls a b) where
   pub RowBelow-rises : (r : Row) → RowFor a r → RowFor b r
   RowBelow-rises r h = record {
     no_ = let n = h.no_ in let l = u.row in omega arith;
@@ -81,7 +88,7 @@ module _ (a b : Numbers) (u : Rises a b) where
     inputs = λ i p x at has. let l = h.inputs i p x at has in let r = u.row in omega arith;
   }
 
-pub Numbered-Numbers : (s : StateData) (next : Numbers) → Rises s.next next → Numbered s → Numbered
+pub Numbered-Numbers : (s : StateData) (next : Numbers) → NoneFalls s.next next → Numbered s → Numbered
     (apply (change_to.Numbers next) s)
 Numbered-Numbers s next u h = record {
   in_table = h.in_table;
@@ -91,6 +98,7 @@ Numbered-Numbers s next u h = record {
   letters = λ n l at. LetterBelow-rises s.next next u l (h.letters n l at);
   jobs = λ e j at. JobBelow-rises s.next next u j (h.jobs e j at);
   live = λ e has. let l = h.live e has in let r = u.engine in omega arith;
+  once = h.once;
 }
 
 pub Numbered-PutStack : (s : StateData) (st : Stack) → StackBelow s.next.stack s.next.trav st → Numbered s
@@ -104,6 +112,7 @@ Numbered-PutStack s st below h = record {
   letters = h.letters;
   jobs = h.jobs;
   live = h.live;
+  once = h.once;
 }
 
 -- a stack goes of which no row stands
@@ -119,6 +128,7 @@ Numbered-DropStack s name none h = record {
   letters = h.letters;
   jobs = h.jobs;
   live = h.live;
+  once = h.once;
 }
 
 pub Numbered-PutRow : (s : StateData) (q : Row) → RowFor s.next q → IsSome (stack_at s.stacks q.stack) → Numbered s
@@ -131,6 +141,7 @@ Numbered-PutRow s q below there h = record {
   letters = h.letters;
   jobs = h.jobs;
   live = h.live;
+  once = h.once;
 }
 
 pub Numbered-DropRow : (s : StateData) (c : ℕ) → Numbered s → Numbered (apply (DropRow c) s)
@@ -142,6 +153,7 @@ Numbered-DropRow s c h = record {
   letters = h.letters;
   jobs = h.jobs;
   live = h.live;
+  once = h.once;
 }
 
 pub Numbered-Send : (s : StateData) (l : Letter) → LetterFor s.next l → Numbered s → Numbered (apply (Send l) s)
@@ -153,6 +165,7 @@ Numbered-Send s l below h = record {
   letters = Each-put nat_eq Decides-eqb letter_key (LetterFor s.next) l s.letters below h.letters;
   jobs = h.jobs;
   live = h.live;
+  once = h.once;
 }
 
 pub Numbered-Drop : (s : StateData) (n : ℕ) → Numbered s → Numbered (apply (Drop n) s)
@@ -164,6 +177,7 @@ Numbered-Drop s n h = record {
   letters = Each-cut nat_eq Decides-eqb letter_key (LetterFor s.next) n s.letters h.letters;
   jobs = h.jobs;
   live = h.live;
+  once = h.once;
 }
 
 pub Numbered-PutJob : (s : StateData) (j : Job) → JobFor s.next j → Numbered s → Numbered (apply (PutJob j) s)
@@ -175,6 +189,7 @@ Numbered-PutJob s j below h = record {
   letters = h.letters;
   jobs = Each-put nat_eq Decides-eqb job_key (JobFor s.next) j s.jobs below h.jobs;
   live = h.live;
+  once = h.once;
 }
 
 pub Numbered-EndJob : (s : StateData) (e : ℕ) → Numbered s → Numbered (apply (EndJob e) s)
@@ -186,6 +201,7 @@ Numbered-EndJob s e h = record {
   letters = h.letters;
   jobs = Each-cut nat_eq Decides-eqb job_key (JobFor s.next) e s.jobs h.jobs;
   live = h.live;
+  once = h.once;
 }
 
 pub Numbered-PutPast : (s : StateData) (p : Past) → Numbered s → Numbered (apply (PutPast p) s)
@@ -197,6 +213,7 @@ Numbered-PutPast s p h = record {
   letters = h.letters;
   jobs = h.jobs;
   live = h.live;
+  once = h.once;
 }
 
 pub Numbered-Release : (s : StateData) (t : Token) → Numbered s → Numbered (apply (Release t) s)
@@ -208,13 +225,22 @@ Numbered-Release s t h = record {
   letters = h.letters;
   jobs = h.jobs;
   live = h.live;
+  once = h.once;
 }
 
-only_one : {A : Type 0} (x y : A) → Contains (x ∷ []) y → x ≡ y
-only_one x y (n, lt, is) = let first : n ≡ 0 = omega arith in rw first at is
+-- a number that doesn't stand yet joins the others
+pub once_more : (numbers : List ℕ) (n : ℕ) → ¬ Contains numbers n → EachOnce numbers → EachOnce (numbers ++ n ∷ [])
+once_more numbers n new once = all_pairs_push (λ (a b : ℕ). a ≢ b) numbers n once
+    (λ k d lt is. new (
+      k,
+      lt,
+      get_or_from_slice_get numbers k (slice_index_or numbers k d) n
+          (slice_get-get_or numbers k d lt) ∙ is,
+    ))
 
-pub Numbered-Enlist : (s : StateData) (e : ℕ) → e < s.next.engine → Numbered s → Numbered (apply (Enlist e) s)
-Numbered-Enlist s e below h = record {
+pub Numbered-Enlist : (s : StateData) (e : ℕ) → e < s.next.engine → ¬ Contains s.live e → Numbered s
+    → Numbered (apply (Enlist e) s)
+Numbered-Enlist s e below new h = record {
   in_table = h.in_table;
   stacks = h.stacks;
   rows = h.rows;
@@ -223,8 +249,9 @@ Numbered-Enlist s e below h = record {
   jobs = h.jobs;
   live = λ f has. elim (Contains-append_cases s.live (e ∷ []) f has) [
     | inl was ↦ h.live f was
-    | inr new ↦ rw (← only_one e f new) below
+    | inr its ↦ rw (← only_one e f its) below
   ];
+  once = once_more s.live e new h.once;
 }
 
 -- the inputs of the written point are below the next number
@@ -241,6 +268,7 @@ Numbered-PutPoint s p below h = record {
   letters = h.letters;
   jobs = h.jobs;
   live = h.live;
+  once = h.once;
 } where
   again : (n : List ℕ) (g o : Graph) → graph_at s.graphs n ≡ Some o → (g ≡ with_point p o) ⊎ (g ≡ o)
       → GraphBelow s.next.row g
@@ -288,4 +316,5 @@ Numbered-PutGraph s name g below h = record {
   letters = h.letters;
   jobs = h.jobs;
   live = h.live;
+  once = h.once;
 }

@@ -1,5 +1,6 @@
 -- What the points of a graph are when a node is done and gives its input.
-use Rattle.std.proofs.Common.{◌≡◌, ◌<◌, ◌⊎◌, inl, inr, ℕ, Bool, true, false, cond, List, [], ◌∷◌, ◌++◌, map, Option, Some, None, refl, sym, ap, ◌∙◌, subst, arith}
+use Rattle.std.proofs.Common.{◌≡◌, ◌<◌, ◌⊎◌, inl, inr, ℕ, Bool, true, false, cond, List, [], ◌∷◌, ◌++◌, map, Option}
+use Rattle.std.proofs.Common.{Some, None, refl, sym, ap, ◌∙◌, subst, arith}
 use Rattle.std.specs.Prelude.{Contains, slice_get, unwrap_or}
 use Rattle.std.specs.List.{AllByRecursion}
 use Rattle.std.proofs.lemmas.Bool.Decides.{eqb_tells}
@@ -9,18 +10,17 @@ use Rattle.sync_points.specs.declared.point.Point.{Point}
 use Rattle.core_state.specs.Changes.{with_point}
 use Rattle.core_state.specs.Reads.{IsDone}
 use Rattle.core_state.specs.declared.graph.Graph.{Graph}
-use Rattle.step_relation.specs.Inputs.{gathered, has_from, is_among, passed, passed_points, point_after, point_at, with_points}
+use Rattle.step_relation.specs.Inputs.{gathered, has_from, is_among, passed, passed_points, point_after, point_at}
+use Rattle.step_relation.specs.Inputs.{with_points}
 use Rattle.soundness.specs.Numbered.{GraphBelow}
 use Rattle.link_laws.proofs.Numbers.{PointBelow}
+use Rattle.table_laws.proofs.Frame.{only_one}
 use Rattle.table_laws.proofs.Tables.{set_found}
 
 -- nodes and edges stay
 pub points_graph : (ps : List Point) (g : Graph) → (with_points ps g).graph ≡ g.graph
 points_graph [] g = refl
 points_graph (p ∷ ps) g = points_graph ps (with_point p g)
-
-only_one : {A : Type 0} (x y : A) → Contains (x ∷ []) y → x ≡ y
-only_one x y (n, lt, is) = let first : n ≡ 0 = omega arith in rw first at is
 
 module _ (row : ℕ) (g : Graph) (below : GraphBelow row g) (i : ℕ) (x : Input) (x_below : x.row < row)
     (succs : List ℕ) where

@@ -15,7 +15,8 @@ use Rattle.soundness.specs.Linked.{Chained, Links, OneCurrent, Owned, by_job}
 use Rattle.soundness.specs.Numbered.{Numbered}
 use Rattle.link_laws.proofs.Chains.{Chained-were, OneCurrent-were, SameLinks, SameLinks-same}
 use Rattle.link_laws.proofs.Locks.{Locked-end, Locked-purge, Locked-restage, Locked-row, Locked-unlock}
-use Rattle.link_laws.proofs.Numbers.{JobFor, Numbered-DropRow, Numbered-EndJob, Numbered-PutJob, Numbered-PutRow, RowFor}
+use Rattle.link_laws.proofs.Numbers.{JobFor, Numbered-DropRow, Numbered-EndJob, Numbered-PutJob, Numbered-PutRow}
+use Rattle.link_laws.proofs.Numbers.{RowFor}
 use Rattle.link_laws.proofs.Owners.{IsOf-cut_job, IsOf-cut_row, Owned-less, Owned-put_job, Owned-row}
 use Rattle.table_laws.proofs.Alike.{Were-cut, Were-put}
 use Rattle.table_laws.proofs.Rows.{job-key, row-key, row_self}

@@ -1,5 +1,6 @@
 -- What each single change keeps of `Links`.
-use Rattle.std.proofs.Common.{◌≡◌, ◌≢◌, ◌<◌, ◌≤◌, inl, inr, ℕ, ◌+◌, List, [], ◌∷◌, ◌++◌, map, Option, Some, None, refl, ap, ◌∙◌, arith}
+use Rattle.std.proofs.Common.{◌≡◌, ◌≢◌, ◌<◌, ◌≤◌, inl, inr, ℕ, ◌+◌, List, [], ◌∷◌, ◌++◌, map, Option, Some, None, refl}
+use Rattle.std.proofs.Common.{ap, ◌∙◌, arith}
 use Rattle.std.specs.Prelude.{length}
 use Rattle.std.specs.List.{AllByRecursion}
 use Rattle.heat_plan.specs.declared.phase.Act.{Act}
@@ -14,21 +15,23 @@ use Rattle.mail_table.specs.declared.mail.Letter.{Letter}
 use Rattle.core_state.specs.Changes.{applied, apply}
 use Rattle.core_state.specs.State.{StateData}
 use Rattle.core_state.specs.declared.change.Change.{Change}
-use Rattle.core_state.specs.declared.change.Change.TheVariants.{Drop, DropStack, PutPast, PutPoint, PutStack, Release, Send}
+use Rattle.core_state.specs.declared.change.Change.TheVariants.{Drop, DropStack, PutPast, PutPoint, PutStack, Release}
+use Rattle.core_state.specs.declared.change.Change.TheVariants.{Send}
 use Rattle.core_state.specs.declared.numbers.Numbers.{Numbers}
 use Rattle.core_state.specs.declared.past.Past.{Past}
 use Rattle.core_state.specs.declared.stack.Stack.{Stack}
 use Rattle.step_relation.specs.Writes.{draw_letters, letters_to, mark_complete, mark_failed, past_letters}
-use Rattle.soundness.specs.Elsewhere.{Rises}
+use Rattle.core_state.specs.Applies.{NoneFalls}
 use Rattle.soundness.specs.Linked.{Links}
 use Rattle.soundness.specs.Numbered.{StackBelow}
-use Rattle.link_laws.proofs.Numbers.{LetterFor, Numbered-Drop, Numbered-DropStack, Numbered-Numbers, Numbered-PutPast, Numbered-PutPoint, Numbered-PutStack, Numbered-Release, Numbered-Send, PointBelow}
+use Rattle.link_laws.proofs.Numbers.{LetterFor, Numbered-Drop, Numbered-DropStack, Numbered-Numbers, Numbered-PutPast}
+use Rattle.link_laws.proofs.Numbers.{Numbered-PutPoint, Numbered-PutStack, Numbered-Release, Numbered-Send, PointBelow}
 use Rattle.link_laws.proofs.Owners.{IsOf-cut_graph, IsOf-point, Owned-less}
-use Rattle.table_laws.proofs.Frame.{Rises-same}
+use Rattle.table_laws.proofs.Frame.{NoneFalls-same}
 use Rattle.table_laws.proofs.Rows.{row_put}
 use Rattle.core_state.specs.declared.change.Change.TheVariants as change_to
 
-pub Links-Numbers : (s : StateData) (next : Numbers) → Rises s.next next → Links s → Links
+pub Links-Numbers : (s : StateData) (next : Numbers) → NoneFalls s.next next → Links s → Links
     (apply (change_to.Numbers next) s)
 Links-Numbers s next up h = record {
   numbered = Numbered-Numbers s next up h.numbered;
@@ -170,10 +173,10 @@ letters-below next n st (k ∷ ks) trav le =
 
 -- where numbers of letters are drawn, the next numbers rise
 pub draws : (P : StateData → Type 0) (s : StateData) (ls : List Letter) (rest : List Change)
-    → ((next : Numbers) → Rises s.next next → s.next.letter + length ls ≤ next.letter → next.trav ≡ s.next.trav → P
+    → ((next : Numbers) → NoneFalls s.next next → s.next.letter + length ls ≤ next.letter → next.trav ≡ s.next.trav → P
     (applied rest (record s { next = next })))
     → P (applied (draw_letters s.next ls rest) s)
-draws P s [] rest more = more s.next (Rises-same s.next) (omega arith) refl
+draws P s [] rest more = more s.next (NoneFalls-same s.next) (omega arith) refl
 draws P s (l ∷ ls) rest more =
     more (past_letters s.next (length (l ∷ ls)))
     (record {

@@ -1,5 +1,6 @@
 -- A letter is taken, and a job is released.
-use Rattle.std.proofs.Common.{◌≡◌, ◌≤◌, inl, inr, ℕ, ◌+◌, List, [], ◌∷◌, map, Option, Some, None, refl, sym, ◌∙◌, subst, arith}
+use Rattle.std.proofs.Common.{◌≡◌, ◌≤◌, inl, inr, ℕ, ◌+◌, List, [], ◌∷◌, map, Option, Some, None, refl, sym, ◌∙◌, subst}
+use Rattle.std.proofs.Common.{arith}
 use Rattle.std.specs.Prelude.{length}
 use Rattle.std.specs.List.{AllByRecursion}
 use Rattle.std.proofs.lemmas.List.{append-nil}
@@ -19,7 +20,7 @@ use Rattle.step_relation.specs.Resends.{Resends, cleanup, nobody, update}
 use Rattle.step_relation.specs.Rows.{locked, unlocked}
 use Rattle.step_relation.specs.Takes.{HasNoHolder, released_changes}
 use Rattle.step_relation.specs.Writes.{job_of, lock, unlock}
-use Rattle.soundness.specs.Elsewhere.{Rises}
+use Rattle.core_state.specs.Applies.{NoneFalls}
 use Rattle.soundness.specs.Linked.{IsOf, Links, by_row}
 use Rattle.link_laws.proofs.Locks.{Locked-hold, Locked-lock, Locked-steal, Locked-steal_gone}
 use Rattle.link_laws.proofs.Numbers.{JobFor, LetterFor, Numbered-Drop, Numbered-EndJob, Numbered-PutJob}
@@ -142,7 +143,8 @@ Links-released s h f j its r at letters below = draws Links s letters
           (Links-sends t letters [] (subst (λ (n : Numbers). AllByRecursion (LetterFor n) letters) (sym same) ls)
           (λ u _ _ h_u. h_u) h_t)
 
-      more : (next : Numbers) → Rises s.next next → s.next.letter + length letters ≤ next.letter → next.trav ≡ s.next.trav
+      more : (next : Numbers) → NoneFalls s.next next → s.next.letter + length letters ≤ next.letter
+          → next.trav ≡ s.next.trav
           → Links (applied (unlock r (EndJob f ∷ map Send letters)) (record s { next = next }))
       more next up le same =
           behind (record s { next = next }) j.row r f (map Send letters) at

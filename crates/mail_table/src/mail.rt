@@ -16,9 +16,13 @@ pub struct Letter {
 /// How far a job is.
 #[derive(Clone, Copy, Debug, PartialEq, Eq)]
 pub enum Stage {
+    /// The row is locked, and nothing was begun.
     Taken,
+    /// The row is written, and the cloud is about to be asked.
     Asking,
+    /// The cloud was asked, and its answer is awaited.
     Polling,
+    /// The work is done, and those that wait are about to be told.
     Ending,
 }
 

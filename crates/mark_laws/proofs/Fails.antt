@@ -36,7 +36,8 @@ use Rattle.mark_laws.proofs.Jobs.{failed_by, not_complete, overrun_other, under_
 use Rattle.mark_laws.proofs.Moves.{progress_clash, quiet_left}
 use Rattle.mark_laws.proofs.Own.{IsQuiet, SameThree, marked_failed, own_quiet, quiet_three, row_fine}
 use Rattle.mark_laws.proofs.Rows.{FailedNow, aims_now}
-use Rattle.table_laws.proofs.Facts.{graph_here, job_fits, job_target, named_marks, named_stack, names_graph, names_stack}
+use Rattle.table_laws.proofs.Facts.{graph_here, job_fits, job_target, named_marks, named_stack, names_graph}
+use Rattle.table_laws.proofs.Facts.{names_stack}
 use Rattle.table_laws.proofs.Rows.{row-key, row_here, same_some, stack_here}
 use Rattle.table_laws.proofs.Targets.{cleanup_target}
 

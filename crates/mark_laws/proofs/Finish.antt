@@ -1,5 +1,6 @@
 -- After a finish the mark of its stack fits.
-use Rattle.std.proofs.Common.{◌≡◌, inl, inr, ℕ, Bool, true, false, cond, List, [], ◌∷◌, ◌++◌, map, Option, Some, None, refl, sym, ap, ◌∙◌, subst}
+use Rattle.std.proofs.Common.{◌≡◌, inl, inr, ℕ, Bool, true, false, cond, List, [], ◌∷◌, ◌++◌, map, Option, Some, None}
+use Rattle.std.proofs.Common.{refl, sym, ap, ◌∙◌, subst}
 use Rattle.std.specs.Prelude.{Contains, slice_get, unwrap_or, ◌==◌}
 use Rattle.std.proofs.lemmas.Bool.Decides.{eqb_tells}
 use Rattle.std.proofs.lemmas.List.Elements.{Contains-append_left}
@@ -30,7 +31,8 @@ use Rattle.core_state.specs.declared.stack.Stack.{Stack}
 use Rattle.step_relation.specs.Finishes.{Finishes, Settles, finished_changes, given_input, graph_then, ready_letters}
 use Rattle.step_relation.specs.Freshness.{plan_of}
 use Rattle.step_relation.specs.Targets.{IsTarget}
-use Rattle.step_relation.specs.Inputs.{AllDone, AreKnown, gathered, has_from, input_of, is_among, passed_points, point_after}
+use Rattle.step_relation.specs.Inputs.{AllDone, AreKnown, gathered, has_from, input_of, is_among, passed_points}
+use Rattle.step_relation.specs.Inputs.{point_after}
 use Rattle.step_relation.specs.Writes.{mark_complete, unlock}
 use Rattle.soundness.specs.GraphFits.{Aims, GraphFits, IsNode, graph_of, graph_or}
 use Rattle.soundness.specs.Linked.{Links}
@@ -111,7 +113,8 @@ module _ (s : StateData) (S : Standing s) (e : ℕ) (k : Finishes s e) where
       let same : m.row ≡ q = same_some m.row q m.found
       (subst (λ (x : ℕ). row_at s.rows x ≡ Some q) (sym number) its.is.found) in
       let aims : Aims s st g i word q = aims_of s st g i n word q at its in
-      let begun : IsBegun st g i word q = (named_rows s S k.job.letter st g k.fresh.node k.fresh.names).begun i word q aims
+      let begun : IsBegun st g i word q =
+      (named_rows s S k.job.letter st g k.fresh.node k.fresh.names).begun i word q aims
       (ap (λ (x : Row). x.trav) (sym same) ∙ (m.newest ∙ sym k.fresh.names.newest))
       (λ act. m.begun (ap (λ (x : Row). x.act) same ∙ act)) in
       props_or_fault (unwrap_or q.target q.props) begun.props fault where
@@ -123,7 +126,8 @@ module _ (s : StateData) (S : Standing s) (e : ℕ) (k : Finishes s e) where
             let known_b : AreKnown a.point.inputs a.item.needs b.known = subst
             (λ (x : Item). AreKnown a.point.inputs x.needs b.known) (sym items)
             (subst (λ (x : Point). AreKnown x.inputs b.item.needs b.known) (sym points) b.known_are) in
-            let known : a.known ≡ b.known = known_once s st g fits i a.point a.there a.item.needs a.known b.known a.known_are known_b in
+            let known : a.known ≡ b.known =
+            known_once s st g fits i a.point a.there a.item.needs a.known b.known a.known_are known_b in
             let result : Props props ≡ Fault code path = sym a.result_is ∙
             (ap (λ (x : Item). resolve (plan_of st.plan) x a.known) items
             ∙ (ap (λ (x : List KnownFacts). resolve (plan_of st.plan) b.item x) known ∙ b.result_is)) in
@@ -216,7 +220,10 @@ module _ (s : StateData) (S : Standing s) (e : ℕ) (k : Finishes s e) where
     -- not all are done, or the stack has its mark
     pub marks_on : (Settles s e k → ⊥) → MarkFits u st pg
     marks_on unsettled = record {
-      complete = (λ is. absurd (not_complete s S e k.job st g k.fresh.node k.works.its k.fresh.names is), λ all. by st.status refl all);
+      complete = (
+        λ is. absurd (not_complete s S e k.job st g k.fresh.node k.works.its k.fresh.names is),
+        λ all. by st.status refl all,
+      );
       failing = λ n r at is status newest. R.failing n r at (record { stack = is; status = status; newest = newest });
       failed = λ status. failure_then (its_marks.failed status);
       act = its_marks.act;

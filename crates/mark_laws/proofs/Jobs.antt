@@ -22,7 +22,8 @@ pub not_complete : (s : StateData) → Standing s → (e : ℕ) (j : Job) (st : 
     → job_at s.jobs e ≡ Some j
     → Names s j.letter st g node → st.status ≢ Complete
 not_complete s S e j st g node its names is =
-    (job_fits s S e j st g node its names).undone ((named_marks s S j.letter st g node names).complete.0 is j.letter.node node names.its_node)
+    (job_fits s S e j st g node its names).undone
+    ((named_marks s S j.letter st g node names).complete.0 is j.letter.node node names.its_node)
 
 pub failed_by : (status : Status) → status ≢ InProgress → status ≢ Complete → status ≡ Failed
 failed_by Failed a b = refl

@@ -12,7 +12,12 @@ use Rattle.core_state.specs.declared.change.Change.{Change}
 use Rattle.core_state.specs.declared.entry.Entry.{Entry}
 use Rattle.core_state.specs.declared.stack.Stack.{Stack}
 use Rattle.step_relation.specs.Given.{Given}
-use Rattle.step_relation.specs.Moves.{Move, ask_begun, ask_failed, begin_failed, begin_faulted, begin_in_place, begin_init, begin_overrun, begin_replaced, begin_resumed, begin_same, clean_deleted, clean_gone, clean_init, clean_kept, clean_retained, clean_stuck, finish, finish_last, finish_overrun, poll_failed, poll_gone, poll_ready, poll_waits, take_dropped, take_free, take_stolen, takeover_fresh, takeover_overrun}
+use Rattle.step_relation.specs.Moves.{Move, ask_begun, ask_failed, begin_failed, begin_faulted, begin_in_place}
+use Rattle.step_relation.specs.Moves.{begin_init, begin_overrun, begin_replaced, begin_resumed, begin_same}
+use Rattle.step_relation.specs.Moves.{clean_deleted, clean_gone, clean_init, clean_kept, clean_retained, clean_stuck}
+use Rattle.step_relation.specs.Moves.{finish, finish_last, finish_overrun, poll_failed, poll_gone, poll_ready}
+use Rattle.step_relation.specs.Moves.{poll_waits, take_dropped, take_free, take_stolen, takeover_fresh}
+use Rattle.step_relation.specs.Moves.{takeover_overrun}
 use Rattle.step_relation.specs.Runs.{IsTied, Judges}
 use Rattle.step_relation.specs.Takes.{relayed_letter}
 use Rattle.soundness.specs.Groups.{KeptByMoves}
@@ -30,7 +35,8 @@ use Rattle.link_laws.proofs.Kept.{links_after}
 use Rattle.mark_laws.proofs.Fails.{own_failed, own_faulted_tied}
 use Rattle.mark_laws.proofs.Finish.{own_finished, own_last}
 use Rattle.mark_laws.proofs.Jobs.{under_way}
-use Rattle.mark_laws.proofs.Moves.{complete_clash, progress_clash, quiet_begun, quiet_left, quiet_locked, quiet_purged, quiet_replaced, quiet_stolen, uncounted}
+use Rattle.mark_laws.proofs.Moves.{complete_clash, progress_clash, quiet_begun, quiet_left, quiet_locked, quiet_purged}
+use Rattle.mark_laws.proofs.Moves.{quiet_replaced, quiet_stolen, uncounted}
 use Rattle.mark_laws.proofs.Own.{IsQuiet, marks_by_own, own_quiet, quiet_released, row_same}
 
 init_complete : (s : StateData) → Standing s → (n : ℕ) (r : Row) → row_at s.rows n ≡ Some r → r.act ≡ Init
@@ -136,8 +142,10 @@ own_marks judges s e given failed cs es S (ask_begun k asked _ _ calls is _) tie
       rows =
           λ st at_st. row_same s S k.job.letter.stack st at_st;
     }))
-own_marks judges s e given failed cs es S (ask_failed k asked answer reason letters mark _ _ calls refuses falls is _) tied G L =
-    own_failed s S e k.job k.works.its (at_stage k.job.stage Asking k.works.stage_is asks) k.row k.found letters mark falls (applied cs s) (state_is s cs _ is) G L
+own_marks judges s e given failed cs es S
+    (ask_failed k asked answer reason letters mark _ _ calls refuses falls is _) tied G L =
+    own_failed s S e k.job k.works.its (at_stage k.job.stage Asking k.works.stage_is asks) k.row k.found letters mark
+    falls (applied cs s) (state_is s cs _ is) G L
 own_marks judges s e given failed cs es S (poll_waits k asked _ _ calls is _) tied G L =
     own_quiet s S (applied cs s) G L k.job.letter.stack
     (by_changes s cs k.job.letter.stack _ is (record {
@@ -157,8 +165,10 @@ own_marks judges s e given failed cs es S (poll_gone k _ _ act is _) tied G L =
     own_quiet s S (applied cs s) G L k.job.letter.stack
     (by_changes s cs k.job.letter.stack _ is (quiet_purged s S k.job.letter.stack k.job Ending k.row k.found
     (λ st at_st now counts. progress_clash way.0 now.status)))
-own_marks judges s e given failed cs es S (poll_failed k asked answer reason letters mark _ _ calls refuses falls is _) tied G L =
-    own_failed s S e k.job k.works.its (at_stage k.job.stage Polling k.works.stage_is polls) k.row k.found letters mark falls (applied cs s) (state_is s cs _ is) G L
+own_marks judges s e given failed cs es S
+    (poll_failed k asked answer reason letters mark _ _ calls refuses falls is _) tied G L =
+    own_failed s S e k.job k.works.its (at_stage k.job.stage Polling k.works.stage_is polls) k.row k.found letters mark
+    falls (applied cs s) (state_is s cs _ is) G L
 own_marks judges s e given failed cs es S (finish_overrun j _ _ works k is _) tied G L =
     own_quiet s S (applied cs s) G L j.letter.stack (by_changes s cs j.letter.stack _ is
     (quiet_released s S j.letter.stack e j.row k.row k.letters k.found))

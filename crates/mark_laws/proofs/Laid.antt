@@ -1,5 +1,6 @@
 -- Each command leaves all marks and pasts fitting.
-use Rattle.std.proofs.Common.{◌≡◌, ◌≢◌, ◌⊎◌, inl, inr, ℕ, zero, suc, ◌+◌, List, [], ◌∷◌, Option, Some, None, true, false, refl, sym, ap, ◌∙◌, subst, arith}
+use Rattle.std.proofs.Common.{◌≡◌, ◌≢◌, ◌⊎◌, inl, inr, ℕ, zero, suc, ◌+◌, List, [], ◌∷◌, Option, Some, None, true}
+use Rattle.std.proofs.Common.{false, refl, sym, ap, ◌∙◌, subst, arith}
 use Rattle.std.specs.Prelude.{Contains, IsSome, length, slice_get, ◌↔◌}
 use Rattle.std.specs.List.{AllByRecursion}
 use Rattle.heat_plan.specs.declared.item.Item.{Item}
@@ -19,7 +20,8 @@ use Rattle.core_state.specs.declared.change.Change.TheVariants.{PutGraph, PutPas
 use Rattle.core_state.specs.declared.graph.Graph.{Graph}
 use Rattle.core_state.specs.declared.past.Past.{Past}
 use Rattle.core_state.specs.declared.stack.Stack.{Stack}
-use Rattle.step_relation.specs.Commands.{Chooses, Lays, Sets, current, first_letters, fresh, laid_changes, none, past_command, settles_at_once, stack_set}
+use Rattle.step_relation.specs.Commands.{Chooses, Lays, Sets, current, first_letters, fresh, laid_changes, none}
+use Rattle.step_relation.specs.Commands.{past_command, settles_at_once, stack_set}
 use Rattle.step_relation.specs.Inputs.{AllDone}
 use Rattle.step_relation.specs.Writes.{mark_complete}
 use Rattle.soundness.specs.GraphFits.{graph_of, graph_or}
@@ -32,7 +34,8 @@ use Rattle.graph_laws.proofs.Kept.{sends, sent}
 use Rattle.mark_laws.proofs.Own.{marks_by_own}
 use Rattle.table_laws.proofs.Ordered.{IsProper, back_is_plan, back_proper, no_plan, ordered_past}
 use Rattle.table_laws.proofs.Puts.{all_contains, contains_head, contains_there, put_rows, rows_first}
-use Rattle.table_laws.proofs.Rows.{graph_here, past-key, past_cut, past_put, row_put, same_some, stack_gone, stack_here, text_or_not}
+use Rattle.table_laws.proofs.Rows.{graph_here, past-key, past_cut, past_put, row_put, same_some, stack_gone, stack_here}
+use Rattle.table_laws.proofs.Rows.{text_or_not}
 use Rattle.core_state.specs.declared.change.Change.TheVariants as change_to
 
 -- a row found then was there, or is one of these

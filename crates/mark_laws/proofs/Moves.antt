@@ -21,7 +21,8 @@ use Rattle.step_relation.specs.Rows.{locked, replaced, unlocked}
 use Rattle.step_relation.specs.Writes.{lock, with_stage}
 use Rattle.soundness.specs.Sound.{Standing}
 use Rattle.mark_laws.proofs.Own.{IsQuiet, SameThree, old_failing, row_fine, row_kept, row_same}
-use Rattle.mark_laws.proofs.Rows.{Counts, FailedNow, RowsMark, SameFailure, leaves, mark_cut, mark_new, mark_put, mark_then, wanted}
+use Rattle.mark_laws.proofs.Rows.{Counts, FailedNow, RowsMark, SameFailure, leaves, mark_cut, mark_new, mark_put}
+use Rattle.mark_laws.proofs.Rows.{mark_then, wanted}
 use Rattle.table_laws.proofs.Rows.{row-key, row_else, row_self, same_some}
 
 pub complete_clash : {x : Status} → x ≡ Complete → x ≡ Failed → ⊥

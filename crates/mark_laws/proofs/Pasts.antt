@@ -13,7 +13,9 @@ use Rattle.mail_table.specs.declared.mail.Letter.{Letter}
 use Rattle.core_state.specs.Changes.{applied, apply}
 use Rattle.core_state.specs.State.{StateData, cut_past, past_at, stack_at, stack_key}
 use Rattle.core_state.specs.declared.change.Change.{Change}
-use Rattle.core_state.specs.declared.change.Change.TheVariants.{Drop, DropRow, DropStack, EndJob, Enlist, PutGraph, PutJob, PutPast, PutPoint, PutRow, PutStack, Release, Send, Stop}
+use Rattle.core_state.specs.declared.change.Change.TheVariants.{Drop, DropRow, DropStack, EndJob, Enlist, PutGraph}
+use Rattle.core_state.specs.declared.change.Change.TheVariants.{PutJob, PutPast, PutPoint, PutRow, PutStack, Release}
+use Rattle.core_state.specs.declared.change.Change.TheVariants.{Send, Stop}
 use Rattle.core_state.specs.declared.entry.Entry.{Entry}
 use Rattle.core_state.specs.declared.numbers.Numbers.{Numbers}
 use Rattle.core_state.specs.declared.past.Past.{Past}
@@ -21,7 +23,12 @@ use Rattle.core_state.specs.declared.stack.Stack.{Stack}
 use Rattle.step_relation.specs.Asks.{Falls, failed_changes, marked, marks, overrun}
 use Rattle.step_relation.specs.Finishes.{Finishes, finished_changes, given_input, ready_letters}
 use Rattle.step_relation.specs.Given.{Given}
-use Rattle.step_relation.specs.Moves.{Move, ask_begun, ask_failed, begin_failed, begin_faulted, begin_in_place, begin_init, begin_overrun, begin_replaced, begin_resumed, begin_same, clean_deleted, clean_gone, clean_init, clean_kept, clean_retained, clean_stuck, finish, finish_last, finish_overrun, poll_failed, poll_gone, poll_ready, poll_waits, take_dropped, take_free, take_stolen, takeover_fresh, takeover_overrun}
+use Rattle.step_relation.specs.Moves.{Move, ask_begun, ask_failed, begin_failed, begin_faulted, begin_in_place}
+use Rattle.step_relation.specs.Moves.{begin_init, begin_overrun, begin_replaced, begin_resumed, begin_same}
+use Rattle.step_relation.specs.Moves.{clean_deleted, clean_gone, clean_init, clean_kept, clean_retained, clean_stuck}
+use Rattle.step_relation.specs.Moves.{finish, finish_last, finish_overrun, poll_failed, poll_gone, poll_ready}
+use Rattle.step_relation.specs.Moves.{poll_waits, take_dropped, take_free, take_stolen, takeover_fresh}
+use Rattle.step_relation.specs.Moves.{takeover_overrun}
 use Rattle.step_relation.specs.Inputs.{passed_points}
 use Rattle.step_relation.specs.Rows.{failed_row}
 use Rattle.step_relation.specs.Takes.{relayed_letter, released_changes}

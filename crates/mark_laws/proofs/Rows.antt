@@ -138,7 +138,8 @@ module _ (s t : StateData) (st : Stack) (g : Graph) (fits_s : GraphFits s st g) 
         let k : HasFailure s st g = f.failed status in record {
           i = k.i;
           open_ = k.open_;
-          failed = failed_again s t st g g refl (λ i word n code path at fault opened. fault) fits_s fits one R k.i k.open_ k.failed;
+          failed = failed_again s t st g g refl
+              (λ i word n code path at fault opened. fault) fits_s fits one R k.i k.open_ k.failed;
         };
     act = f.act;
     deletes = f.deletes;

@@ -39,14 +39,16 @@ OtherIsUnmarked = (s : StateData) (e : ℕ) (k : Finishes s e) → Standing s �
 -- a job fails: its stack is marked, if it has no mark
 abbrev pub FailureIsMarked : Type 0
 FailureIsMarked = (s : StateData) (e : ℕ) (k : Calls s e Asking) (asked : Request) (given : Answered) (reason : Why)
-    (letters : List Letter) (failed : Option Stack) → Standing s → Asks k.row asked → Refuses k.row.act asked given reason
+    (letters : List Letter) (failed : Option Stack) → Standing s → Asks k.row asked
+    → Refuses k.row.act asked given reason
     → Falls s k.job letters failed
     → MarksFit (applied (draw_letters s.next letters
     (PutRow (failed_row k.row) ∷ EndJob e ∷ (map Send letters ++ mark_failed failed))) s)
 
 -- an item can't be resolved: its stack is marked, if it has no mark
 abbrev pub FaultIsMarked : Type 0
-FaultIsMarked = (judges : Judges) (s : StateData) (e : ℕ) (k : Begins s e) (code : List ℕ) (path : List Step) (failed : Option Stack)
+FaultIsMarked = (judges : Judges) (s : StateData) (e : ℕ) (k : Begins s e) (code : List ℕ) (path : List Step)
+    (failed : Option Stack)
     → Standing s → Falls s k.job [] failed
     → IsTied judges s e (Faulted code path)
     → MarksFit (applied (left_changes e k.row ++ mark_failed failed) s)

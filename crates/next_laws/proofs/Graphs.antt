@@ -51,10 +51,12 @@ keeps_one first cs a b (begins cs1 a1 none is) (goes_on earlier mid cs2 b2 befor
     absurd (none_more earlier (before, after) (sym none ∙ e))
 keeps_one first cs a b (goes_on earlier mid cs1 a1 before after h step e) (begins cs2 b2 none is) =
     absurd (none_more earlier (before, after) (sym none ∙ e))
-keeps_one first cs a b (goes_on earlier mid cs1 a1 before after h step e) (goes_on earlier_ mid_ cs2 b2 before_ after_ h_ step_ e_) =
+keeps_one first cs a b (goes_on earlier mid cs1 a1 before after h step e)
+    (goes_on earlier_ mid_ cs2 b2 before_ after_ h_ step_ e_) =
     let same : (earlier ≡ earlier_) × ((before, after) ≡ (before_, after_)) =
     snoc_same earlier earlier_ (before, after) (before_, after_) (sym e ∙ e_) in
-    let mids : mid ≡ mid_ = keeps_one first earlier mid mid_ h (subst (λ (l : List (ℕ × ℕ)). Keeps first l mid_) (sym same.0) h_) in
+    let mids : mid ≡ mid_ = keeps_one first earlier mid mid_ h
+    (subst (λ (l : List (ℕ × ℕ)). Keeps first l mid_) (sym same.0) h_) in
     let befores : before ≡ before_ = ap (λ (p : ℕ × ℕ). p.0) same.1 in
     let afters : after ≡ after_ = ap (λ (p : ℕ × ℕ). p.1) same.1 in
     considers_one mid before after a b step (rw (mids, befores, afters) step_)
@@ -64,20 +66,27 @@ pub numbers_same : (standing : List Row) → numbers_of (map brief_of standing) 
 numbers_same [] = refl
 numbers_same (r ∷ standing) = ap (λ (l : List ℕ). r.no ∷ l) (numbers_same standing)
 
-distinct : (standing : List Row) → IsRising (map row_key standing) → IsDistinct nat_eq (numbers_of (map brief_of standing))
-distinct standing up = subst (IsDistinct nat_eq) (sym (numbers_same standing)) (IsDistinct-from_AllPairs Decides-eqb (map row_key standing)
+distinct : (standing : List Row) → IsRising (map row_key standing)
+    → IsDistinct nat_eq (numbers_of (map brief_of standing))
+distinct standing up = subst (IsDistinct nat_eq) (sym (numbers_same standing))
+    (IsDistinct-from_AllPairs Decides-eqb (map row_key standing)
     (λ i j d lt within same. let less = up i j d lt within in absurd (omega (arith, less, same))))
 
-sorted_one : (rows a b : List RowBrief) → IsDistinct nat_eq (numbers_of rows) → IsSortedCopy rows a → IsSortedCopy rows b → a ≡ b
-sorted_one rows a b apart h i = rising_one (λ (r : RowBrief). r.no) a b (up a (h.rising apart)) (up b (i.rising apart)) (there a b h i) (there b a i h)
+sorted_one : (rows a b : List RowBrief) → IsDistinct nat_eq (numbers_of rows) → IsSortedCopy rows a
+    → IsSortedCopy rows b → a ≡ b
+sorted_one rows a b apart h i = rising_one (λ (r : RowBrief). r.no) a b (up a (h.rising apart)) (up b (i.rising apart))
+    (there a b h i) (there b a i h)
   where
     up : (l : List RowBrief) → IsStrictlyIncreasing (numbers_of l) → IsRising (numbers_of l)
     up l rises = λ i j d lt within. AllPairs-from_increasing (numbers_of l) rises i j d lt within
 
-    there : (l m : List RowBrief) → IsSortedCopy rows l → IsSortedCopy rows m → (x : RowBrief) → Contains l x → Contains m x
-    there l m p q x c = Contains-permutation rows m x q.same (Contains-permutation l rows x (IsPermutation-sym rows l p.same) c)
+    there : (l m : List RowBrief) → IsSortedCopy rows l → IsSortedCopy rows m → (x : RowBrief) → Contains l x
+        → Contains m x
+    there l m p q x c = Contains-permutation rows m x q.same
+        (Contains-permutation l rows x (IsPermutation-sym rows l p.same) c)
 
-pub graph_one : (items : List Item) (chosen : List ℕ) (standing : List Row) → IsRising (map row_key standing) → (g h : TravGraph)
+pub graph_one : (items : List Item) (chosen : List ℕ) (standing : List Row) → IsRising (map row_key standing)
+    → (g h : TravGraph)
     → IsBuilt items chosen (map brief_of standing) g → IsBuilt items chosen (map brief_of standing) h → g ≡ h
 graph_one items chosen standing rises g h b c = same_parts
   where

@@ -13,24 +13,33 @@ use Rattle.next_laws.specs.OneTurn.{LayoutIsOne}
 use Rattle.next_laws.proofs.Graphs.{graph_one}
 use Rattle.next_laws.proofs.Listings.{listing_one, rising_one}
 
-chooses_one : (s : StateData) (stack : List ℕ) (trav next : ℕ) (items : List Item) (xs ys : List ℕ) (rows others : List Row)
+chooses_one : (s : StateData) (stack : List ℕ) (trav next : ℕ) (items : List Item) (xs ys : List ℕ)
+    (rows others : List Row)
     → Chooses s stack trav next items xs rows → Chooses s stack trav next items ys others → (xs ≡ ys) × (rows ≡ others)
 chooses_one s stack trav next items xs ys rows others (none _) (none _) = (refl, refl)
-chooses_one s stack trav next items xs ys rows others (current _ item more r chosen _ is on) (current _ _ _ q chosen' _ is' on') =
-    let rest : (chosen ≡ chosen') × (rows ≡ others) = chooses_one s stack trav next more chosen chosen' rows others on on' in
+chooses_one s stack trav next items xs ys rows others (current _ item more r chosen _ is on)
+    (current _ _ _ q chosen' _ is' on') =
+    let rest : (chosen ≡ chosen') × (rows ≡ others) =
+    chooses_one s stack trav next more chosen chosen' rows others on on' in
     let number : r.no ≡ q.no = current_once s.rows stack item.name r q is is' in
     let tail : chosen ≡ chosen' = rest.0 in (cc, rest.1)
-chooses_one s stack trav next items xs ys rows others (current _ item more r chosen _ is on) (fresh _ _ _ chosen' rows' none_is on') =
+chooses_one s stack trav next items xs ys rows others (current _ item more r chosen _ is on)
+    (fresh _ _ _ chosen' rows' none_is on') =
     absurd (none_is r.no r is.found is.stack_is is.name_is is.current)
-chooses_one s stack trav next items xs ys rows others (fresh _ item more chosen rows' none_is on) (current _ _ _ q chosen' _ is on') =
+chooses_one s stack trav next items xs ys rows others (fresh _ item more chosen rows' none_is on)
+    (current _ _ _ q chosen' _ is on') =
     absurd (none_is q.no q is.found is.stack_is is.name_is is.current)
-chooses_one s stack trav next items xs ys rows others (fresh _ item more chosen rows' none_is on) (fresh _ _ _ chosen' others' none_is' on') =
-    let rest : (chosen ≡ chosen') × (rows' ≡ others') = chooses_one s stack trav (next + 1) more chosen chosen' rows' others' on on' in
+chooses_one s stack trav next items xs ys rows others (fresh _ item more chosen rows' none_is on)
+    (fresh _ _ _ chosen' others' none_is' on') =
+    let rest : (chosen ≡ chosen') × (rows' ≡ others') =
+    chooses_one s stack trav (next + 1) more chosen chosen' rows' others' on on' in
     let tail : chosen ≡ chosen' = rest.0 in let tails : rows' ≡ others' = rest.1 in (cc, cc)
 
-standing_one : (rows : List Row) (stack : List ℕ) (a b : List Row) → AreRowsOf rows stack a → AreRowsOf rows stack b → a ≡ b
+standing_one : (rows : List Row) (stack : List ℕ) (a b : List Row) → AreRowsOf rows stack a
+    → AreRowsOf rows stack b → a ≡ b
 standing_one rows stack a b h i = rising_one row_key a b h.rising i.rising
-    (λ r c. let (found, of) = h.only r c in i.each r.no r found of) (λ r c. let (found, of) = i.only r c in h.each r.no r found of)
+    (λ r c. let (found, of) = h.only r c in i.each r.no r found of)
+    (λ r c. let (found, of) = i.only r c in h.each r.no r found of)
 
 module _ (s : StateData) (name : List ℕ) (items : List Item) (k q : Lays s name items) where
   choice : (k.chosen ≡ q.chosen) × (k.rows ≡ q.rows)

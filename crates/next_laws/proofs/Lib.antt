@@ -9,3 +9,5 @@ pub mod Pairs
 pub mod Outcomes
 pub mod Turns
 pub mod Worn
+pub mod Wearing
+pub mod Ranges

@@ -1,5 +1,6 @@
 -- A list that rises by a key is one by what it has.
-use Rattle.std.proofs.Common.{◌≡◌, ◌⊎◌, inl, inr, ◌<◌, ℕ, zero, suc, List, [], ◌∷◌, map, map-id, refl, sym, ap, subst, arith}
+use Rattle.std.proofs.Common.{◌≡◌, ◌⊎◌, inl, inr, ◌<◌, ℕ, zero, suc, List, [], ◌∷◌, map, map-id, refl, sym, ap, subst}
+use Rattle.std.proofs.Common.{arith}
 use Rattle.std.specs.Prelude.{Contains}
 use Rattle.dep_graph.specs.Lists.{IsLeast, IsRising, ListsAll}
 
@@ -29,14 +30,17 @@ module _ {A : Type 0} where
         elim (cons_cases zs z y c) [ inl e ↦ rw e h | inr more ↦ omega (arith, h, later more) ]
 
     -- what the one tail has the other has, where the heads are equal
-    tails : (x : A) (xs ys : List A) → IsRising (map key (x ∷ xs)) → ((n : A) → Contains (x ∷ xs) n → Contains (x ∷ ys) n)
+    tails : (x : A) (xs ys : List A) → IsRising (map key (x ∷ xs))
+        → ((n : A) → Contains (x ∷ xs) n → Contains (x ∷ ys) n)
         → (n : A) → Contains xs n → Contains ys n
     tails x xs ys up there n c = elim (cons_cases ys x n (there n (in_tail xs x n c))) [
-      | inl e ↦ let less : key x < key n = below x xs up n c in let same : key n ≡ key x = ap key e in absurd (omega (arith, less, same))
+      | inl e ↦ let less : key x < key n = below x xs up n c in let same : key n ≡ key x = ap key e in
+          absurd (omega (arith, less, same))
       | inr later ↦ later
     ]
 
-    heads : (x y : A) (xs ys : List A) → IsRising (map key (x ∷ xs)) → IsRising (map key (y ∷ ys)) → Contains (y ∷ ys) x → Contains (x ∷ xs) y
+    heads : (x y : A) (xs ys : List A) → IsRising (map key (x ∷ xs)) → IsRising (map key (y ∷ ys)) → Contains (y ∷ ys) x
+        → Contains (x ∷ xs) y
         → x ≡ y
     heads x y xs ys up vp in_y in_x = elim (cons_cases ys y x in_y) [
       | inl e ↦ e
@@ -46,7 +50,8 @@ module _ {A : Type 0} where
       ]
     ]
 
-    pub rising_one : (xs ys : List A) → IsRising (map key xs) → IsRising (map key ys) → ((n : A) → Contains xs n → Contains ys n)
+    pub rising_one : (xs ys : List A) → IsRising (map key xs) → IsRising (map key ys)
+        → ((n : A) → Contains xs n → Contains ys n)
         → ((n : A) → Contains ys n → Contains xs n) → xs ≡ ys
     rising_one [] [] up vp there back = refl
     rising_one [] (y ∷ ys) up vp there back = absurd (no_member y (back y (in_head ys y)))
@@ -58,12 +63,14 @@ module _ {A : Type 0} where
         subst (λ (z : A). (n : A) → Contains (x ∷ xs) n → Contains (z ∷ ys) n) (sym e) there in
         let back' : (n : A) → Contains (x ∷ ys) n → Contains (x ∷ xs) n =
         subst (λ (z : A). (n : A) → Contains (z ∷ ys) n → Contains (x ∷ xs) n) (sym e) back in
-        let rest : xs ≡ ys = rising_one xs ys (rising-tail x xs up) (rising-tail x ys vp') (tails x xs ys up there') (tails x ys xs vp' back') in
+        let rest : xs ≡ ys = rising_one xs ys (rising-tail x xs up) (rising-tail x ys vp') (tails x xs ys up there')
+        (tails x ys xs vp' back') in
         cc
 
 pub listing_one : (Is : ℕ → Type 0) (xs ys : List ℕ) → ListsAll Is xs → ListsAll Is ys → xs ≡ ys
 listing_one Is xs ys h i =
-    rising_one (λ (n : ℕ). n) xs ys (subst IsRising (sym (map-id xs)) h.rising) (subst IsRising (sym (map-id ys)) i.rising)
+    rising_one (λ (n : ℕ). n) xs ys (subst IsRising (sym (map-id xs)) h.rising)
+    (subst IsRising (sym (map-id ys)) i.rising)
     (λ n c. (i.each n).1 ((h.each n).0 c)) (λ n c. (h.each n).1 ((i.each n).0 c))
 
 pub least_one : (Is : ℕ → Type 0) (n m : ℕ) → IsLeast Is n → IsLeast Is m → n ≡ m

@@ -25,10 +25,14 @@ use Rattle.step_relation.specs.Inputs.{AllDone}
 use Rattle.step_relation.specs.Moves.{Move}
 use Rattle.step_relation.specs.Rows.{ready_row}
 use Rattle.step_relation.specs.Writes.{call_entry, complete_mark, mark_complete}
-use Rattle.next_laws.proofs.Pairs.{AreOne, clean_fresh, clear_one, drop_take, drops_one, fault_one, free_stolen, fresh_again, prepare_one, relay_one, release_one, steals_one, takes_one, thief_one}
-use Rattle.next_laws.proofs.Parts.{IsAsked, Kind, Part, at_ask, at_poll, begins, clears, drops, ends, faults, goes, kind_one, overruns, placed, prepares, readies, refuses, relays, relieves, settles, steals, takes, waits}
+use Rattle.next_laws.proofs.Pairs.{AreOne, clean_fresh, clear_one, drop_take, drops_one, fault_one, free_stolen}
+use Rattle.next_laws.proofs.Pairs.{fresh_again, prepare_one, relay_one, release_one, steals_one, takes_one, thief_one}
+use Rattle.next_laws.proofs.Parts.{IsAsked, Kind, Part, at_ask, at_poll, begins, clears, drops, ends, faults, goes}
+use Rattle.next_laws.proofs.Parts.{kind_one, overruns, placed, prepares, readies, refuses, relays, relieves, settles}
+use Rattle.next_laws.proofs.Parts.{steals, takes, waits}
 use Rattle.next_laws.proofs.Readings.{left_one, works_one}
-use Rattle.next_laws.proofs.Works.{SameFinish, asks_one, call_one, falls_one, finish_one, idle_free, idle_stolen, polls_one, refuses_one}
+use Rattle.next_laws.proofs.Works.{SameFinish, asks_one, call_one, falls_one, finish_one, idle_free, idle_stolen}
+use Rattle.next_laws.proofs.Works.{polls_one, refuses_one}
 use Rattle.heat_plan.specs.declared.calls.Answered.TheVariants as answer
 use Rattle.heat_plan.specs.declared.calls.Request.TheVariants as request
 
@@ -51,7 +55,8 @@ asked_one r stage a b (at_ask _ x) (at_ask _ y) = asks_one r a b x y
 asked_one r stage a b (at_poll _ x) (at_poll _ y) = polls_one r a b x y
 
 module _ (s : StateData) (e : ℕ) where
-  begun_one : (k q : Calls s e Asking) (a b : Request) (cs ds : List Change) (es fs : List Entry) → Asks k.row a → Asks q.row b
+  begun_one : (k q : Calls s e Asking) (a b : Request) (cs ds : List Change) (es fs : List Entry) → Asks k.row a
+      → Asks q.row b
       → cs ≡ onward_changes k.job Polling → es ≡ call_entry e k.row a answer.Begun ∷ onward_entries e k.job Polling
       → ds ≡ onward_changes q.job Polling → fs ≡ call_entry e q.row b answer.Begun ∷ onward_entries e q.job Polling
       → AreOne None None cs ds es fs
@@ -60,7 +65,8 @@ module _ (s : StateData) (e : ℕ) where
       let asked : a ≡ b = asks_one k.row a b x (subst (λ (r : Row). Asks r b) (sym rows) y) in
       record { marked = refl; changes = cc; entries = cc }
 
-  wait_one : (k q : Calls s e Polling) (a b : Request) (cs ds : List Change) (es fs : List Entry) → Polls k.row a → Polls q.row b
+  wait_one : (k q : Calls s e Polling) (a b : Request) (cs ds : List Change) (es fs : List Entry) → Polls k.row a
+      → Polls q.row b
       → cs ≡ [] → es ≡ call_entry e k.row a answer.NotYet ∷ []
       → ds ≡ [] → fs ≡ call_entry e q.row b answer.NotYet ∷ []
       → AreOne None None cs ds es fs
@@ -79,13 +85,16 @@ module _ (s : StateData) (e : ℕ) where
       let (jobs, rows) = call_one s e Polling k q in record { marked = refl; changes = cc; entries = cc }
 
   gone_one : (k q : Calls s e Polling) (cs ds : List Change) (es fs : List Entry)
-      → cs ≡ purged_changes k.job k.row → es ≡ call_entry e k.row request.Gone answer.Gone ∷ purged_entries e k.job k.row
-      → ds ≡ purged_changes q.job q.row → fs ≡ call_entry e q.row request.Gone answer.Gone ∷ purged_entries e q.job q.row
+      → cs ≡ purged_changes k.job k.row → es ≡ call_entry e k.row request.Gone answer.Gone
+      ∷ purged_entries e k.job k.row
+      → ds ≡ purged_changes q.job q.row → fs ≡ call_entry e q.row request.Gone answer.Gone
+      ∷ purged_entries e q.job q.row
       → AreOne None None cs ds es fs
   gone_one k q cs ds es fs c d i j =
       let (jobs, rows) = call_one s e Polling k q in record { marked = refl; changes = cc; entries = cc }
 
-  refusal_one : (stage : Stage) (k q : Calls s e stage) (a b : Request) (given : Answered) (why other : Why) (ls ms : List Letter) (f g : Option Stack)
+  refusal_one : (stage : Stage) (k q : Calls s e stage) (a b : Request) (given : Answered) (why other : Why)
+      (ls ms : List Letter) (f g : Option Stack)
       (cs ds : List Change) (es fs : List Entry) → IsAsked k.row stage a → IsAsked q.row stage b
       → Refuses k.row.act a given why → Refuses q.row.act b given other → Falls s k.job ls f → Falls s q.job ms g
       → cs ≡ failed_changes s e k.row ls f → es ≡ call_entry e k.row a given ∷ failed_entries e k.row ls f why
@@ -104,7 +113,8 @@ module _ (s : StateData) (e : ℕ) where
 module _ (s : StateData) (e : ℕ) (k q : Finishes s e) where
   graphs_then : SameFinish s e k q → graph_then s e k ≡ graph_then s e q
   graphs_then same =
-      let jobs = same.jobs in let graphs = same.graphs in let nodes = same.nodes in let rows = same.rows in let succs = same.succs in cc
+      let jobs = same.jobs in let graphs = same.graphs in let nodes = same.nodes in let rows = same.rows in
+      let succs = same.succs in cc
 
   settles_too : Settles s e k → Settles s e q
   settles_too x = let same = finish_one s e k q in record {
@@ -115,7 +125,8 @@ module _ (s : StateData) (e : ℕ) (k q : Finishes s e) where
   finished_changes_same : (mark : List Change) → finished_changes s e k mark ≡ finished_changes s e q mark
   finished_changes_same mark =
       let same = finish_one s e k q in
-      let jobs = same.jobs in let stacks = same.stacks in let graphs = same.graphs in let nodes = same.nodes in let rows = same.rows in
+      let jobs = same.jobs in let stacks = same.stacks in let graphs = same.graphs in let nodes = same.nodes in
+      let rows = same.rows in
       let succs = same.succs in let ready = same.ready in cc
 
   finished_entries_same : (mark : List Entry) → finished_entries s e k mark ≡ finished_entries s e q mark
@@ -146,23 +157,32 @@ module _ (s : StateData) (e : ℕ) (k q : Finishes s e) where
       ap (λ (st : Stack). complete_mark (Engine e) st ∷ []) stacks in
       record {
         marked = refl;
-        changes = c ∙ (ap (finished_changes s e k) marks ∙ (finished_changes_same (mark_complete q.fresh.stack) ∙ sym i));
-        entries = d ∙ (ap (finished_entries s e k) told ∙ (finished_entries_same (complete_mark (Engine e) q.fresh.stack ∷ []) ∙ sym j));
+        changes = c
+            ∙ (ap (finished_changes s e k) marks ∙ (finished_changes_same (mark_complete q.fresh.stack) ∙ sym i));
+        entries = d ∙ (ap (finished_entries s e k) told
+            ∙ (finished_entries_same (complete_mark (Engine e) q.fresh.stack ∷ []) ∙ sym j));
       }
 
 -- any two of one part
-part_one : (s : StateData) (e : ℕ) (kind : Kind) (given : Given) (f g : Option Stack) (cs ds : List Change) (es fs : List Entry)
+part_one : (s : StateData) (e : ℕ) (kind : Kind) (given : Given) (f g : Option Stack) (cs ds : List Change)
+    (es fs : List Entry)
     → Part s e kind given f cs es → Part s e kind given g ds fs → AreOne f g cs ds es fs
-part_one s e kind given f g cs ds es fs (drops l _ _ t x c d) (drops m _ _ u y i j) = drops_one s e l m cs ds es fs t u c d i j
-part_one s e kind given f g cs ds es fs (drops l _ _ t x c d) (takes k _ _ free i j) = absurd (idle_free s e k (drop_take s e l k t x) free)
+part_one s e kind given f g cs ds es fs (drops l _ _ t x c d) (drops m _ _ u y i j) =
+    drops_one s e l m cs ds es fs t u c d i j
+part_one s e kind given f g cs ds es fs (drops l _ _ t x c d) (takes k _ _ free i j) =
+    absurd (idle_free s e k (drop_take s e l k t x) free)
 part_one s e kind given f g cs ds es fs (drops l _ _ t x c d) (steals k who job _ _ h n i j) =
     absurd (idle_stolen s e k (drop_take s e l k t x) who job h n)
-part_one s e kind given f g cs ds es fs (takes k _ _ free c d) (drops l _ _ t x i j) = absurd (idle_free s e k (drop_take s e l k t x) free)
-part_one s e kind given f g cs ds es fs (takes k _ _ free c d) (takes q _ _ free' i j) = takes_one s e k q cs ds es fs c d i j
-part_one s e kind given f g cs ds es fs (takes k _ _ free c d) (steals q who job _ _ h n i j) = absurd (free_stolen s e k q who job free h)
+part_one s e kind given f g cs ds es fs (takes k _ _ free c d) (drops l _ _ t x i j) =
+    absurd (idle_free s e k (drop_take s e l k t x) free)
+part_one s e kind given f g cs ds es fs (takes k _ _ free c d) (takes q _ _ free' i j) =
+    takes_one s e k q cs ds es fs c d i j
+part_one s e kind given f g cs ds es fs (takes k _ _ free c d) (steals q who job _ _ h n i j) =
+    absurd (free_stolen s e k q who job free h)
 part_one s e kind given f g cs ds es fs (steals k who job _ _ h n c d) (drops l _ _ t x i j) =
     absurd (idle_stolen s e k (drop_take s e l k t x) who job h n)
-part_one s e kind given f g cs ds es fs (steals k who job _ _ h n c d) (takes q _ _ free i j) = absurd (free_stolen s e q k who job free h)
+part_one s e kind given f g cs ds es fs (steals k who job _ _ h n c d) (takes q _ _ free i j) =
+    absurd (free_stolen s e q k who job free h)
 part_one s e kind given f g cs ds es fs (steals k who job _ _ h n c d) (steals q who' job' _ _ h' n' i j) =
     steals_one s e k q who who' cs ds es fs (thief_one s e k q who who' job job' h h') c d i j
 part_one s e kind given f g cs ds es fs (overruns j stage _ _ w k c d) (overruns i _ _ _ v q x y) =
@@ -184,32 +204,47 @@ part_one s e kind given f g cs ds es fs (ends k _ _ n c d) (settles q _ _ y i j)
 part_one s e kind given f g cs ds es fs (settles q _ _ n x y) (overruns j stage _ _ w k c d) =
     absurd (fresh_again s j q.job (works_one s e stage stage j q.job w q.works) q.fresh k.overrun)
 part_one s e kind given f g cs ds es fs (settles k _ _ y c d) (ends q _ _ n i j) = absurd (n (settles_too s e k q y))
-part_one s e kind given f g cs ds es fs (settles k _ _ y c d) (settles q _ _ y' i j) = settled_one s e k q cs ds es fs c d i j
+part_one s e kind given f g cs ds es fs (settles k _ _ y c d) (settles q _ _ y' i j) =
+    settled_one s e k q cs ds es fs c d i j
 part_one s e kind given f g cs ds es fs (faults k code path _ _ _ x c d) (faults q _ _ _ _ _ y i j) =
     fault_one s e k q code path f g cs ds es fs x y c d i j
 part_one s e kind given f g cs ds es fs (prepares k props effect a _ _ x c d) (prepares q _ _ b _ _ y i j) =
     prepare_one s e k q props effect a b cs ds es fs x y c d i j
-part_one s e kind given f g cs ds es fs (begins k a _ _ x c d) (begins q b _ _ y i j) = begun_one s e k q a b cs ds es fs x y c d i j
-part_one s e kind given f g cs ds es fs (begins k a _ _ x c d) (refuses _ q b _ why ls _ _ _ y r u i j) = absurd (not_begun q.row.act b why r)
-part_one s e kind given f g cs ds es fs (waits k a _ _ x c d) (waits q b _ _ y i j) = wait_one s e k q a b cs ds es fs x y c d i j
-part_one s e kind given f g cs ds es fs (waits k a _ _ x c d) (refuses _ q b _ why ls _ _ _ y r u i j) = absurd (not_waiting q.row.act b why r)
-part_one s e kind given f g cs ds es fs (readies k facts _ _ x c d) (readies q _ _ _ y i j) = ready_one s e k q facts cs ds es fs c d i j
-part_one s e kind given f g cs ds es fs (readies k facts _ _ x c d) (refuses _ q b _ why ls _ _ _ y r u i j) = absurd (not_ready q.row.act b why facts r)
+part_one s e kind given f g cs ds es fs (begins k a _ _ x c d) (begins q b _ _ y i j) =
+    begun_one s e k q a b cs ds es fs x y c d i j
+part_one s e kind given f g cs ds es fs (begins k a _ _ x c d) (refuses _ q b _ why ls _ _ _ y r u i j) =
+    absurd (not_begun q.row.act b why r)
+part_one s e kind given f g cs ds es fs (waits k a _ _ x c d) (waits q b _ _ y i j) =
+    wait_one s e k q a b cs ds es fs x y c d i j
+part_one s e kind given f g cs ds es fs (waits k a _ _ x c d) (refuses _ q b _ why ls _ _ _ y r u i j) =
+    absurd (not_waiting q.row.act b why r)
+part_one s e kind given f g cs ds es fs (readies k facts _ _ x c d) (readies q _ _ _ y i j) =
+    ready_one s e k q facts cs ds es fs c d i j
+part_one s e kind given f g cs ds es fs (readies k facts _ _ x c d) (refuses _ q b _ why ls _ _ _ y r u i j) =
+    absurd (not_ready q.row.act b why facts r)
 part_one s e kind given f g cs ds es fs (goes k _ _ x c d) (goes q _ _ y i j) = gone_one s e k q cs ds es fs c d i j
-part_one s e kind given f g cs ds es fs (goes k _ _ x c d) (refuses _ q b _ why ls _ _ _ y r u i j) = absurd (not_gone q.row.act b why r)
-part_one s e kind given f g cs ds es fs (refuses _ q b _ why ls _ _ _ y r u i j) (begins k a _ _ x c d) = absurd (not_begun q.row.act b why r)
-part_one s e kind given f g cs ds es fs (refuses _ q b _ why ls _ _ _ y r u i j) (waits k a _ _ x c d) = absurd (not_waiting q.row.act b why r)
-part_one s e kind given f g cs ds es fs (refuses _ q b _ why ls _ _ _ y r u i j) (readies k facts _ _ x c d) = absurd (not_ready q.row.act b why facts r)
-part_one s e kind given f g cs ds es fs (refuses _ q b _ why ls _ _ _ y r u i j) (goes k _ _ x c d) = absurd (not_gone q.row.act b why r)
-part_one s e kind given f g cs ds es fs (refuses stage k a answered why ls _ _ _ x r u c d) (refuses _ q b _ other ms _ _ _ y t v i j) =
+part_one s e kind given f g cs ds es fs (goes k _ _ x c d) (refuses _ q b _ why ls _ _ _ y r u i j) =
+    absurd (not_gone q.row.act b why r)
+part_one s e kind given f g cs ds es fs (refuses _ q b _ why ls _ _ _ y r u i j) (begins k a _ _ x c d) =
+    absurd (not_begun q.row.act b why r)
+part_one s e kind given f g cs ds es fs (refuses _ q b _ why ls _ _ _ y r u i j) (waits k a _ _ x c d) =
+    absurd (not_waiting q.row.act b why r)
+part_one s e kind given f g cs ds es fs (refuses _ q b _ why ls _ _ _ y r u i j) (readies k facts _ _ x c d) =
+    absurd (not_ready q.row.act b why facts r)
+part_one s e kind given f g cs ds es fs (refuses _ q b _ why ls _ _ _ y r u i j) (goes k _ _ x c d) =
+    absurd (not_gone q.row.act b why r)
+part_one s e kind given f g cs ds es fs (refuses stage k a answered why ls _ _ _ x r u c d)
+    (refuses _ q b _ other ms _ _ _ y t v i j) =
     refusal_one s e stage k q a b answered why other ls ms f g cs ds es fs x y r t u v c d i j
 part_one s e kind given f g cs ds es fs (relieves who j _ _ t k c d) (relieves who' i _ _ u q x y) =
-    release_one s e who who' j i k q cs ds es fs (left_one s e who who' j i t u).0 (left_one s e who who' j i t u).1 c d x y
+    release_one s e who who' j i k q cs ds es fs (left_one s e who who' j i t u).0
+    (left_one s e who who' j i t u).1 c d x y
 part_one s e kind given f g cs ds es fs (relieves who j _ _ t k c d) (relays who' q _ _ x y) =
     absurd (fresh_again s j q.job (left_one s e who who' j q.job t q.next).1 q.fresh k.overrun)
 part_one s e kind given f g cs ds es fs (relays who' q _ _ x y) (relieves who j _ _ t k c d) =
     absurd (fresh_again s j q.job (left_one s e who who' j q.job t q.next).1 q.fresh k.overrun)
-part_one s e kind given f g cs ds es fs (relays who k _ _ c d) (relays who' q _ _ i j) = relay_one s e who who' k q cs ds es fs c d i j
+part_one s e kind given f g cs ds es fs (relays who k _ _ c d) (relays who' q _ _ i j) =
+    relay_one s e who who' k q cs ds es fs c d i j
 
 -- any two moves
 pub move_one : (s : StateData) (e : ℕ) (given : Given) (f g : Option Stack) (cs ds : List Change) (es fs : List Entry)

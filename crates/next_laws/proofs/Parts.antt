@@ -24,16 +24,26 @@ use Rattle.core_state.specs.declared.entry.Why.{Why}
 use Rattle.core_state.specs.declared.stack.Stack.{Stack}
 use Rattle.type_catalog.specs.declared.effect.Effect.{Effect}
 use Rattle.step_relation.specs.Asks.{Asks, Calls, Falls, Polls, Refuses, failed_changes, failed_entries, fault_of}
-use Rattle.step_relation.specs.Begins.{Begins, begun_changes, begun_entries, left_changes, left_entries, onward_changes, onward_entries, replaced_changes, replaced_entries}
+use Rattle.step_relation.specs.Begins.{Begins, begun_changes, begun_entries, left_changes, left_entries, onward_changes}
+use Rattle.step_relation.specs.Begins.{onward_entries, replaced_changes, replaced_entries}
 use Rattle.step_relation.specs.Cleanups.{Cleans, purged_changes, purged_entries, retained_changes, retained_entries}
 use Rattle.step_relation.specs.Finishes.{Finishes, Settles, finished_changes, finished_entries}
 use Rattle.step_relation.specs.Given.{Answer, Faulted, Given, Nothing, Prepared}
-use Rattle.step_relation.specs.Moves.{Move, ask_begun, ask_failed, begin_failed, begin_faulted, begin_in_place, begin_init, begin_overrun, begin_replaced, begin_resumed, begin_same, clean_deleted, clean_gone, clean_init, clean_kept, clean_retained, clean_stuck, finish, finish_last, finish_overrun, poll_failed, poll_gone, poll_ready, poll_waits, take_dropped, take_free, take_stolen, takeover_fresh, takeover_overrun}
+use Rattle.step_relation.specs.Moves.{Move, ask_begun, ask_failed, begin_failed, begin_faulted, begin_in_place}
+use Rattle.step_relation.specs.Moves.{begin_init, begin_overrun, begin_replaced, begin_resumed, begin_same}
+use Rattle.step_relation.specs.Moves.{clean_deleted, clean_gone, clean_init, clean_kept, clean_retained, clean_stuck}
+use Rattle.step_relation.specs.Moves.{finish, finish_last, finish_overrun, poll_failed, poll_gone, poll_ready}
+use Rattle.step_relation.specs.Moves.{poll_waits, take_dropped, take_free, take_stolen, takeover_fresh}
+use Rattle.step_relation.specs.Moves.{takeover_overrun}
 use Rattle.step_relation.specs.Nexts.{TakesNext, TakesOver, Works}
 use Rattle.step_relation.specs.Rows.{created_row, deleted_row, ready_row, same_row, updated_row}
-use Rattle.step_relation.specs.Takes.{HasNoHolder, IsHolder, IsIdleLetter, Relays, Releases, Takes, relayed_letter, released_changes, released_entries, taken_job}
-use Rattle.step_relation.specs.Writes.{call_entry, complete_mark, failed_mark, lock, lock_writes, mail_entry, mark_complete, mark_failed, rows_entry}
-use Rattle.next_laws.proofs.Verdicts.{Clears, Created, Decides, Deleted, Fate, Kept, Left, Lot, Passed, Purged, Replaced, Resumed, Retained, Stuck, Updated, creates, deletes, gone, keeps, kept, leaves, purges, replaces, resumes, retains, sticks, updates}
+use Rattle.step_relation.specs.Takes.{HasNoHolder, IsHolder, IsIdleLetter, Relays, Releases, Takes, relayed_letter}
+use Rattle.step_relation.specs.Takes.{released_changes, released_entries, taken_job}
+use Rattle.step_relation.specs.Writes.{call_entry, complete_mark, failed_mark, lock, lock_writes, mail_entry}
+use Rattle.step_relation.specs.Writes.{mark_complete, mark_failed, rows_entry}
+use Rattle.next_laws.proofs.Verdicts.{Clears, Created, Decides, Deleted, Fate, Kept, Left, Lot, Passed, Purged}
+use Rattle.next_laws.proofs.Verdicts.{Replaced, Resumed, Retained, Stuck, Updated, creates, deletes, gone, keeps, kept}
+use Rattle.next_laws.proofs.Verdicts.{leaves, purges, replaces, resumes, retains, sticks, updates}
 use Rattle.heat_plan.specs.declared.calls.Answered.TheVariants as answer
 use Rattle.heat_plan.specs.declared.calls.Request.TheVariants as request
 
@@ -128,7 +138,8 @@ pub data Part (s : StateData) (e : ℕ) : Kind → Given → Option Stack → Li
       → cs ≡ released_changes s e k.row k.letters
       → es ≡ released_entries e e k.row k.letters
       → Part s e (AtJob stage) Nothing None cs es
-  faults : (k : Begins s e) (code : List ℕ) (path : List Step) (failed : Option Stack) (cs : List Change) (es : List Entry)
+  faults : (k : Begins s e) (code : List ℕ) (path : List Step) (failed : Option Stack) (cs : List Change)
+      (es : List Entry)
       → Falls s k.job [] failed
       → cs ≡ left_changes e k.row ++ mark_failed failed
       → es ≡ left_entries e k.row ++ failed_mark (Engine e) failed (fault_of k.item.name k.row.no code path)
@@ -138,7 +149,8 @@ pub data Part (s : StateData) (e : ℕ) : Kind → Given → Option Stack → Li
       → cs ≡ fate_changes s e k props fate
       → es ≡ fate_entries s e k props fate
       → Part s e (AtJob Taken) (Prepared props effect) None cs es
-  clears : (k : Cleans s e) (row : Option Row) (lot : Lot) (cs : List Change) (es : List Entry) → row_at s.rows k.job.row ≡ row
+  clears : (k : Cleans s e) (row : Option Row) (lot : Lot) (cs : List Change) (es : List Entry)
+      → row_at s.rows k.job.row ≡ row
       → Clears s k.stack row lot
       → cs ≡ lot_changes e k.job k.stack.trav lot
       → es ≡ lot_entries e k.job k.stack.trav lot
@@ -159,8 +171,10 @@ pub data Part (s : StateData) (e : ℕ) : Kind → Given → Option Stack → Li
       → cs ≡ purged_changes k.job k.row
       → es ≡ call_entry e k.row request.Gone answer.Gone ∷ purged_entries e k.job k.row
       → Part s e (AtJob Polling) (Answer answer.Gone) None cs es
-  refuses : (stage : Stage) (k : Calls s e stage) (asked : Request) (given : Answered) (reason : Why) (letters : List Letter) (failed : Option Stack)
-      (cs : List Change) (es : List Entry) → IsAsked k.row stage asked → Refuses k.row.act asked given reason → Falls s k.job letters failed
+  refuses : (stage : Stage) (k : Calls s e stage) (asked : Request) (given : Answered) (reason : Why)
+      (letters : List Letter) (failed : Option Stack)
+      (cs : List Change) (es : List Entry) → IsAsked k.row stage asked → Refuses k.row.act asked given reason
+      → Falls s k.job letters failed
       → cs ≡ failed_changes s e k.row letters failed
       → es ≡ call_entry e k.row asked given ∷ failed_entries e k.row letters failed reason
       → Part s e (AtJob stage) (Answer given) failed cs es
@@ -182,46 +196,85 @@ pub data Part (s : StateData) (e : ℕ) : Kind → Given → Option Stack → Li
       → Part s e ByLeft Nothing None cs es
 
 -- each move is of a part, and that is next
-pub record Placed (s : StateData) (e : ℕ) (given : Given) (failed : Option Stack) (cs : List Change) (es : List Entry) : Type 0 where
+pub record Placed (s : StateData) (e : ℕ) (given : Given) (failed : Option Stack) (cs : List Change)
+    (es : List Entry) : Type 0 where
   pub kind : Kind
   pub next : IsNext s e kind
   pub part : Part s e kind given failed cs es
 
-pub placed : (s : StateData) (e : ℕ) (given : Given) (failed : Option Stack) (cs : List Change) (es : List Entry) → Move s e given failed cs es
+pub placed : (s : StateData) (e : ℕ) (given : Given) (failed : Option Stack) (cs : List Change) (es : List Entry)
+    → Move s e given failed cs es
     → Placed s e given failed cs es
-placed s e given failed cs es (take_dropped l _ _ t i c d) = record { kind = _; next = by_letter l t; part = drops l cs es t i c d }
-placed s e given failed cs es (take_free k _ _ free c d) = record { kind = _; next = by_letter k.letter k.next; part = takes k cs es free c d }
-placed s e given failed cs es (take_stolen k f j _ _ h n c d) = record { kind = _; next = by_letter k.letter k.next; part = steals k f j cs es h n c d }
-placed s e given failed cs es (begin_overrun j _ _ w k c d) = record { kind = _; next = at_job j Taken w; part = overruns j Taken cs es w k c d }
-placed s e given failed cs es (begin_faulted k code path _ _ _ f c d) = record { kind = _; next = at_job k.job Taken k.works; part = faults k code path failed cs es f c d }
+placed s e given failed cs es (take_dropped l _ _ t i c d) =
+    record { kind = _; next = by_letter l t; part = drops l cs es t i c d }
+placed s e given failed cs es (take_free k _ _ free c d) =
+    record { kind = _; next = by_letter k.letter k.next; part = takes k cs es free c d }
+placed s e given failed cs es (take_stolen k f j _ _ h n c d) =
+    record { kind = _; next = by_letter k.letter k.next; part = steals k f j cs es h n c d }
+placed s e given failed cs es (begin_overrun j _ _ w k c d) =
+    record { kind = _; next = at_job j Taken w; part = overruns j Taken cs es w k c d }
+placed s e given failed cs es (begin_faulted k code path _ _ _ f c d) =
+    record { kind = _; next = at_job k.job Taken k.works; part = faults k code path failed cs es f c d }
 placed s e given failed cs es (begin_init k props effect _ _ i c d) =
     record { kind = _; next = at_job k.job Taken k.works; part = prepares k props effect Created cs es (creates i) c d }
 placed s e given failed cs es (begin_same k props effect _ _ n i x c d) =
     record { kind = _; next = at_job k.job Taken k.works; part = prepares k props effect Kept cs es (keeps n i x) c d }
 placed s e given failed cs es (begin_in_place k props effect _ _ n i x c d) =
-    record { kind = _; next = at_job k.job Taken k.works; part = prepares k props effect Updated cs es (updates n i x) c d }
+    record {
+      kind = _;
+      next = at_job k.job Taken k.works;
+      part = prepares k props effect Updated cs es (updates n i x) c d;
+    }
 placed s e given failed cs es (begin_resumed k props effect _ _ n i x c d) =
-    record { kind = _; next = at_job k.job Taken k.works; part = prepares k props effect Resumed cs es (resumes n i x) c d }
+    record {
+      kind = _;
+      next = at_job k.job Taken k.works;
+      part = prepares k props effect Resumed cs es (resumes n i x) c d;
+    }
 placed s e given failed cs es (begin_failed k props effect _ _ n i x c d) =
     record { kind = _; next = at_job k.job Taken k.works; part = prepares k props effect Left cs es (leaves n i x) c d }
 placed s e given failed cs es (begin_replaced k props effect _ _ n x c d) =
-    record { kind = _; next = at_job k.job Taken k.works; part = prepares k props effect Replaced cs es (replaces n x) c d }
+    record {
+      kind = _;
+      next = at_job k.job Taken k.works;
+      part = prepares k props effect Replaced cs es (replaces n x) c d;
+    }
 placed s e given failed cs es (clean_gone k _ _ at c d) =
     record { kind = _; next = at_job k.job Taken k.works; part = clears k None Passed cs es at gone c d }
 placed s e given failed cs es (clean_kept k r _ _ at x c d) =
     record { kind = _; next = at_job k.job Taken k.works; part = clears k (Some r) Passed cs es at (kept r x) c d }
 placed s e given failed cs es (clean_init k r _ _ at x i c d) =
-    record { kind = _; next = at_job k.job Taken k.works; part = clears k (Some r) (Purged r) cs es at (purges r x i) c d }
+    record {
+      kind = _;
+      next = at_job k.job Taken k.works;
+      part = clears k (Some r) (Purged r) cs es at (purges r x i) c d;
+    }
 placed s e given failed cs es (clean_stuck k r _ _ at x i c d) =
-    record { kind = _; next = at_job k.job Taken k.works; part = clears k (Some r) (Stuck r) cs es at (sticks r x i) c d }
+    record {
+      kind = _;
+      next = at_job k.job Taken k.works;
+      part = clears k (Some r) (Stuck r) cs es at (sticks r x i) c d;
+    }
 placed s e given failed cs es (clean_retained k r _ _ at x n i p c d) =
-    record { kind = _; next = at_job k.job Taken k.works; part = clears k (Some r) (Retained r) cs es at (retains r x n i p) c d }
+    record {
+      kind = _;
+      next = at_job k.job Taken k.works;
+      part = clears k (Some r) (Retained r) cs es at (retains r x n i p) c d;
+    }
 placed s e given failed cs es (clean_deleted k r _ _ at x n i p c d) =
-    record { kind = _; next = at_job k.job Taken k.works; part = clears k (Some r) (Deleted r) cs es at (deletes r x n i p) c d }
+    record {
+      kind = _;
+      next = at_job k.job Taken k.works;
+      part = clears k (Some r) (Deleted r) cs es at (deletes r x n i p) c d;
+    }
 placed s e given failed cs es (ask_begun k asked _ _ a c d) =
     record { kind = _; next = at_job k.job Asking k.works; part = begins k asked cs es a c d }
 placed s e given failed cs es (ask_failed k asked g reason letters _ _ _ a x f c d) =
-    record { kind = _; next = at_job k.job Asking k.works; part = refuses Asking k asked g reason letters failed cs es (at_ask asked a) x f c d }
+    record {
+      kind = _;
+      next = at_job k.job Asking k.works;
+      part = refuses Asking k asked g reason letters failed cs es (at_ask asked a) x f c d;
+    }
 placed s e given failed cs es (poll_waits k asked _ _ a c d) =
     record { kind = _; next = at_job k.job Polling k.works; part = waits k asked cs es a c d }
 placed s e given failed cs es (poll_ready k facts _ _ a c d) =
@@ -229,9 +282,18 @@ placed s e given failed cs es (poll_ready k facts _ _ a c d) =
 placed s e given failed cs es (poll_gone k _ _ a c d) =
     record { kind = _; next = at_job k.job Polling k.works; part = goes k cs es a c d }
 placed s e given failed cs es (poll_failed k asked g reason letters _ _ _ a x f c d) =
-    record { kind = _; next = at_job k.job Polling k.works; part = refuses Polling k asked g reason letters failed cs es (at_poll asked a) x f c d }
-placed s e given failed cs es (finish_overrun j _ _ w k c d) = record { kind = _; next = at_job j Ending w; part = overruns j Ending cs es w k c d }
-placed s e given failed cs es (finish k _ _ n c d) = record { kind = _; next = at_job k.job Ending k.works; part = ends k cs es n c d }
-placed s e given failed cs es (finish_last k _ _ y c d) = record { kind = _; next = at_job k.job Ending k.works; part = settles k cs es y c d }
-placed s e given failed cs es (takeover_overrun f j _ _ t k c d) = record { kind = _; next = by_left f j t; part = relieves f j cs es t k c d }
-placed s e given failed cs es (takeover_fresh f k _ _ c d) = record { kind = _; next = by_left f k.job k.next; part = relays f k cs es c d }
+    record {
+      kind = _;
+      next = at_job k.job Polling k.works;
+      part = refuses Polling k asked g reason letters failed cs es (at_poll asked a) x f c d;
+    }
+placed s e given failed cs es (finish_overrun j _ _ w k c d) =
+    record { kind = _; next = at_job j Ending w; part = overruns j Ending cs es w k c d }
+placed s e given failed cs es (finish k _ _ n c d) =
+    record { kind = _; next = at_job k.job Ending k.works; part = ends k cs es n c d }
+placed s e given failed cs es (finish_last k _ _ y c d) =
+    record { kind = _; next = at_job k.job Ending k.works; part = settles k cs es y c d }
+placed s e given failed cs es (takeover_overrun f j _ _ t k c d) =
+    record { kind = _; next = by_left f j t; part = relieves f j cs es t k c d }
+placed s e given failed cs es (takeover_fresh f k _ _ c d) =
+    record { kind = _; next = by_left f k.job k.next; part = relays f k cs es c d }

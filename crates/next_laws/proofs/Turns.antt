@@ -17,15 +17,21 @@ use Rattle.next_laws.proofs.Layouts.{layout_one}
 use Rattle.next_laws.proofs.Outcomes.{move_one}
 
 -- what follows a failure
-laid_one : (s : StateData) (e : ℕ) (f g : Stack) → f ≡ g → (k : Lays s f.name (plan_back s f).items) (q : Lays s g.name (plan_back s g).items)
-    → (laid_changes s f.name (plan_back s f).items (rollback_sets s f (Engine e)) k ≡ laid_changes s g.name (plan_back s g).items (rollback_sets s g (Engine e)) q)
-    × (laid_entries s f.name (plan_back s f).items (rollback_sets s f (Engine e)) k ≡ laid_entries s g.name (plan_back s g).items (rollback_sets s g (Engine e)) q)
+laid_one : (s : StateData) (e : ℕ) (f g : Stack) → f ≡ g
+    → (k : Lays s f.name (plan_back s f).items) (q : Lays s g.name (plan_back s g).items)
+    → (laid_changes s f.name (plan_back s f).items (rollback_sets s f (Engine e)) k ≡ laid_changes s g.name
+    (plan_back s g).items (rollback_sets s g (Engine e)) q)
+    × (laid_entries s f.name (plan_back s f).items (rollback_sets s f (Engine e)) k ≡ laid_entries s g.name
+    (plan_back s g).items (rollback_sets s g (Engine e)) q)
 laid_one s e f g same k = subst (λ (h : Stack). (q : Lays s h.name (plan_back s h).items)
-    → (laid_changes s f.name (plan_back s f).items (rollback_sets s f (Engine e)) k ≡ laid_changes s h.name (plan_back s h).items (rollback_sets s h (Engine e)) q)
-    × (laid_entries s f.name (plan_back s f).items (rollback_sets s f (Engine e)) k ≡ laid_entries s h.name (plan_back s h).items (rollback_sets s h (Engine e)) q))
+    → (laid_changes s f.name (plan_back s f).items (rollback_sets s f (Engine e)) k ≡ laid_changes s h.name
+    (plan_back s h).items (rollback_sets s h (Engine e)) q)
+    × (laid_entries s f.name (plan_back s f).items (rollback_sets s f (Engine e)) k ≡ laid_entries s h.name
+    (plan_back s h).items (rollback_sets s h (Engine e)) q))
     same (layout_one s f.name (plan_back s f).items (rollback_sets s f (Engine e)) k)
 
-follows_one : (s : StateData) (e : ℕ) (st : Stack) (cs ds : List Change) (es fs : List Entry) → FollowsFailure s e st cs es → FollowsFailure s e st ds fs
+follows_one : (s : StateData) (e : ℕ) (st : Stack) (cs ds : List Change) (es fs : List Entry)
+    → FollowsFailure s e st cs es → FollowsFailure s e st ds fs
     → (cs ≡ ds) × (es ≡ fs)
 follows_one s e st cs ds es fs a b =
     let stacks : a.failed ≡ b.failed = same_some a.failed b.failed a.is b.is in
@@ -33,10 +39,12 @@ follows_one s e st cs ds es fs a b =
     (a.changes ∙ (changes ∙ sym b.changes), a.entries ∙ (entries ∙ sym b.entries))
 
 -- a turn by its move: what it marked, and what it wrote first
-pub data Whole (s : StateData) (e : ℕ) (f : Option Stack) (first : List Change) (firsts : List Entry) (cs : List Change) (es : List Entry) : Type 0 where
+pub data Whole (s : StateData) (e : ℕ) (f : Option Stack) (first : List Change) (firsts : List Entry) (cs : List Change)
+    (es : List Entry) : Type 0 where
   stops : IsPlain (applied first s) f → cs ≡ first → es ≡ firsts → Whole s e f first firsts cs es
   follows : (st : Stack) (last : List Change) (lasts : List Entry) → f ≡ Some st → IsDue (applied first s) st
-      → FollowsFailure (applied first s) e st last lasts → cs ≡ first ++ last → es ≡ firsts ++ lasts → Whole s e f first firsts cs es
+      → FollowsFailure (applied first s) e st last lasts → cs ≡ first ++ last → es ≡ firsts ++ lasts
+      → Whole s e f first firsts cs es
 
 pub record ByMove (s : StateData) (e : ℕ) (given : Given) (cs : List Change) (es : List Entry) : Type 0 where
   pub failed : Option Stack
@@ -45,8 +53,10 @@ pub record ByMove (s : StateData) (e : ℕ) (given : Given) (cs : List Change) (
   pub move : Move s e given failed first firsts
   pub whole : Whole s e failed first firsts cs es
 
-pub by_move : (s : StateData) (e : ℕ) (given : Given) (cs : List Change) (es : List Entry) → Turn s e given cs es → ByMove s e given cs es
-by_move s e given cs es (plain f m p) = record { failed = f; first = cs; firsts = es; move = m; whole = stops p refl refl }
+pub by_move : (s : StateData) (e : ℕ) (given : Given) (cs : List Change) (es : List Entry) → Turn s e given cs es
+    → ByMove s e given cs es
+by_move s e given cs es (plain f m p) =
+    record { failed = f; first = cs; firsts = es; move = m; whole = stops p refl refl }
 by_move s e given cs es (rolls st first last firsts lasts m due k c d) =
     record { failed = Some st; first = first; firsts = firsts; move = m; whole = follows st last lasts refl due k c d }
 
@@ -58,12 +68,16 @@ some_one : (f : Option Stack) (a b : Stack) → f ≡ Some a → f ≡ Some b �
 some_one f a b h i = same_some a b h i
 
 -- the whole is one behind one move, whatever that told
-pub whole_one : (s : StateData) (e : ℕ) (f : Option Stack) (first : List Change) (firsts others : List Entry) (cs ds : List Change) (es fs : List Entry)
+pub whole_one : (s : StateData) (e : ℕ) (f : Option Stack) (first : List Change) (firsts others : List Entry)
+    (cs ds : List Change) (es fs : List Entry)
     → Whole s e f first firsts cs es → Whole s e f first others ds fs → (cs ≡ ds) × (firsts ≡ others → es ≡ fs)
 whole_one s e f first firsts others cs ds es fs (stops p c d) (stops q i j) = (c ∙ sym i, λ same. d ∙ (same ∙ sym j))
-whole_one s e f first firsts others cs ds es fs (stops p c d) (follows st last lasts is due k i j) = absurd (not_due (applied first s) f st p is due)
-whole_one s e f first firsts others cs ds es fs (follows st last lasts is due k c d) (stops p i j) = absurd (not_due (applied first s) f st p is due)
-whole_one s e f first firsts others cs ds es fs (follows st last lasts is due k c d) (follows st' last' lasts' is' due' k' i j) =
+whole_one s e f first firsts others cs ds es fs (stops p c d) (follows st last lasts is due k i j) =
+    absurd (not_due (applied first s) f st p is due)
+whole_one s e f first firsts others cs ds es fs (follows st last lasts is due k c d) (stops p i j) =
+    absurd (not_due (applied first s) f st p is due)
+whole_one s e f first firsts others cs ds es fs (follows st last lasts is due k c d)
+    (follows st' last' lasts' is' due' k' i j) =
     let stacks : st ≡ st' = same_some st st' is is' in
     let (changes, entries) = follows_one (applied first s) e st last last' lasts lasts' k
     (subst (λ (z : Stack). FollowsFailure (applied first s) e z last' lasts') (sym stacks) k') in (

@@ -96,8 +96,10 @@ pub data Clears (s : StateData) (st : Stack) : Option Row → Lot → Type 0 whe
   kept : (r : Row) → IsKept s st r → Clears s st (Some r) Passed
   purges : (r : Row) → ¬ IsKept s st r → r.act ≡ Init → Clears s st (Some r) (Purged r)
   sticks : (r : Row) → ¬ IsKept s st r → IsStuck r st.trav → Clears s st (Some r) (Stuck r)
-  retains : (r : Row) → ¬ IsKept s st r → r.act ≢ Init → ¬ IsStuck r st.trav → r.policy ≡ Retain → Clears s st (Some r) (Retained r)
-  deletes : (r : Row) → ¬ IsKept s st r → r.act ≢ Init → ¬ IsStuck r st.trav → r.policy ≢ Retain → Clears s st (Some r) (Deleted r)
+  retains : (r : Row) → ¬ IsKept s st r → r.act ≢ Init → ¬ IsStuck r st.trav → r.policy ≡ Retain
+      → Clears s st (Some r) (Retained r)
+  deletes : (r : Row) → ¬ IsKept s st r → r.act ≢ Init → ¬ IsStuck r st.trav → r.policy ≢ Retain
+      → Clears s st (Some r) (Deleted r)
 
 module _ (s : StateData) (st : Stack) where
   new_stuck : (r : Row) → r.act ≡ Init → IsStuck r st.trav → ⊥

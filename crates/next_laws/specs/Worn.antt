@@ -13,7 +13,8 @@ abbrev pub QuietIsNotWorn : Type 0
 QuietIsNotWorn = (s : StateData) (e : ℕ) (given : Given) (cs : List Change) (es : List Entry)
     → ((a : Answered) → given ≢ Answer a) → Turn s e given cs es → ¬ IsWorn cs → ¬ WearsOut s e given
 
--- it is answered, and what a failure would change isn't worn: no other answer raises a key further or draws more numbers
+-- it is answered, and what a failure would change isn't worn: no other answer raises a key further or draws more
+-- numbers
 abbrev pub CallIsNotWorn : Type 0
 CallIsNotWorn = (s : StateData) (e : ℕ) (cs : List Change) (es : List Entry)
     → Turn s e (Answer answer.Failed) cs es → ¬ IsWorn cs → (a : Answered) → ¬ WearsOut s e (Answer a)

@@ -3,6 +3,7 @@
 #![tactic(auto)]
 
 ghost use Rattle.next_laws.specs.OneTurn.{LayoutIsOne, TurnIsOne};
+ghost use Rattle.next_laws.specs.Range.{StepsStayInRange, WornLayoutWears, WornTurnWears};
 ghost use Rattle.next_laws.specs.Worn.{CallIsNotWorn, QuietIsNotWorn};
 
 /// An engine that is given the same makes the same turn on the same state, whatever the state.
@@ -20,4 +21,15 @@ pub fn a_layout_is_one()
 pub fn an_unworn_turn_is_not_worn_out()
     ensures quiet { QuietIsNotWorn }
     ensures call { CallIsNotWorn }
+{}
+
+/// Where no next number is past 2^62 and each row's key is below it, each step leaves it so.
+pub fn steps_stay_in_range()
+    ensures { StepsStayInRange }
+{}
+
+/// What is worn there is exactly what would draw a number at 2^62 or raise a key to it.
+pub fn worn_is_the_last_number()
+    ensures turn { WornTurnWears }
+    ensures layout { WornLayoutWears }
 {}

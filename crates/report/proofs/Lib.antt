@@ -1,2 +1,2 @@
 pub mod Parts
-pub mod Inserts
+pub mod Backwards

@@ -1,4 +1,6 @@
 pub mod Words
+pub mod Seen
 pub mod Rows
 pub mod Entries
 pub mod Text
+pub mod Undone

@@ -1,9 +1,11 @@
 //! The lines of the entries that write no row.
 ghost use Rattle.std.specs.Prelude.{◌≡◌, ℕ, List, IfOk, Option, option_map, string_bytes};
 ghost use Rattle.report.specs.Words.{why_text};
-ghost use Rattle.report.specs.Entries.{stack_words, stack_line, command_line, failed_line, cause_line, mark_line, released_line, engine_line, ran_line, turned_line, note_line, show_text, line_of};
+ghost use Rattle.report.specs.Entries.{stack_words, stack_line, command_line, failed_line, cause_line, mark_line, released_line, engine_line, ran_line, turned_line, note_line, status_text, show_text, line_of};
+ghost use Rattle.report.specs.Undone.{shown as shown_of};
 
-use crate::resources::resources_text;
+use crate::brief::SeenStack;
+use crate::rows::shown_lines;
 use crate::seen::Seen;
 use crate::words::{act_word, status_word, why_text};
 use core_state::{Cause, EngineChange, ShowWhat, What};
@@ -148,24 +150,35 @@ fn note_line(
     }
 }
 
-// Of a stack's status and outputs nothing is told yet.
+fn status_text(alloc: Global, stack: Option<&SeenStack>) -> Result<String, AllocError>
+    ensures { IfOk result (λ s. string_bytes s
+        ≡ status_text (option_map (λ k. k.now) stack.entry)) }
+{
+    match stack {
+        Some(stack) => stack_line(alloc, &stack.name, stack.trav, stack.act, stack.status),
+        None => Ok(String::new(alloc)),
+    }
+}
+
+// Of a stack's outputs nothing is told yet.
 fn show_text(
     alloc: Global,
     shown: ShowWhat,
     stack: &StackName,
-    seen: &Seen<'_>,
+    seen: &Seen,
 ) -> Result<String, AllocError>
-    ensures { IfOk result (λ s. string_bytes s ≡ show_text shown stack.now seen.now) }
+    ensures { IfOk result (λ s. string_bytes s ≡ show_text shown stack.now (shown_of seen.now)) }
 {
     match shown {
-        ShowWhat::Resources => resources_text(alloc, stack, seen),
-        ShowWhat::Status | ShowWhat::Outputs => Ok(String::new(alloc)),
+        ShowWhat::Status => status_text(alloc, seen.stacks.get(stack)),
+        ShowWhat::Resources => shown_lines(alloc, stack, seen.rows.as_slice()),
+        ShowWhat::Outputs => Ok(String::new(alloc)),
     }
 }
 
 /// The line of an entry that writes no row.
-pub(crate) fn entry_line(alloc: Global, seen: &Seen<'_>, what: &What) -> Result<String, AllocError>
-    ensures { IfOk result (λ s. string_bytes s ≡ line_of seen.now what.now) }
+pub(crate) fn entry_line(alloc: Global, seen: &Seen, what: &What) -> Result<String, AllocError>
+    ensures { IfOk result (λ s. string_bytes s ≡ line_of (shown_of seen.now) what.now) }
 {
     match what {
         What::Command {

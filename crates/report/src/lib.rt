@@ -1,17 +1,19 @@
 //! The report: the text that a history adds up to, for whoever reads the program's output. It is a fold
 //! over the opening state and the entries, and knows nothing of the lines of a script. Nothing here
-//! changes a state or writes. It answers to `text_after` of specs/Text.antt.
+//! changes a state or writes. It answers to `told` and `text_after` of specs/Text.antt.
 #![tactic(auto)]
 
+mod brief;
 mod entries;
 mod laws;
+mod log;
 mod report;
-mod resources;
 mod rows;
 mod seen;
+mod tell;
 #[cfg(test)]
 mod tests;
 mod words;
 
 pub use laws::text_is_parted;
-pub use report::lines_of;
+pub use report::{Reporter, lines_of};

@@ -1,15 +1,62 @@
-//! The text that entries add to a history's.
-ghost use Rattle.std.specs.Prelude.{◌≡◌, ◌++◌, ◌≤◌, IfOk, OnOk, length, string_bytes};
-ghost use Rattle.report.specs.Rows.{writes_text, after_writes};
-ghost use Rattle.report.specs.Entries.{what_text, after_what};
+//! A reporter, which keeps what it has seen, and the text that entries add to a history's.
+ghost use Rattle.std.specs.Prelude.{◌≡◌, ◌≤◌, IfOk, OnOk, OnErr, length};
+ghost use Rattle.report.specs.Seen.{seen_of};
 ghost use Rattle.report.specs.Text.{seen_after, told, text_after};
 
-use crate::entries::entry_line;
-use crate::rows::write_text;
-use crate::seen::{Seen, writes_of};
-use core_state::{Entry, RowWrite, State, What};
+use crate::log::Log;
+use crate::seen::Seen;
+use crate::tell::tell;
+use core_state::{Entry, State};
 use heat_value::Text;
 use std::alloc::{AllocError, Global};
+use std::marker::Model;
+
+/// What a history has shown so far, so that what comes is told with no look back.
+#[derive(Debug, Drop)]
+pub struct Reporter {
+    alloc: Global,
+    seen: Seen,
+}
+
+impl Model for Reporter {
+    ghost use Rattle.std.specs.Coded.{codes};
+    ghost use Rattle.report.specs.Seen.{SeenData};
+    ghost use Rattle.report.specs.Undone.{shown};
+
+    ghost Value = { SeenData };
+
+    ghost coded = { Prim.hlevel (codes) };
+
+    ghost view = { λ r. shown r.seen };
+}
+
+impl Reporter {
+    /// What is seen in the opening state.
+    pub fn new(alloc: Global, opening: &State) -> Result<Reporter, AllocError>
+        ensures { IfOk result (λ r. r ≡ seen_of opening.now.state) }
+    {
+        Ok(Reporter {
+            alloc,
+            seen: Seen::of(alloc, opening)?,
+        })
+    }
+
+    /// What these entries add to the text; without memory nothing is seen of them.
+    pub fn add(&mut self, entries: &[Entry]) -> Result<Text, AllocError>
+        ensures text { IfOk result (λ t. t ≡ told self.old entries.now) }
+        ensures seen { OnOk result (self.new ≡ seen_after self.old entries.now) }
+        ensures err { OnErr result (self.new ≡ self.old) }
+    {
+        let mut log = Log::new(self.alloc);
+        match tell(self.alloc, &mut self.seen, &mut log, entries) {
+            Ok(text) => Ok(Text::from_string(text)),
+            Err(error) => {
+                self.seen.unwind(log);
+                Err(error)
+            }
+        }
+    }
+}
 
 /// What the entries from this place on add to the text of the history.
 pub fn lines_of(
@@ -21,60 +68,7 @@ pub fn lines_of(
     requires { from ≤ length entries.now }
     ensures { IfOk result (λ t. t ≡ text_after opening.now.state entries.now from) }
 {
-    let mut seen = Seen::of(alloc, opening.rows())?;
-    pass(&mut seen, &entries[..from])?;
-    Ok(Text::from_string(tell(alloc, &mut seen, &entries[from..])?))
-}
-
-// Sees entries, and tells nothing.
-fn pass<'a>(seen: &mut Seen<'a>, entries: &'a [Entry]) -> Result<(), AllocError>
-    ensures { OnOk result (seen.new ≡ seen_after seen.old entries.now) }
-{
-    for entry in entries {
-        seen.entry(&entry.what)?;
-    }
-    Ok(())
-}
-
-// The text of entries, given the rows that were seen before them.
-fn tell<'a>(alloc: Global, seen: &mut Seen<'a>, entries: &'a [Entry]) -> Result<String, AllocError>
-    ensures { IfOk result (λ s. string_bytes s ≡ told seen.old entries.now) }
-{
-    let mut text = String::new(alloc);
-    for entry in entries {
-        tell_entry(alloc, &mut text, seen, &entry.what)?;
-    }
-    Ok(text)
-}
-
-fn tell_entry<'a>(
-    alloc: Global,
-    text: &mut String,
-    seen: &mut Seen<'a>,
-    what: &'a What,
-) -> Result<(), AllocError>
-    ensures text { OnOk result
-        (string_bytes text.new ≡ string_bytes text.old ++ what_text seen.old what.now) }
-    ensures seen { OnOk result (seen.new ≡ after_what seen.old what.now) }
-{
-    text.push_str(&entry_line(alloc, seen, what)?)?;
-    tell_writes(alloc, text, seen, writes_of(what))
-}
-
-// Each write sees those before it.
-fn tell_writes<'a>(
-    alloc: Global,
-    text: &mut String,
-    seen: &mut Seen<'a>,
-    writes: &'a [RowWrite],
-) -> Result<(), AllocError>
-    ensures text { OnOk result
-        (string_bytes text.new ≡ string_bytes text.old ++ writes_text seen.old writes.now) }
-    ensures seen { OnOk result (seen.new ≡ after_writes seen.old writes.now) }
-{
-    for write in writes {
-        text.push_str(&write_text(alloc, seen, write)?)?;
-        seen.write(write)?;
-    }
-    Ok(())
+    let mut reporter = Reporter::new(alloc, opening)?;
+    let _ = reporter.add(&entries[..from])?;
+    reporter.add(&entries[from..])
 }

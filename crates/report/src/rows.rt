@@ -1,14 +1,15 @@
-//! The lines of row writes.
-ghost use Rattle.std.specs.Prelude.{◌≡◌, IfOk, Option, option_map, string_bytes};
-ghost use Rattle.report.specs.Rows.{row_line, is_init, stands_alike, is_told, set_text, purge_text, write_text};
+//! The lines of row writes, and of a stack's rows.
+ghost use Rattle.std.specs.Prelude.{◌≡◌, IfOk, option_map, string_bytes};
+ghost use Rattle.report.specs.Words.{or_dash};
+ghost use Rattle.report.specs.Rows.{row_line, is_init, stands_alike, is_told, set_text, purge_text, shown_head, shown_tail, shown_line, shown_lines};
 
-use crate::seen::Seen;
-use crate::words::{act_word, status_word};
-use core_state::{Row, RowWrite};
-use heat_plan::{Act, Status};
+use crate::brief::SeenRow;
+use crate::words::{act_word, number_word, status_word};
+use heat_plan::{Act, StackName, Status};
+use heat_value::Text;
 use std::alloc::{AllocError, Global};
 
-fn row_line(alloc: Global, row: &Row, act: Act, status: Status) -> Result<String, AllocError>
+fn row_line(alloc: Global, row: &SeenRow, act: Act, status: Status) -> Result<String, AllocError>
     ensures { IfOk result (λ s. string_bytes s ≡ row_line row.now act status) }
 {
     format!(in alloc;
@@ -27,14 +28,14 @@ fn is_init(act: Act) -> bool
     matches!(act, Act::Init)
 }
 
-fn stands_alike(old: &Row, new: &Row) -> bool
+fn stands_alike(old: &SeenRow, new: &SeenRow) -> bool
     ensures { result ≡ stands_alike old.now new.now }
 {
     act_word(old.act) == act_word(new.act) && status_word(old.status) == status_word(new.status)
 }
 
 // Whether a row that was set is told.
-fn is_told(old: Option<&Row>, row: &Row) -> bool
+fn is_told(old: Option<&SeenRow>, row: &SeenRow) -> bool
     ensures { result ≡ is_told (option_map (λ r. r.now) old.entry) row.now }
 {
     match old {
@@ -43,21 +44,12 @@ fn is_told(old: Option<&Row>, row: &Row) -> bool
     }
 }
 
-/// A write's line, given the rows that were seen before it.
-pub(crate) fn write_text(
+/// The line of a row that was set, given what was seen of it before.
+pub(crate) fn set_text(
     alloc: Global,
-    seen: &Seen<'_>,
-    write: &RowWrite,
+    old: Option<&SeenRow>,
+    row: &SeenRow,
 ) -> Result<String, AllocError>
-    ensures { IfOk result (λ s. string_bytes s ≡ write_text seen.now write.now) }
-{
-    match write {
-        RowWrite::Set(row) => set_text(alloc, seen.row(&row.no), row),
-        RowWrite::Purge(no) => purge_text(alloc, seen.row(no)),
-    }
-}
-
-fn set_text(alloc: Global, old: Option<&Row>, row: &Row) -> Result<String, AllocError>
     ensures { IfOk result (λ s. string_bytes s ≡ set_text (option_map (λ r. r.now) old.entry) row.now) }
 {
     if is_told(old, row) {
@@ -67,11 +59,72 @@ fn set_text(alloc: Global, old: Option<&Row>, row: &Row) -> Result<String, Alloc
     }
 }
 
-fn purge_text(alloc: Global, old: Option<&Row>) -> Result<String, AllocError>
+/// The line of a row that is gone, given what was seen of it before.
+pub(crate) fn purge_text(alloc: Global, old: Option<&SeenRow>) -> Result<String, AllocError>
     ensures { IfOk result (λ s. string_bytes s ≡ purge_text (option_map (λ r. r.now) old.entry)) }
 {
     match old {
         Some(row) => row_line(alloc, row, Act::Delete, Status::Complete),
         None => Ok(String::new(alloc)),
     }
+}
+
+fn id_word(id: &Option<Text>) -> &str
+    ensures { result.now ≡ or_dash id.now }
+{
+    match id {
+        Some(id) => id.as_str(),
+        None => "-",
+    }
+}
+
+fn shown_head(alloc: Global, row: &SeenRow) -> Result<String, AllocError>
+    ensures { IfOk result (λ s. string_bytes s ≡ shown_head row.now) }
+{
+    format!(in alloc;
+        "row {} {} {} {}_{}",
+        row.no.get(),
+        row.name.as_str(),
+        row.kind.as_str(),
+        act_word(row.act),
+        status_word(row.status)
+    )
+}
+
+fn shown_tail(alloc: Global, row: &SeenRow) -> Result<String, AllocError>
+    ensures { IfOk result (λ s. string_bytes s ≡ shown_tail row.now) }
+{
+    let replaces = number_word(alloc, row.replaces)?;
+    let replaced_by = number_word(alloc, row.replaced_by)?;
+    format!(in alloc;
+        "id {} replaces {} replaced_by {}\n",
+        id_word(&row.id),
+        replaces.as_str(),
+        replaced_by.as_str()
+    )
+}
+
+fn shown_line(alloc: Global, row: &SeenRow) -> Result<String, AllocError>
+    ensures { IfOk result (λ s. string_bytes s ≡ shown_line row.now) }
+{
+    let head = shown_head(alloc, row)?;
+    let tail = shown_tail(alloc, row)?;
+    format!(in alloc; "{} {}", head.as_str(), tail.as_str())
+}
+
+/// A line for each row of a stack.
+pub(crate) fn shown_lines(
+    alloc: Global,
+    stack: &StackName,
+    rows: &[SeenRow],
+) -> Result<String, AllocError>
+    ensures { IfOk result (λ s. string_bytes s ≡ shown_lines stack.now rows.now) }
+{
+    let mut text = String::new(alloc);
+    for row in rows {
+        if row.stack == *stack {
+            text.push_str(&shown_line(alloc, row)?)?;
+        }
+    }
+    Ok(text)
 }

@@ -1,162 +1,183 @@
-//! The rows that a history has shown so far: those of the opening state, with each write over them.
-ghost use Rattle.std.specs.Prelude.{◌≡◌, [], ◌∷◌, ◌++◌, OnOk, IfOk, option_map};
-ghost use Rattle.row_table.specs.Rows.{row_at, put_row};
-ghost use Rattle.report.specs.Rows.{after_write};
-ghost use Rattle.report.specs.Entries.{after_what, writes_of};
+//! The rows and stacks that a history has shown so far, each write over them, and the way back.
+ghost use Rattle.std.specs.Prelude.{◌≡◌, ◌+◌, ◌≤◌, [], OnOk, IfOk, length, option_map};
+ghost use Rattle.std.specs.Ordering.{nat_cmp};
+ghost use Rattle.std.specs.Cmp.Lexicographic.{slice_cmp};
+ghost use Rattle.sorted_list.specs.Lists.{put, cut, restored};
+ghost use Rattle.report.specs.Seen.{row_key, stack_key, row_at, stack_at, rows_seen, stacks_seen, seen_of, with_rows, with_stacks};
+ghost use Rattle.report.specs.Undone.{shown, undone, unwound, CanUnwind, HasRoom};
 
-use core_state::{Keyed, Row, RowWrite, Table, What};
-use heat_plan::RowNo;
+use crate::brief::{SeenRow, SeenStack};
+use crate::log::{Log, Was};
+use core_state::{Row, Stack, State};
+use heat_plan::{RowNo, StackName};
+use sorted_list::SortedList;
 use std::alloc::{AllocError, Global};
-use std::marker::Model;
 
-/// A row where it stands, in the opening state or in an entry.
-#[derive(Drop)]
-pub(crate) struct ShownRow<'a> {
-    row: &'a Row,
+/// All that is seen, rows by their numbers and stacks by their names.
+#[derive(Debug, Drop)]
+pub(crate) struct Seen {
+    pub(crate) rows: SortedList<SeenRow>,
+    pub(crate) stacks: SortedList<SeenStack>,
 }
 
-impl<'a> Model for ShownRow<'a> {
-    ghost use Rattle.std.specs.Coded.{codes};
-    ghost use Rattle.heat_value.specs.Code.{data_code, members_code};
-    ghost use Rattle.row_table.specs.declared.row.Row.{Row};
-
-    ghost Value = { Row };
-
-    ghost coded = { Prim.hlevel (codes, data_code, members_code) };
-
-    ghost view = { λ s. s.row.now };
-}
-
-impl<'a> ShownRow<'a> {
-    pub(crate) fn of(row: &'a Row) -> ShownRow<'a>
-        ensures { result ≡ row.now }
+impl Seen {
+    /// What is seen in a state.
+    pub(crate) fn of(alloc: Global, state: &State) -> Result<Seen, AllocError>
+        ensures { IfOk result (λ s. shown s ≡ seen_of state.now.state) }
     {
-        ShownRow { row }
+        Ok(Seen {
+            rows: rows_of(alloc, state.rows())?,
+            stacks: stacks_of(alloc, state.stacks())?,
+        })
     }
 
-    pub(crate) fn row(&self) -> &'a Row
-        ensures { result.now ≡ self.now }
+    /// Makes room for one thing more, and for the way back.
+    pub(crate) fn reserve(&mut self, log: &mut Log) -> Result<(), AllocError>
+        requires back { CanUnwind log.old self.old }
+        ensures log { log.new.items ≡ log.old.items }
+        ensures same { shown self.new ≡ shown self.old }
+        ensures back { CanUnwind log.new self.new }
+        ensures room { OnOk result (HasRoom log.new self.new) }
     {
-        self.row
-    }
-}
-
-impl<'a> Keyed for ShownRow<'a> {
-    type Key = RowNo;
-
-    ghost use Rattle.std.specs.Prelude.{nat_eq};
-
-    ghost key_of = { λ r. r.no };
-
-    ghost same = { nat_eq };
-
-    fn has_key(&self, key: &RowNo) -> bool {
-        self.row.no == *key
-    }
-
-    fn shares_key(&self, other: &Self) -> bool {
-        self.row.no == other.row.no
-    }
-}
-
-/// All rows that are seen, each under its number.
-#[derive(Drop)]
-pub(crate) struct Seen<'a> {
-    rows: Table<ShownRow<'a>>,
-}
-
-impl<'a> Model for Seen<'a> {
-    ghost use Rattle.std.specs.Prelude.{List};
-    ghost use Rattle.std.specs.Coded.{codes};
-    ghost use Rattle.heat_value.specs.Code.{data_code, members_code};
-    ghost use Rattle.row_table.specs.declared.row.Row.{Row};
-
-    ghost Value = { List Row };
-
-    ghost coded = { Prim.hlevel (codes, data_code, members_code) };
-
-    ghost view = { λ s. s.rows.items };
-}
-
-impl<'a> Seen<'a> {
-    /// The rows of the opening state, as they stand there.
-    pub(crate) fn of(alloc: Global, rows: &'a [Row]) -> Result<Seen<'a>, AllocError>
-        ensures { IfOk result (λ seen. seen ≡ rows.now) }
-    {
-        let mut seen = Seen {
-            rows: Table::new(alloc),
+        let Some(more) = log.len().checked_add(2) else {
+            return Err(AllocError);
         };
-        for row in rows {
-            seen.add(row)?;
+        self.rows.reserve(more)?;
+        self.stacks.reserve(more)?;
+        log.reserve()
+    }
+
+    /// Sees a row.
+    pub(crate) fn put_row(&mut self, log: &mut Log, row: SeenRow)
+        requires room { HasRoom log.old self.old }
+        ensures seen { shown self.new
+            ≡ with_rows (shown self.old) (put nat_cmp row_key row self.old.rows.items) }
+        ensures undone { unwound log.new.items (shown self.new)
+            ≡ unwound log.old.items (shown self.old) }
+        ensures back { CanUnwind log.new self.new }
+    {
+        let no = row.no;
+        let before = self.rows.put(row);
+        log.push(Was::Row(no, before));
+    }
+
+    /// Sees that a row is gone.
+    pub(crate) fn cut_row(&mut self, log: &mut Log, no: RowNo)
+        requires room { HasRoom log.old self.old }
+        ensures seen { shown self.new
+            ≡ with_rows (shown self.old) (cut nat_cmp row_key no self.old.rows.items) }
+        ensures undone { unwound log.new.items (shown self.new)
+            ≡ unwound log.old.items (shown self.old) }
+        ensures back { CanUnwind log.new self.new }
+    {
+        let before = self.rows.cut(&no);
+        log.push(Was::Row(no, before));
+    }
+
+    /// Sees a stack, whose name is given once more.
+    pub(crate) fn put_stack(&mut self, log: &mut Log, name: StackName, stack: SeenStack)
+        requires room { HasRoom log.old self.old }
+        requires name { name ≡ stack.name }
+        ensures seen { shown self.new ≡ with_stacks (shown self.old)
+            (put (slice_cmp nat_cmp) stack_key stack self.old.stacks.items) }
+        ensures undone { unwound log.new.items (shown self.new)
+            ≡ unwound log.old.items (shown self.old) }
+        ensures back { CanUnwind log.new self.new }
+    {
+        let before = self.stacks.put(stack);
+        log.push(Was::Stack(name, before));
+    }
+
+    /// Sees that a stack is gone.
+    pub(crate) fn cut_stack(&mut self, log: &mut Log, name: StackName)
+        requires room { HasRoom log.old self.old }
+        ensures seen { shown self.new ≡ with_stacks (shown self.old)
+            (cut (slice_cmp nat_cmp) stack_key name self.old.stacks.items) }
+        ensures undone { unwound log.new.items (shown self.new)
+            ≡ unwound log.old.items (shown self.old) }
+        ensures back { CanUnwind log.new self.new }
+    {
+        let before = self.stacks.cut(&name);
+        log.push(Was::Stack(name, before));
+    }
+
+    /// Takes all back that was written.
+    pub(crate) fn unwind(&mut self, mut log: Log)
+        requires back { CanUnwind log self.old }
+        ensures { shown self.new ≡ unwound log.items (shown self.old) }
+    {
+        while let Some(was) = log.pop() {
+            self.undo(was);
         }
-        Ok(seen)
     }
 
-    // Puts a row behind all others.
-    fn add(&mut self, row: &'a Row) -> Result<(), AllocError>
-        ensures { OnOk result (self.new ≡ self.old ++ row.now ∷ []) }
+    // Puts back what stood there before.
+    fn undo(&mut self, was: Was)
+        requires rows { 1 ≤ self.old.rows.spare }
+        requires stacks { 1 ≤ self.old.stacks.spare }
+        ensures seen { shown self.new ≡ undone was (shown self.old) }
+        ensures rows { self.old.rows.spare ≤ self.new.rows.spare + 1 }
+        ensures stacks { self.old.stacks.spare ≤ self.new.stacks.spare + 1 }
     {
-        self.rows.reserve(1)?;
-        let last = self.rows.as_slice().len();
-        self.rows.insert(last, ShownRow::of(row));
-        Ok(())
-    }
-
-    /// The row of this number, if one is seen.
-    pub(crate) fn row(&self, no: &RowNo) -> Option<&Row>
-        ensures { option_map (λ r. r.now) result ≡ row_at self.now no.now }
-    {
-        match self.rows.get(no) {
-            Some(shown) => Some(shown.row()),
-            None => None,
+        match was {
+            Was::Row(no, before) => restore_row(&mut self.rows, no, before),
+            Was::Stack(name, before) => restore_stack(&mut self.stacks, name, before),
         }
-    }
-
-    /// All rows that are seen.
-    pub(crate) fn rows(&self) -> &[ShownRow<'a>]
-        ensures { result.now ≡ self.now }
-    {
-        self.rows.as_slice()
-    }
-
-    fn put(&mut self, row: &'a Row) -> Result<(), AllocError>
-        ensures { OnOk result (self.new ≡ put_row row.now self.old) }
-    {
-        self.rows.reserve(1)?;
-        self.rows.put(ShownRow::of(row));
-        Ok(())
-    }
-
-    /// Sees a write.
-    pub(crate) fn write(&mut self, write: &'a RowWrite) -> Result<(), AllocError>
-        ensures { OnOk result (self.new ≡ after_write self.old write.now) }
-    {
-        match write {
-            RowWrite::Set(row) => self.put(row),
-            RowWrite::Purge(no) => {
-                self.rows.cut(no);
-                Ok(())
-            }
-        }
-    }
-
-    /// Sees an entry.
-    pub(crate) fn entry(&mut self, what: &'a What) -> Result<(), AllocError>
-        ensures { OnOk result (self.new ≡ after_what self.old what.now) }
-    {
-        for write in writes_of(what) {
-            self.write(write)?;
-        }
-        Ok(())
     }
 }
 
-/// The rows that an entry writes.
-pub(crate) fn writes_of(what: &What) -> &[RowWrite]
-    ensures { result.now ≡ writes_of what.now }
+// Puts back what a number had before.
+fn restore_row(rows: &mut SortedList<SeenRow>, no: RowNo, before: Option<SeenRow>)
+    requires { 1 ≤ rows.old.spare }
+    ensures items { rows.new.items ≡ restored nat_cmp row_key no before rows.old.items }
+    ensures room { rows.old.spare ≤ rows.new.spare + 1 }
 {
-    match what {
-        What::Rows { writes } => writes.as_slice(),
-        _ => &[],
+    match before {
+        Some(row) => {
+            let _ = rows.put(row);
+        }
+        None => {
+            let _ = rows.cut(&no);
+        }
     }
+}
+
+// Puts back what a name had before.
+fn restore_stack(stacks: &mut SortedList<SeenStack>, name: StackName, before: Option<SeenStack>)
+    requires { 1 ≤ stacks.old.spare }
+    ensures items { stacks.new.items ≡ restored (slice_cmp nat_cmp) stack_key name before stacks.old.items }
+    ensures room { stacks.old.spare ≤ stacks.new.spare + 1 }
+{
+    match before {
+        Some(stack) => {
+            let _ = stacks.put(stack);
+        }
+        None => {
+            let _ = stacks.cut(&name);
+        }
+    }
+}
+
+// Rows in brief, by their numbers.
+fn rows_of(alloc: Global, rows: &[Row]) -> Result<SortedList<SeenRow>, AllocError>
+    ensures { IfOk result (λ list. list.items ≡ rows_seen [] rows.now) }
+{
+    let mut list = SortedList::new(alloc);
+    for row in rows {
+        list.reserve(1)?;
+        let _ = list.put(SeenRow::of(row)?);
+    }
+    Ok(list)
+}
+
+// Stacks in brief, by their names.
+fn stacks_of(alloc: Global, stacks: &[Stack]) -> Result<SortedList<SeenStack>, AllocError>
+    ensures { IfOk result (λ list. list.items ≡ stacks_seen [] stacks.now) }
+{
+    let mut list = SortedList::new(alloc);
+    for stack in stacks {
+        list.reserve(1)?;
+        let _ = list.put(SeenStack::of(stack)?);
+    }
+    Ok(list)
 }

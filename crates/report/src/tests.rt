@@ -1,5 +1,5 @@
 //! One of each line, and what the entries from a place on add.
-use crate::lines_of;
+use crate::{Reporter, lines_of};
 use core_state::{
     Actor, Cause, Change, EngineChange, Entry, Row, RowWrite, ShowWhat, State, What, Why,
 };
@@ -53,7 +53,7 @@ fn path(rt: &(impl Abort + AllocGlobal)) -> Path {
     path
 }
 
-/// A row of the stack `s` and the name `a`.
+// A row of the stack `s` and the name `a`.
 fn row(rt: &(impl Abort + AllocGlobal), no: u64, act: Act, status: Status) -> Row {
     Row {
         no: row_no(rt, no),
@@ -75,7 +75,7 @@ fn row(rt: &(impl Abort + AllocGlobal), no: u64, act: Act, status: Status) -> Ro
     }
 }
 
-/// The same, ready and in the middle of a chain.
+// The same, ready and in the middle of a chain.
 fn ready_row(rt: &(impl Abort + AllocGlobal), no: u64) -> Row {
     let mut ready = row(rt, no, Act::Update, Status::Failed);
     ready.facts = Some(Facts {
@@ -149,7 +149,7 @@ fn shows(rt: &(impl Abort + AllocGlobal), what: ShowWhat) -> What {
     }
 }
 
-/// The history with this behind adds this text.
+// The history with this behind adds this text.
 fn adds(rt: &(impl Abort + AllocGlobal), all: &mut Vec<Entry>, what: What, wanted: &str) {
     let from = all.len();
     let by = Actor::Main;
@@ -161,11 +161,26 @@ fn adds(rt: &(impl Abort + AllocGlobal), all: &mut Vec<Entry>, what: What, wante
 #[test]
 fn stacks_are_told(rt: HostRuntime) {
     let mut all = Vec::new(rt.alloc());
+    let status = ShowWhat::Status;
+    adds(&rt, &mut all, shows(&rt, status), "");
     adds(&rt, &mut all, begins(&rt), "stack s 1 CREATE_IN_PROGRESS\n");
+    adds(
+        &rt,
+        &mut all,
+        shows(&rt, status),
+        "stack s 1 CREATE_IN_PROGRESS\n",
+    );
     let done = completes(&rt, Act::Delete);
     adds(&rt, &mut all, done, "stack s 2 DELETE_COMPLETE\n");
+    adds(&rt, &mut all, shows(&rt, status), "");
     let back = completes(&rt, Act::Rollback);
     adds(&rt, &mut all, back, "stack s 2 ROLLBACK_COMPLETE\n");
+    adds(
+        &rt,
+        &mut all,
+        shows(&rt, status),
+        "stack s 2 ROLLBACK_COMPLETE\n",
+    );
     let quota = fails(&rt, Act::Create, Why::Quota);
     adds(
         &rt,
@@ -237,7 +252,7 @@ fn rows_are_told_where_they_change(rt: HostRuntime) {
     adds(&rt, &mut all, purges(&rt, 1), "");
 }
 
-/// The token of row 1 is released.
+// The token of row 1 is released.
 fn releases(rt: &(impl Abort + AllocGlobal)) -> What {
     let token = Token {
         stack: stack(rt),
@@ -309,4 +324,37 @@ fn rows_of_the_opening_state_are_seen(rt: HostRuntime) {
     all.push(Entry { by, what }).expect(&rt, "memory");
     let found = lines_of(rt.alloc(), &opening, &all, 0).expect(&rt, "memory");
     assert_eq!(rt; found.as_str(), "");
+}
+
+// A history of two rows, listed, with one of them gone.
+fn two_rows(rt: &(impl Abort + AllocGlobal)) -> Vec<Entry> {
+    let mut all = Vec::new(rt.alloc());
+    let first = row(rt, 1, Act::Create, Status::Complete);
+    let second = row(rt, 2, Act::Create, Status::Failed);
+    let whats = [
+        begins(rt),
+        sets(rt, second),
+        sets(rt, first),
+        shows(rt, ShowWhat::Resources),
+        purges(rt, 2),
+        completes(rt, Act::Create),
+        shows(rt, ShowWhat::Status),
+    ];
+    for what in whats {
+        let by = Actor::Main;
+        all.push(Entry { by, what }).expect(rt, "memory");
+    }
+    all
+}
+
+#[test]
+fn entries_one_by_one_are_told_as_together(rt: HostRuntime) {
+    let opening = State::new(rt.alloc());
+    let all = two_rows(&rt);
+    let mut reporter = Reporter::new(rt.alloc(), &opening).expect(&rt, "memory");
+    for from in 0..all.len() {
+        let told = reporter.add(&all[from..from + 1]).expect(&rt, "memory");
+        let plain = lines_of(rt.alloc(), &opening, &all[..from + 1], from).expect(&rt, "memory");
+        assert_eq!(rt; told.as_str(), plain.as_str(), "entry {from}");
+    }
 }

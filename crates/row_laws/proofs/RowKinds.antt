@@ -7,20 +7,51 @@ use Rattle.heat_plan.specs.declared.item.Item.{Item}
 use Rattle.heat_plan.specs.declared.phase.Act.TheVariants.{Create, Delete, Init, Update}
 use Rattle.heat_plan.specs.declared.phase.Status.TheVariants.{Complete, Failed, InProgress}
 use Rattle.row_table.specs.declared.row.Row.{Row}
-use Rattle.step_relation.specs.Rows.{created_row, deleted_row, failed_row, locked, new_row, ready_row, replaced, replacement, same_row, unlocked, updated_row}
+use Rattle.step_relation.specs.Rows.{created_row, deleted_row, failed_row, locked, new_row, ready_row, replaced}
+use Rattle.step_relation.specs.Rows.{replacement, same_row, unlocked, updated_row}
 use Rattle.soundness.specs.RowsFit.{RowFits}
 
 pub locked_fits : (e : ℕ) (r : Row) → RowFits r → RowFits (locked e r)
-locked_fits e r h = record { acts = h.acts; init = h.init; plain = h.plain; updating = h.updating; ready = h.ready; leaving = h.leaving }
+locked_fits e r h = record {
+  acts = h.acts;
+  init = h.init;
+  plain = h.plain;
+  updating = h.updating;
+  ready = h.ready;
+  leaving = h.leaving;
+}
 
 pub unlocked_fits : (r : Row) → RowFits r → RowFits (unlocked r)
-unlocked_fits r h = record { acts = h.acts; init = h.init; plain = h.plain; updating = h.updating; ready = h.ready; leaving = h.leaving }
+unlocked_fits r h = record {
+  acts = h.acts;
+  init = h.init;
+  plain = h.plain;
+  updating = h.updating;
+  ready = h.ready;
+  leaving = h.leaving;
+}
 
 pub replaced_fits : (n : ℕ) (r : Row) → RowFits r → RowFits (replaced n r)
-replaced_fits n r h = record { acts = h.acts; init = h.init; plain = h.plain; updating = h.updating; ready = h.ready; leaving = h.leaving }
+replaced_fits n r h = record {
+  acts = h.acts;
+  init = h.init;
+  plain = h.plain;
+  updating = h.updating;
+  ready = h.ready;
+  leaving = h.leaving;
+}
 
-pub same_fits : (r : Row) (item : Item) (trav : ℕ) (required : List ℕ) → RowFits r → RowFits (same_row r item trav required)
-same_fits r item trav required h = record { acts = h.acts; init = h.init; plain = h.plain; updating = h.updating; ready = h.ready; leaving = h.leaving }
+pub same_fits : (r : Row) (item : Item) (trav : ℕ) (required : List ℕ) → RowFits r
+    → RowFits (same_row r item trav required)
+same_fits r item trav required h =
+    record {
+      acts = h.acts;
+      init = h.init;
+      plain = h.plain;
+      updating = h.updating;
+      ready = h.ready;
+      leaving = h.leaving;
+    }
 
 pub created_fits : (r : Row) (item : Item) (trav : ℕ) (props : Members) (required : List ℕ) → RowFits r → r.act ≡ Init
     → RowFits (created_row r item trav props required)
@@ -48,7 +79,8 @@ updated_fits r item trav props required = record {
   plain (inr (inl e)) = cc
   plain (inr (inr e)) = cc
 
-pub replacement_fits : (number e trav : ℕ) (stack : List ℕ) (item : Item) (props : Members) (required : List ℕ) (r : Row)
+pub replacement_fits : (number e trav : ℕ) (stack : List ℕ) (item : Item) (props : Members)
+    (required : List ℕ) (r : Row)
     → RowFits (replacement number e trav stack item props required r)
 replacement_fits number e trav stack item props required r = record {
   acts = λ e. cc;

@@ -78,7 +78,8 @@ module _ (P : Row → Type 0) where
   fine_points [] = tt
   fine_points (p ∷ ps) = (tt, fine_points ps)
 
-  pub fine_drawn : (next : Numbers) (ls : List Letter) (cs : List Change) → AreFine P cs → AreFine P (draw_letters next ls cs)
+  pub fine_drawn : (next : Numbers) (ls : List Letter) (cs : List Change) → AreFine P cs
+      → AreFine P (draw_letters next ls cs)
   fine_drawn next [] cs fine = fine
   fine_drawn next (l ∷ ls) cs fine = (tt, fine)
 

@@ -12,21 +12,37 @@ use std::alloc::AllocError;
 /// unlocks and stays below 2^62.
 #[derive(Debug, Drop)]
 pub struct Row {
+    /// Its number, drawn once and never again.
     pub no: RowNo,
+    /// The stack that it belongs to.
     pub stack: StackName,
+    /// The resource of the template that it stands for.
     pub name: ResName,
+    /// The kind of the resource.
     pub kind: Kind,
+    /// What was last begun at it.
     pub act: Act,
+    /// How far that is.
     pub status: Status,
+    /// The traversal that last began something at it.
     pub trav: TravNo,
+    /// The properties that it has, or that its create asks for.
     pub props: Properties,
+    /// The properties that an update asks for, until it is done.
     pub target: Option<Properties>,
+    /// What the cloud told when it was ready.
     pub facts: Option<Facts>,
+    /// The rows whose facts it was given.
     pub requires_: Seq<RowNo>,
+    /// The row before it in its chain of replacement.
     pub replaces: Option<RowNo>,
+    /// The row behind it in that chain.
     pub replaced_by: Option<RowNo>,
+    /// The engine whose job has it; none where it is free.
     pub engine: Option<EngineNo>,
+    /// How often it was locked and unlocked; below 2^62.
     pub key: u64,
+    /// What is done where its resource is to go: deleted, or kept and released.
     pub policy: Policy,
 }
 

@@ -2,11 +2,6 @@ pub mod WordLemmas
 pub mod ReadingLemmas
 pub mod VersionLemmas
 pub mod ShapeLemmas
-pub mod ItemLemmas
-pub mod PlanLemmas
-pub mod BodyLemmas
-pub mod LineLemmas
-pub mod MeaningLemmas
 pub mod Alone
 pub mod BodyParts
 pub mod OneBody

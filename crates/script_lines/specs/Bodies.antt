@@ -1,16 +1,9 @@
--- The body of a create: the JSON of one template, whose resources are boxes.
+-- Templates that have a version and resources alone; boxes, and the plan of items alone.
 use Rattle.std.specs.Prelude.{◌≡◌, ◌⊎◌, ◌≤◌, ℕ, List, [], ◌∷◌, length, codes, Contains, ⊤}
 use Rattle.heat_value.specs.Data.{Data, null, flag, whole, words, items, fields, Members, no_members, member, keys_of}
-use Rattle.heat_value.specs.Reading.{IsReadAs}
-use Rattle.heat_plan.specs.Names.{IsResName}
 use Rattle.heat_plan.specs.Plans.{PlanData}
 use Rattle.heat_plan.specs.declared.kind.Kind.{Kind}
 use Rattle.heat_plan.specs.declared.item.Item.{Item}
-use Rattle.heat_plan.specs.declared.item.Policy.TheVariants.{Delete}
-
--- the map of one key
-abbrev pub one : List ℕ → Data → Members
-one k d = member k d no_members
 
 -- the map of two keys, of which the first is the lesser
 abbrev pub two : List ℕ → Data → List ℕ → Data → Members
@@ -32,10 +25,6 @@ pub record IsVersion (d : Data) : Type 0 where
 -- how many resources a body may have
 abbrev pub most_resources : ℕ
 most_resources = 1000
-
--- a body's value: an object with the one key `template`, an object
-abbrev pub body_of : Members → Data
-body_of template = fields (one (codes "template") (fields template))
 
 -- a template has just a version and resources, not too many of them
 pub record HasResources (template resources : Members) : Type 0 where
@@ -73,45 +62,6 @@ abbrev pub ArePlain : Members → Type 0
 ArePlain no_members = ⊤
 ArePlain (member k d ms) = IsProperty k × IsScalar d × ArePlain ms
 
--- the object of a box with these properties
-abbrev pub boxed : Members → Members
-boxed props = two (codes "properties") (fields props) (codes "type") (words box_name)
-
--- a resource's object has the one type, and gives no properties or these
-pub data GivesProperties (resource props : Members) : Type 0 where
-  bare : resource ≡ one (codes "type") (words box_name) → props ≡ no_members → GivesProperties resource props
-  full : resource ≡ boxed props → ArePlain props → GivesProperties resource props
-
--- the item of a box: it needs nothing, and is deleted when no plan names it
-abbrev pub box_item : List ℕ → Members → Item
-box_item name props = record { name = name; kind = box_kind; props = props; needs = []; policy = Delete }
-
--- a resource under its name, and its item
-pub record IsItem (name : List ℕ) (d : Data) (item : Item) : Type 0 where
-  pub resource : Members
-  pub props : Members
-  pub named : IsResName name
-  pub shape : d ≡ fields resource
-  pub given : GivesProperties resource props
-  pub made : item ≡ box_item name props
-
--- resources and their items, one by one
-abbrev pub AreItems : Members → List Item → Type 0
-AreItems no_members [] = ⊤
-AreItems no_members (i ∷ is) = ⊥
-AreItems (member k d ms) [] = ⊥
-AreItems (member k d ms) (i ∷ is) = IsItem k d i × AreItems ms is
-
 -- the plan of items alone
 abbrev pub plan_of : List Item → PlanData
 plan_of all = record { items = all; outputs = []; params = no_members; conds = []; files = []; absent = [] }
-
--- the bytes are a body, and the plan is what it asks for
-pub record IsBody (bytes : List ℕ) (plan : PlanData) : Type 0 where
-  pub template : Members
-  pub resources : Members
-  pub all : List Item
-  pub reading : IsReadAs bytes (body_of template)
-  pub shape : HasResources template resources
-  pub boxes : AreItems resources all
-  pub made : plan ≡ plan_of all

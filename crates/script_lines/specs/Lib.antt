@@ -1,7 +1,5 @@
 pub mod Words
 pub mod Bodies
-pub mod Lines
-pub mod Faults
 pub mod Misreads
 pub mod Heads
 pub mod Behind

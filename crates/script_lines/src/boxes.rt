@@ -3,7 +3,7 @@ ghost use Rattle.std.specs.Prelude.{◌≡◌, ◌↔◌, IsTrue};
 ghost use Rattle.heat_value.specs.Meaning.{data_of};
 ghost use Rattle.script_lines.specs.Plain.{part_of as the_part_of, AreTextNodes, NamesItems, HoldsPlain, IsOfPart, IsTaken, AreParts, GivesType, IsBox};
 
-use crate::resources::are_plain;
+use crate::properties::are_plain;
 use crate::shapes::is_text;
 use crate::sort::is_words;
 use heat_value::{Items, Member, Props, Value};

@@ -7,9 +7,9 @@ ghost use Rattle.script_lines.specs.Bodies.{HasResources};
 ghost use Rattle.script_lines.specs.Plain.{AreBoxes, IsPlain};
 
 use crate::Body;
-use crate::body::resources_of;
 use crate::boxes::is_box;
 use crate::shapes::fields_of;
+use crate::template::resources_of;
 use heat_plan::ResName;
 use heat_value::{Props, Value};
 use std::alloc::{AllocError, Global};

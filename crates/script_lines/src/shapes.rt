@@ -1,8 +1,8 @@
-//! The shapes of values: maps with just these keys, texts.
+//! The shapes of values: maps with just two keys, texts.
 ghost use Rattle.std.specs.Prelude.{◌≡◌, ◌≢◌, ◌↔◌, IsTrue, MatchOption};
 ghost use Rattle.heat_value.specs.Data.{Data, Members, fields, words};
 ghost use Rattle.heat_value.specs.Meaning.{data_of};
-ghost use Rattle.script_lines.specs.Bodies.{one, two};
+ghost use Rattle.script_lines.specs.Bodies.{two};
 
 use heat_value::{Member, Props, Value};
 
@@ -27,22 +27,6 @@ pub fn is_text(value: &Value, text: &str) -> bool
             false
         }
     }
-}
-
-/// What stands under a key that is a map's only one.
-pub fn only<'a>(map: &'a Props, key: &str) -> Option<&'a Value>
-    ensures { MatchOption result ((d : Data) → map.now ≢ one key.now d)
-        (λ v. map.now ≡ one key.now (data_of v.now)) }
-{
-    let members = map.as_slice();
-    if members.len() != 1 {
-        return None;
-    }
-    let member = &members[0];
-    if !is_under(member, key) {
-        return None;
-    }
-    Some(&member.value)
 }
 
 /// What stands under two keys that are a map's only ones, of which the first is the lesser.

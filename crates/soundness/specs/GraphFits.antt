@@ -1,5 +1,6 @@
 -- A stack's graph is that of its plan and its rows.
-use Rattle.std.specs.Prelude.{AllPairs, Contains, List, None, Option, Some, [], length, slice_get, ℕ, ◌<◌, ◌≡◌, ◌≢◌, ◌⊎◌}
+use Rattle.std.specs.Prelude.{AllPairs, Contains, List, None, Option, Some, [], length, slice_get, ℕ, ◌<◌, ◌≡◌, ◌≢◌}
+use Rattle.std.specs.Prelude.{◌⊎◌}
 use Rattle.heat_plan.specs.Plans.{names_of}
 use Rattle.heat_plan.specs.declared.item.Item.{Item}
 use Rattle.heat_plan.specs.declared.phase.Act.TheVariants.{Delete, Init}
@@ -74,11 +75,12 @@ pub record EdgesFit (s : StateData) (st : Stack) (g : Graph) : Type 0 where
       → (need : List ℕ) × (m : ℕ) × IsNode g i (U need m) × Needs st name need
   pub behind : (i k n : ℕ) (r : Row) → IsNode g i (U r.name n) → Sweeps s g k r → Joins g.graph.edges i k
 
--- a target is its name's current row in the stack; where the chosen row stands it is this one, or took its place in this traversal
+-- a target is its name's current row; where the chosen row stands it is this one, or took its place in this traversal
 pub record TargetFits (s : StateData) (st : Stack) (name : List ℕ) (chosen : ℕ) (r : Row) : Type 0 where
   pub to : IsTarget s.rows st.name (U name chosen) r.no
   pub is : IsCurrentOf s.rows st.name name r
-  pub from : (q : Row) → row_at s.rows chosen ≡ Some q → (chosen ≡ r.no) ⊎ ((q.replaced_by ≡ Some r.no) × (r.trav ≡ st.trav))
+  pub from : (q : Row) → row_at s.rows chosen ≡ Some q
+      → (chosen ≡ r.no) ⊎ ((q.replaced_by ≡ Some r.no) × (r.trav ≡ st.trav))
   pub kept : r.act ≢ Delete
 
 -- the rows: each target is current, and each row has a node

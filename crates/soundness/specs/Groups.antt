@@ -35,12 +35,14 @@ pub data IsOrdered (s : StateData) : List ℕ → List Item → Sets → Type 0 
   updates : (st : Stack) (plan : PlanData) (rollback : Bool) → stack_at s.stacks st.name ≡ Some st → st.act ≢ Delete
       → IsPlan plan.items plan.absent → IsOrdered s st.name plan.items (update_sets s st plan rollback)
   deletes : (st : Stack) → stack_at s.stacks st.name ≡ Some st → IsOrdered s st.name [] (delete_sets s st)
-  rolls_back : (st : Stack) (actor : Actor) → stack_at s.stacks st.name ≡ Some st → IsForward st.act → st.status ≢ Complete
+  rolls_back : (st : Stack) (actor : Actor) → stack_at s.stacks st.name ≡ Some st → IsForward st.act
+      → st.status ≢ Complete
       → IsOrdered s st.name (plan_back s st).items (rollback_sets s st actor)
 
 -- each move from a standing state leaves it so
 abbrev pub KeptByMoves : (StateData → Type 0) → Type 0
-KeptByMoves P = (judges : Judges) (s : StateData) (e : ℕ) (given : Given) (failed : Option Stack) (cs : List Change) (es : List Entry)
+KeptByMoves P = (judges : Judges) (s : StateData) (e : ℕ) (given : Given) (failed : Option Stack) (cs : List Change)
+    (es : List Entry)
     → Standing s → Move s e given failed cs es → IsTied judges s e given → P (applied cs s)
 
 -- each command does
@@ -57,12 +59,14 @@ pub record KeptByEngines (P : StateData → Type 0) : Type 0 where
 
 -- the same of a state with its history
 abbrev pub ToldByMoves : (Opening → List Entry → StateData → Type 0) → Type 0
-ToldByMoves P = (judges : Judges) (o : Opening) (h : List Entry) (s : StateData) (e : ℕ) (given : Given) (failed : Option Stack)
+ToldByMoves P = (judges : Judges) (o : Opening) (h : List Entry) (s : StateData) (e : ℕ) (given : Given)
+    (failed : Option Stack)
     (cs : List Change) (es : List Entry) → Sound o h s → Move s e given failed cs es → IsTied judges s e given
     → IsPossible o (h ++ es) → P o (h ++ es) (applied cs s)
 
 abbrev pub ToldByCommands : (Opening → List Entry → StateData → Type 0) → Type 0
-ToldByCommands P = (o : Opening) (h : List Entry) (s : StateData) (name : List ℕ) (items : List Item) (it : Sets) (k : Lays s name items)
+ToldByCommands P = (o : Opening) (h : List Entry) (s : StateData) (name : List ℕ) (items : List Item) (it : Sets)
+    (k : Lays s name items)
     → Sound o h s → IsOrdered s name items it
     → P o (h ++ laid_entries s name items it k) (applied (laid_changes s name items it k) s)
 
@@ -79,8 +83,10 @@ pub record IsQuietTo (s t : StateData) : Type 0 where
 
 -- the call of a move alone, behind which nothing was stored
 pub record ToldByOthers (P : Opening → List Entry → StateData → Type 0) : Type 0 where
-  pub unstored : (o : Opening) (h : List Entry) (s : StateData) (e : ℕ) (given : Answered) (failed : Option Stack) (cs : List Change)
+  pub unstored : (o : Opening) (h : List Entry) (s : StateData) (e : ℕ) (given : Answered) (failed : Option Stack)
+      (cs : List Change)
       (es : List Entry) (call : Entry) → Sound o h s → Move s e (Answer given) failed cs es → BeginsWithCall es call
       → IsPossible o (h ++ call ∷ []) → P o (h ++ call ∷ []) s
-  pub quiet : (o : Opening) (h : List Entry) (s t : StateData) (it : What) → Sound o h s → IsQuietEntry it → IsQuietTo s t
+  pub quiet : (o : Opening) (h : List Entry) (s t : StateData) (it : What) → Sound o h s → IsQuietEntry it
+      → IsQuietTo s t
       → P o (h ++ entry_of Main it ∷ []) t

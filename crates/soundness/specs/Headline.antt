@@ -1,5 +1,6 @@
 -- The main theorem: marked Complete is only what fits, every alive resource is named, and what has no mark still stirs.
-use Rattle.std.specs.Prelude.{All, Bool, Contains, IsSome, List, None, Option, Some, [], false, length, slice_get, take, true, ℕ, ◌++◌, ◌+◌, ◌∷◌, ◌≡◌, ◌≢◌, ◌≤◌}
+use Rattle.std.specs.Prelude.{All, Bool, Contains, IsSome, List, None, Option, Some, [], false, length, slice_get, take}
+use Rattle.std.specs.Prelude.{true, ℕ, ◌++◌, ◌+◌, ◌∷◌, ◌≡◌, ◌≢◌, ◌≤◌}
 use Rattle.heat_value.specs.Data.{Members}
 use Rattle.heat_plan.specs.Plans.{PlanData}
 use Rattle.heat_plan.specs.declared.calls.Answered.{Answered}
@@ -59,7 +60,7 @@ pub record IsOfNewest (o : Opening) (before : List Entry) (stack : List ℕ) (tr
   pub same_act : it.act ≡ act
   pub unmarked : mark_of o before stack ≡ Some Unmarked
 
--- what is asked only of a token that may be asked it: an update and a poll of one that is alive, and whether it is gone of one that is gone or going
+-- a token is asked only what it may be: an update and a poll if it is alive; whether it is gone if it is gone or going
 pub data MayBeAsked (states : List TokenState) : Request → Type 0 where
   create : (kind : List ℕ) (props : Members) → MayBeAsked states (request.Create kind props)
   update : (props : Members) → All IsSome states → MayBeAsked states (request.Update props)
@@ -118,10 +119,13 @@ pub record FollowedBy (o : Opening) (before : List Entry) (e next : Entry) : Typ
 
 -- a failure is rolled back where it was asked for: the command stands behind the mark
 abbrev pub IsRolledBack : Opening → List Entry → List Entry → Type 0
-IsRolledBack o before after = (actor : Actor) (stack : List ℕ) (trav : ℕ) (act : Act) (cause : Cause) (back : PlanData) (rest : List Entry)
-    → after ≡ entry_of actor (what.Mark stack trav act (Some cause)) ∷ rest → IsForward act → rollback_of o before stack ≡ true
+IsRolledBack o before after = (actor : Actor) (stack : List ℕ) (trav : ℕ) (act : Act) (cause : Cause) (back : PlanData)
+    (rest : List Entry)
+    → after ≡ entry_of actor (what.Mark stack trav act (Some cause)) ∷ rest → IsForward act
+    → rollback_of o before stack ≡ true
     → IsLast o before stack back → length (stored o before) + length back.items ≤ row_limit
-    → (next : ℕ) × (more : List Entry) × (rest ≡ entry_of actor (what.Command stack next Rollback (Some back) false) ∷ more)
+    → (next : ℕ) × (more : List Entry)
+    × (rest ≡ entry_of actor (what.Command stack next Rollback (Some back) false) ∷ more)
 
 -- no letter waits, and no engine has a job
 pub record IsIdleBook (s : StateData) : Type 0 where
@@ -138,7 +142,8 @@ pub data IsSettledAs (o : Opening) (h : List Entry) (st : Stack) : Type 0 where
 pub record Headline (registries : List Judges) (o : Opening) (h : List Entry) (s : StateData) : Type 0 where
   pub prefixes : (n : ℕ) → n ≤ length h → AtPrefix o (take n h)
   pub entries : (n : ℕ) (e : Entry) → slice_get h n ≡ Some e → FitsIn o (take n h) e
-  pub pairs : (n : ℕ) (e next : Entry) → slice_get h n ≡ Some e → slice_get h (n + 1) ≡ Some next → FollowedBy o (take n h) e next
+  pub pairs : (n : ℕ) (e next : Entry) → slice_get h n ≡ Some e → slice_get h (n + 1) ≡ Some next
+      → FollowedBy o (take n h) e next
   pub rolled_back : (before after : List Entry) → h ≡ before ++ after → IsRolledBack o before after
   -- a stack without a mark stirs, now and after every step that led here
   pub stirs : EachStirs s

@@ -26,12 +26,14 @@ SoundOpeningsStaySound = (registries : List Judges) (o : Opening) (s : StateData
 
 -- and has the main theorem
 abbrev pub SoundOpeningsHaveHeadline : Type 0
-SoundOpeningsHaveHeadline = (registries : List Judges) (o : Opening) (s : StateData) (h : List Entry) → Sound o [] o.state
+SoundOpeningsHaveHeadline = (registries : List Judges) (o : Opening) (s : StateData) (h : List Entry)
+    → Sound o [] o.state
     → Run registries o.state s h → IsPossible o h → Headline registries o h s
 
 -- an empty history over nothing is sound
 abbrev pub EmptyIsSound : Type 0
-EmptyIsSound = (engines : ℕ) (leaving : Token → Bool) → Sound (empty_opening engines leaving) [] (empty_opening engines leaving).state
+EmptyIsSound = (engines : ℕ) (leaving : Token → Bool)
+    → Sound (empty_opening engines leaving) [] (empty_opening engines leaving).state
 
 -- what an opening at this moment would begin with
 abbrev pub opening_at : StateData → Cloud → Opening

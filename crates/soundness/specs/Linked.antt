@@ -42,7 +42,8 @@ pub data IsOf (rows : List Row) (graphs : List Graph) (jobs : List Job) (n : ℕ
   by_row : (r : Row) → row_at rows n ≡ Some r → r.stack ≡ stack → IsOf rows graphs jobs n stack
   by_node : (g : Graph) (i : ℕ) (node : Node) → graph_at graphs stack ≡ Some g → slice_get g.graph.nodes i ≡ Some node
       → row_of node ≡ n → IsOf rows graphs jobs n stack
-  by_job : (e : ℕ) (j : Job) → job_at jobs e ≡ Some j → j.row ≡ n → j.letter.stack ≡ stack → IsOf rows graphs jobs n stack
+  by_job : (e : ℕ) (j : Job) → job_at jobs e ≡ Some j → j.row ≡ n → j.letter.stack ≡ stack
+      → IsOf rows graphs jobs n stack
 
 -- and at most one stack's
 pub record Owned (rows : List Row) (graphs : List Graph) (jobs : List Job) : Type 0 where

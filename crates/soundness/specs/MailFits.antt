@@ -83,7 +83,8 @@ pub record LetterStands (s : StateData) (l : Letter) (st : Stack) : Type 0 where
   pub ready : IsReady graph l.node
 
 pub record LettersFit (s : StateData) : Type 0 where
-  pub newest : (n : ℕ) (l : Letter) (st : Stack) → letter_at s.letters n ≡ Some l → IsNewest s l st → LetterStands s l st
+  pub newest : (n : ℕ) (l : Letter) (st : Stack) → letter_at s.letters n ≡ Some l → IsNewest s l st
+      → LetterStands s l st
 
 -- graphs and rows of every stack, jobs and letters
 pub record Shape (s : StateData) : Type 0 where

@@ -45,7 +45,8 @@ pub record MarksFit (s : StateData) : Type 0 where
 -- a failure is rolled back to a plan, and only of a traversal that goes forward
 pub record PastFits (s : StateData) (p : Past) : Type 0 where
   pub in_table : IsSome (stack_at s.stacks p.stack)
-  pub forward : (st : Stack) → stack_at s.stacks p.stack ≡ Some st → (st.act ≡ Delete) ⊎ (st.act ≡ Rollback) → p.rollback ≡ false
+  pub forward : (st : Stack) → stack_at s.stacks p.stack ≡ Some st → (st.act ≡ Delete) ⊎ (st.act ≡ Rollback)
+      → p.rollback ≡ false
   pub proper : IsPlan (plan_of p.back).items (plan_of p.back).absent
 
 pub record PastsFit (s : StateData) : Type 0 where

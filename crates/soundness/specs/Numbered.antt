@@ -1,5 +1,5 @@
--- Every number that stands anywhere is below the next one of its sort.
-use Rattle.std.specs.Prelude.{Contains, IsSome, List, Option, Some, slice_get, ℕ, ◌<◌, ◌≡◌}
+-- Every number that stands anywhere is below the next one of its sort, and no engine is live twice.
+use Rattle.std.specs.Prelude.{AllPairs, Contains, IsSome, List, Option, Some, slice_get, ℕ, ◌<◌, ◌≡◌, ◌≢◌}
 use Rattle.traversal_graph.specs.declared.shape.Node.{Node}
 use Rattle.traversal_graph.specs.declared.shape.Node.TheVariants.{C, U}
 use Rattle.row_table.specs.Rows.{row_at}
@@ -18,6 +18,10 @@ AllBelow next numbers = (n : ℕ) → Contains numbers n → n < next
 
 abbrev pub BelowIfThere : ℕ → Option ℕ → Type 0
 BelowIfThere next number = (n : ℕ) → number ≡ Some n → n < next
+
+-- no number stands twice
+abbrev pub EachOnce : List ℕ → Type 0
+EachOnce numbers = AllPairs (λ (a b : ℕ). a ≢ b) numbers
 
 pub record StackBelow (stack trav : ℕ) (st : Stack) : Type 0 where
   pub no_ : st.no < stack
@@ -55,5 +59,7 @@ pub record Numbered (s : StateData) : Type 0 where
   pub rows : (n : ℕ) (r : Row) → row_at s.rows n ≡ Some r → RowBelow s.next.row s.next.trav s.next.engine r
   pub graphs : (name : List ℕ) (g : Graph) → graph_at s.graphs name ≡ Some g → GraphBelow s.next.row g
   pub letters : (n : ℕ) (l : Letter) → letter_at s.letters n ≡ Some l → LetterBelow s.next.letter s.next.trav l
-  pub jobs : (e : ℕ) (j : Job) → job_at s.jobs e ≡ Some j → JobBelow s.next.engine s.next.row s.next.letter s.next.trav j
+  pub jobs : (e : ℕ) (j : Job) → job_at s.jobs e ≡ Some j
+      → JobBelow s.next.engine s.next.row s.next.letter s.next.trav j
   pub live : AllBelow s.next.engine s.live
+  pub once : EachOnce s.live

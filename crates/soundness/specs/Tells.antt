@@ -45,7 +45,8 @@ pub record TellsStack (o : Opening) (h : List Entry) (s : StateData) (st : Stack
 -- a name without a stack: nothing was commanded, or a delete that is complete
 pub data IsGone (o : Opening) (h : List Entry) (name : List ℕ) : Type 0 where
   never : newest o h name ≡ None → mark_of o h name ≡ None → IsGone o h name
-  deleted : (it : Latest) → newest o h name ≡ Some it → it.act ≡ Delete → it.plan ≡ None → mark_of o h name ≡ Some Completed
+  deleted : (it : Latest) → newest o h name ≡ Some it → it.act ≡ Delete → it.plan ≡ None
+      → mark_of o h name ≡ Some Completed
       → IsGone o h name
 
 -- an engine's job that asks or polls
@@ -71,6 +72,7 @@ IsCallFor t e = (request : Request) × (given : Answered) × (e.what ≡ what.Ca
 pub record ReleasedFits (o : Opening) (h : List Entry) (s : StateData) : Type 0 where
   pub below : (t : Token) → Contains s.released t → t.row < s.next.row
   pub rowless : (t : Token) (r : Row) → Contains s.released t → row_at s.rows t.row ≡ Some r → token_of r ≢ t
-  pub uncalled : (before after : List Entry) (t : Token) (e : Entry) → h ≡ before ++ after → Contains (released o before) t
+  pub uncalled : (before after : List Entry) (t : Token) (e : Entry) → h ≡ before ++ after
+      → Contains (released o before) t
       → Contains after e → ¬ IsCallFor t e
   pub kept : (n : ℕ) (r : Row) → row_at s.rows n ≡ Some r → r.act ≡ Delete → r.policy ≢ Retain

@@ -7,12 +7,13 @@ ghost use Rattle.step_relation.specs.Given.{Answer};
 ghost use Rattle.step_parts.specs.Turns.{IsTurn, IsTurnRefusal};
 ghost use Rattle.step_ends.specs.Answers.{AnswersAsk, CallLasts, IsAsking, IsBegun, IsCall, IsCallRefusal, IsFailing};
 
-use crate::calls::{asked_for, job_of, reason_of, row_of};
+use crate::calls::{asked_for, reason_of};
 use crate::falling::{Failure, fallen};
 use core_state::{Job, Made, Row, Stage, State};
 use heat_plan::{Answered, EngineNo, Refusal};
 use std::alloc::{AllocError, Global};
 use step_parts::{call_entry, onward_changes, onward_entries, with_first};
+use step_reads::{job_at, row_at};
 
 /// What follows from the answer to the engine's ask; refuses `Worn` under every answer alike, so that
 /// it can be told before anybody is asked.
@@ -22,8 +23,8 @@ pub fn asked(alloc: Global, s: &State, e: EngineNo, answer: &Answered) -> Result
     ensures made { IfOk result (IsTurn s.now.state e (Answer answer.now)) }
     ensures cause { IfErr result (IsTurnRefusal s.now.state e (Answer answer.now)) }
 {
-    let job = job_of(s, e);
-    let row = row_of(s, job);
+    let job = job_at(s, e);
+    let row = row_at(s, job);
     answered(alloc, s, e, job, row, answer)
 }
 

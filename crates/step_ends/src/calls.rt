@@ -1,31 +1,13 @@
-//! The job and the row of a call, and what is asked by it.
-ghost use Rattle.std.specs.Prelude.{◌≡◌, IfOk, IsSome, Some};
-ghost use Rattle.row_table.specs.Rows.{row_at};
-ghost use Rattle.mail_table.specs.Mails.{job_at};
+//! What is asked for a row, and why a traversal fails by an answer.
+ghost use Rattle.std.specs.Prelude.{IfOk};
 ghost use Rattle.step_relation.specs.Asks.{Asks, Polls};
 ghost use Rattle.step_ends.specs.Answers.{IsAsking, IsFailing, IsReason};
 
-use core_state::{Job, Row, State, Why};
-use heat_plan::{Act, Answered, EngineNo, Request};
+use core_state::{Row, Why};
+use heat_plan::{Act, Answered, Request};
 use heat_value::TryCopy;
 use std::alloc::AllocError;
 use step_parts::final_props;
-
-/// An engine's job.
-pub fn job_of<'a>(s: &'a State, e: EngineNo) -> &'a Job
-    requires { IsSome (job_at s.now.state.jobs e) }
-    ensures { job_at s.now.state.jobs e ≡ Some result.now }
-{
-    s.job(&e).unwrap()
-}
-
-/// A job's row.
-pub fn row_of<'a>(s: &'a State, job: &Job) -> &'a Row
-    requires { IsSome (row_at s.now.state.rows job.now.row) }
-    ensures { row_at s.now.state.rows job.now.row ≡ Some result.now }
-{
-    s.row(&job.row).unwrap()
-}
 
 /// What is asked for a row, by its act.
 pub fn asked_for(row: &Row) -> Result<Request, AllocError>

@@ -14,8 +14,8 @@ use crate::failing::{failed_changes, failed_entries};
 use crate::rolling::rolled_behind;
 use core_state::{Batch, Entry, Job, Letter, Made, Row, Stack, State, Why};
 use heat_plan::{EngineNo, Refusal, Status};
-use std::alloc::{AllocError, Global};
-use step_parts::{made_within, may_rise, with_first, with_last};
+use std::alloc::Global;
+use step_parts::{joined, made_within, may_rise, with_first};
 use step_reads::freshness;
 
 /// The call that failed, and why a traversal fails by it.
@@ -171,15 +171,4 @@ fn ended(
     let changes = failed_changes(alloc, s, e, row, letters, failed)?;
     let entries = failed_entries(alloc, e, row, letters, failed, why.reason)?;
     made_within(alloc, changes, with_first(alloc, why.call, entries)?)
-}
-
-// The one step, and then the other.
-fn joined(first: Made, last: Made) -> Result<Made, AllocError>
-    ensures changes { IfOk result (λ m. m.changes ≡ first.changes ++ last.changes) }
-    ensures entries { IfOk result (λ m. m.entries ≡ first.entries ++ last.entries) }
-{
-    Ok(Made {
-        changes: with_last(first.changes, last.changes)?,
-        entries: with_last(first.entries, last.entries)?,
-    })
 }

@@ -9,7 +9,7 @@ ghost use Rattle.step_relation.specs.Rows.{ready_row};
 ghost use Rattle.step_parts.specs.Turns.{IsTurn, IsTurnRefusal};
 ghost use Rattle.step_ends.specs.Answers.{AnswersPoll, CallLasts, IsCall, IsCallRefusal, IsFailing, IsTold};
 
-use crate::calls::{job_of, polled_by, reason_of, row_of};
+use crate::calls::{polled_by, reason_of};
 use crate::falling::{Failure, fallen};
 use core_state::{Batch, Change, Entry, Job, Made, Row, Stage, State};
 use heat_plan::{Answered, EngineNo, Facts, Refusal};
@@ -18,6 +18,7 @@ use step_parts::{
     begun_changes, begun_entries, call_entry, one, purged_changes, purged_entries, ready_row,
     with_last,
 };
+use step_reads::{job_at, row_at};
 
 /// What follows from the answer to the engine's poll; refuses `Worn` under every answer alike, so that it
 /// can be told before anybody is asked.
@@ -27,8 +28,8 @@ pub fn polled(alloc: Global, s: &State, e: EngineNo, answer: &Answered) -> Resul
     ensures made { IfOk result (IsTurn s.now.state e (Answer answer.now)) }
     ensures cause { IfErr result (IsTurnRefusal s.now.state e (Answer answer.now)) }
 {
-    let job = job_of(s, e);
-    let row = row_of(s, job);
+    let job = job_at(s, e);
+    let row = row_at(s, job);
     answered(alloc, s, e, job, row, answer)
 }
 

@@ -8,6 +8,7 @@ mod begun_rows;
 mod entries;
 mod gone;
 mod jobs;
+mod joining;
 mod letters;
 mod lists;
 mod locks;
@@ -23,6 +24,7 @@ pub use begun_rows::{created_row, deleted_row, final_props, ready_row, same_row,
 pub use entries::{call_entry, mail_entry, rows_entry};
 pub use gone::{purged_changes, purged_entries};
 pub use jobs::{job_of, moved_job, with_stage};
+pub use joining::joined;
 pub use letters::{draw_letters, letter_to, letters_to, past_letters, sends, sent_all};
 pub use lists::{one, seq_of_one, seq_of_two, three, two, with_first, with_last};
 pub use locks::{lock, lock_writes, unlock, unlock_writes};

@@ -3,6 +3,7 @@
 //! state or decides what is written. Each function answers a word of step_relation.
 #![tactic(auto)]
 
+mod at_work;
 mod chains;
 mod current;
 mod engines;
@@ -20,6 +21,7 @@ mod targets;
 mod tests;
 mod work;
 
+pub use at_work::{job_at, row_at};
 pub use current::current_of;
 pub use engines::{is_live, is_stopped};
 pub use finishing::{all_done, ready_then, succs_of};

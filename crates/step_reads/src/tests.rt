@@ -28,7 +28,7 @@ fn point(rt: &impl AllocGlobal, node: u32) -> Result<Point, Fail> {
     })
 }
 
-/// Two clean-up nodes, the second behind the first.
+// Two clean-up nodes, the second behind the first.
 fn nodes(rt: &impl AllocGlobal) -> Result<TravGraph, Fail> {
     let first = row(1)?;
     let second = row(2)?;
@@ -40,7 +40,7 @@ fn nodes(rt: &impl AllocGlobal) -> Result<TravGraph, Fail> {
     Ok(TravGraph { nodes, edges })
 }
 
-/// A point for each of them.
+// A point for each of them.
 fn points(rt: &impl AllocGlobal) -> Result<Seq<Point>, Fail> {
     let mut points = Seq::new(rt.alloc());
     points.push(point(rt, 0)?)?;
@@ -48,7 +48,7 @@ fn points(rt: &impl AllocGlobal) -> Result<Seq<Point>, Fail> {
     Ok(points)
 }
 
-/// Their graph, on which nothing has been done.
+// Their graph, on which nothing has been done.
 fn graph(rt: &impl AllocGlobal) -> Result<Graph, Fail> {
     Ok(Graph {
         stack: stack_name(rt)?,
@@ -64,7 +64,7 @@ fn facts(rt: &impl AllocGlobal) -> Result<Facts, Fail> {
     })
 }
 
-/// What an update node in the first place gave.
+// What an update node in the first place gave.
 fn input(rt: &impl AllocGlobal) -> Result<Input, Fail> {
     let row = row(1)?;
     Ok(Input {
@@ -75,7 +75,7 @@ fn input(rt: &impl AllocGlobal) -> Result<Input, Fail> {
     })
 }
 
-/// How many points change at the end of the first node, and how many nodes are ready then.
+// How many points change at the end of the first node, and how many nodes are ready then.
 fn ended(rt: &impl AllocGlobal, graph: &Graph, input: &Input) -> Result<(usize, usize), Fail> {
     let points = points_passed(rt.alloc(), graph, 0, input, &[1])?;
     let ready = ready_then(rt.alloc(), graph, 0, input, &[1])?;
@@ -91,7 +91,7 @@ fn the_node_behind_is_ready_then(rt: HostRuntime) -> Result<(), Fail> {
     Ok(())
 }
 
-/// How many rows this input requires, and how many facts are known by it.
+// How many rows this input requires, and how many facts are known by it.
 fn gathered(rt: &impl AllocGlobal, inputs: &[Input]) -> Result<(usize, usize), Fail> {
     let needs = [name(rt)?];
     let required = required(rt.alloc(), inputs)?;
@@ -107,7 +107,7 @@ fn an_input_is_required_and_known(rt: HostRuntime) -> Result<(), Fail> {
     Ok(())
 }
 
-/// How many rows a stack has, and whether somebody is told of the row 1.
+// How many rows a stack has, and whether somebody is told of the row 1.
 fn found(rt: &impl AllocGlobal, state: &State, stack: &StackName) -> Result<(usize, bool), Fail> {
     let row = row(1)?;
     let rows = rows_of(rt.alloc(), state, stack)?;

@@ -96,7 +96,8 @@ past_command next stacks rows letters = record {
   letter = next.letter + letters;
 }
 
-abbrev pub first_letters : (s : StateData) (name : List ℕ) (items : List Item) (it : Sets) → Lays s name items → List Letter
+abbrev pub first_letters : (s : StateData) (name : List ℕ) (items : List Item) (it : Sets) → Lays s name items
+    → List Letter
 first_letters s name items it k = letters_to (stack_set s name it InProgress) s.next.letter k.leaves
 
 -- a graph without nodes is done at once
@@ -108,8 +109,9 @@ abbrev pub settled_mark : List Node → StateData → List ℕ → Sets → List
 settled_mark [] s name it = complete_mark it.actor (stack_set s name it InProgress) ∷ []
 settled_mark (node ∷ nodes) s name it = []
 
--- numbers, the stack and its past, the new rows, the graph, the first letters, and the mark where there is nothing to do
-abbrev pub laid_changes : (s : StateData) (name : List ℕ) (items : List Item) (it : Sets) → Lays s name items → List Change
+-- numbers, the stack and its past, the new rows, the graph, the first letters, the mark where there is nothing to do
+abbrev pub laid_changes : (s : StateData) (name : List ℕ) (items : List Item) (it : Sets) → Lays s name items
+    → List Change
 laid_changes s name items it k =
     change_to.Numbers (past_command s.next it.stacks (length k.rows) (length k.leaves))
     ∷ PutStack (stack_set s name it InProgress)
@@ -118,7 +120,8 @@ laid_changes s name items it k =
     ++ (PutGraph name k.graph
     ∷ (map Send (first_letters s name items it k) ++ settles_at_once k.graph.nodes s name it)))
 
-abbrev pub laid_entries : (s : StateData) (name : List ℕ) (items : List Item) (it : Sets) → Lays s name items → List Entry
+abbrev pub laid_entries : (s : StateData) (name : List ℕ) (items : List Item) (it : Sets) → Lays s name items
+    → List Entry
 laid_entries s name items it k =
     entry_of it.actor (what.Command name s.next.trav it.act it.plan it.past.rollback)
     ∷ (rows_entry it.actor (map Set k.rows)

@@ -29,7 +29,8 @@ pub record Finishes (s : StateData) (e : ℕ) : Type 0 where
   pub behind : ListsAll (Joins fresh.graph.graph.edges job.letter.node) succs
   pub ready : List ℕ
   pub ready_are : ListsAll (λ (k : ℕ). Contains succs k
-      × IsReady (passed fresh.graph job.letter.node (input_of job.letter.node fresh.node job.row fresh.row) succs) k) ready
+      × IsReady (passed fresh.graph job.letter.node (input_of job.letter.node fresh.node job.row fresh.row) succs) k)
+      ready
 
 -- the input that the node gives
 abbrev pub given_input : (s : StateData) (e : ℕ) → Finishes s e → Input
@@ -42,7 +43,7 @@ graph_then s e k = passed k.fresh.graph k.job.letter.node (given_input s e k) k.
 abbrev pub ready_letters : (s : StateData) (e : ℕ) → Finishes s e → List Letter
 ready_letters s e k = letters_to k.fresh.stack s.next.letter k.ready
 
--- the row is unlocked, the job ends, the node is done, each node behind it gets the input, and a letter where it is then ready
+-- the row is unlocked, the job ends, the node is done; each node behind it gets the input, and a letter if then ready
 abbrev pub finished_changes : (s : StateData) (e : ℕ) → Finishes s e → List Change → List Change
 finished_changes s e k mark =
     draw_letters s.next (ready_letters s e k) (unlock k.fresh.row (EndJob e

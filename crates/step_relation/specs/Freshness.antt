@@ -28,7 +28,7 @@ pub record Names (s : StateData) (l : Letter) (stack : Stack) (graph : Graph) (n
   pub its_graph : graph_at s.graphs l.stack ≡ Some graph
   pub its_node : slice_get graph.graph.nodes l.node ≡ Some node
 
--- an update node of a name in the plan works at a row that stands and isn't at DELETE; a clean-up node at its row, if it stands
+-- an update node of a name in the plan works at a row that stands, not at DELETE; a clean-up node at its row, if any
 pub data Serves (stack : Stack) : Node → Option Row → Type 0 where
   updates : (name : List ℕ) (chosen : ℕ) (item : Item) (r : Row) → item_at (plan_of stack.plan).items name ≡ Some item
       → r.act ≢ Delete → Serves stack (U name chosen) (Some r)
@@ -50,8 +50,8 @@ pub record IsMeant (s : StateData) (l : Letter) : Type 0 where
   pub fresh : IsFresh s l target
   pub to : IsTarget s.rows l.stack fresh.node target
 
--- The letter has no work: its stack is gone or has another traversal; or its node isn't in the graph; or its update node's
--- target doesn't stand or is at DELETE, or its name isn't one of the plan's.
+-- The letter has no work: its stack is gone or has another traversal; or its node isn't in the graph; or its update
+-- node's target doesn't stand or is at DELETE, or its name isn't one of the plan's.
 abbrev pub IsOutdated : StateData → Letter → Type 0
 IsOutdated s l = ¬ IsMeant s l
 

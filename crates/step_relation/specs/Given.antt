@@ -5,7 +5,7 @@ use Rattle.heat_value.specs.declared.path.Step.{Step}
 use Rattle.heat_plan.specs.declared.calls.Answered.{Answered}
 use Rattle.type_catalog.specs.declared.effect.Effect.{Effect}
 
--- nothing; an item's resolved properties, with what the change to them asks for; a fault of them; or the provider's answer
+-- nothing; an item's resolved properties, with what the change to them asks for; a fault of them; the cloud's answer
 pub data Given : Type 0 where
   Nothing : Given
   Prepared : (props : Members) → (effect : Effect) → Given

@@ -1,6 +1,7 @@
 -- What a node was given, and what it gives.
 use Rattle.std.specs.List.{list_any}
-use Rattle.std.specs.Prelude.{Bool, Contains, List, None, Option, Some, [], cond, false, map, slice_get, unwrap_or, ℕ, ◌++◌, ◌==◌, ◌||◌, ◌∷◌, ◌≡◌}
+use Rattle.std.specs.Prelude.{Bool, Contains, List, None, Option, Some, [], cond, false, map, slice_get, unwrap_or, ℕ}
+use Rattle.std.specs.Prelude.{◌++◌, ◌==◌, ◌||◌, ◌∷◌, ◌≡◌}
 use Rattle.heat_plan.specs.declared.facts.Facts.{Facts}
 use Rattle.heat_plan.specs.declared.facts.KnownFacts.{KnownFacts}
 use Rattle.traversal_graph.specs.declared.shape.Node.{Node}
@@ -33,15 +34,17 @@ pub data AreKnown (inputs : List Input) : List (List ℕ) → List KnownFacts �
   none : AreKnown inputs [] []
   given : (need : List ℕ) (needs : List (List ℕ)) (it : KnownFacts) (known : List KnownFacts) → IsGiven inputs need it
       → AreKnown inputs needs known → AreKnown inputs (need ∷ needs) (it ∷ known)
-  missing : (need : List ℕ) (needs : List (List ℕ)) (known : List KnownFacts) → ((it : KnownFacts) → ¬ IsGiven inputs need it)
+  missing : (need : List ℕ) (needs : List (List ℕ)) (known : List KnownFacts)
+      → ((it : KnownFacts) → ¬ IsGiven inputs need it)
       → AreKnown inputs needs known → AreKnown inputs (need ∷ needs) known
 
 -- the input that a node gives: its name, its row and that row's facts, or its row alone
 abbrev pub input_of : ℕ → Node → ℕ → Option Row → Input
-input_of from (U name chosen) number row = record { from = from; name = Some name; row = number; facts = facts_in row } where
-  facts_in : Option Row → Option Facts
-  facts_in (Some r) = r.facts
-  facts_in None = None
+input_of from (U name chosen) number row =
+    record { from = from; name = Some name; row = number; facts = facts_in row } where
+      facts_in : Option Row → Option Facts
+      facts_in (Some r) = r.facts
+      facts_in None = None
 input_of from (C n) number row = record { from = from; name = None; row = n; facts = None }
 
 -- an input from this node is there

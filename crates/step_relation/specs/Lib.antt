@@ -17,4 +17,5 @@ pub mod Orders
 pub mod Turns
 pub mod Steps
 pub mod Runs
+pub mod Unjudged
 pub mod Refusals

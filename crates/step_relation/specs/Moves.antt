@@ -23,18 +23,22 @@ use Rattle.core_state.specs.declared.entry.Why.{Why}
 use Rattle.core_state.specs.declared.stack.Stack.{Stack}
 use Rattle.type_catalog.specs.declared.effect.Effect.{Effect}
 use Rattle.step_relation.specs.Asks.{Asks, Calls, Falls, Polls, Refuses, failed_changes, failed_entries, fault_of}
-use Rattle.step_relation.specs.Begins.{Begins, IsSame, IsSoft, MustGo, begun_changes, begun_entries, left_changes, left_entries, onward_changes, onward_entries, replaced_changes, replaced_entries}
-use Rattle.step_relation.specs.Cleanups.{Cleans, IsKept, IsStuck, purged_changes, purged_entries, retained_changes, retained_entries}
+use Rattle.step_relation.specs.Begins.{Begins, IsSame, IsSoft, MustGo, begun_changes, begun_entries, left_changes}
+use Rattle.step_relation.specs.Begins.{left_entries, onward_changes, onward_entries, replaced_changes, replaced_entries}
+use Rattle.step_relation.specs.Cleanups.{Cleans, IsKept, IsStuck, purged_changes, purged_entries, retained_changes}
+use Rattle.step_relation.specs.Cleanups.{retained_entries}
 use Rattle.step_relation.specs.Finishes.{Finishes, Settles, finished_changes, finished_entries}
 use Rattle.step_relation.specs.Given.{Answer, Faulted, Given, Nothing, Prepared}
 use Rattle.step_relation.specs.Nexts.{TakesNext, TakesOver, Works}
 use Rattle.step_relation.specs.Rows.{created_row, deleted_row, ready_row, same_row, updated_row}
-use Rattle.step_relation.specs.Takes.{HasNoHolder, IsHolder, IsIdleLetter, Relays, Releases, Takes, relayed_letter, released_changes, released_entries, taken_job}
-use Rattle.step_relation.specs.Writes.{call_entry, complete_mark, failed_mark, lock, lock_writes, mail_entry, mark_complete, mark_failed, rows_entry}
+use Rattle.step_relation.specs.Takes.{HasNoHolder, IsHolder, IsIdleLetter, Relays, Releases, Takes, relayed_letter}
+use Rattle.step_relation.specs.Takes.{released_changes, released_entries, taken_job}
+use Rattle.step_relation.specs.Writes.{call_entry, complete_mark, failed_mark, lock, lock_writes, mail_entry}
+use Rattle.step_relation.specs.Writes.{mark_complete, mark_failed, rows_entry}
 use Rattle.heat_plan.specs.declared.calls.Answered.TheVariants as answer
 use Rattle.heat_plan.specs.declared.calls.Request.TheVariants as request
 
--- what the engine's step asks of the state, what it is given, the stack that it marks as failed, its changes and its entries
+-- what an engine's step asks of the state, what it is given, the stack it marks as failed, its changes and entries
 pub data Move (s : StateData) (e : ℕ) : Given → Option Stack → List Change → List Entry → Type 0 where
   -- take
   take_dropped : (l : Letter) (cs : List Change) (es : List Entry) → TakesNext s e l → IsIdleLetter s l
@@ -57,36 +61,43 @@ pub data Move (s : StateData) (e : ℕ) : Given → Option Stack → List Change
       → cs ≡ released_changes s e k.row k.letters
       → es ≡ released_entries e e k.row k.letters
       → Move s e Nothing None cs es
-  begin_faulted : (k : Begins s e) (code : List ℕ) (path : List Step) (failed : Option Stack) (cs : List Change) (es : List Entry)
+  begin_faulted : (k : Begins s e) (code : List ℕ) (path : List Step) (failed : Option Stack) (cs : List Change)
+      (es : List Entry)
       → Falls s k.job [] failed
       → cs ≡ left_changes e k.row ++ mark_failed failed
       → es ≡ left_entries e k.row ++ failed_mark (Engine e) failed (fault_of k.item.name k.row.no code path)
       → Move s e (Faulted code path) failed cs es
-  begin_init : (k : Begins s e) (props : Members) (effect : Effect) (cs : List Change) (es : List Entry) → k.row.act ≡ Init
+  begin_init : (k : Begins s e) (props : Members) (effect : Effect) (cs : List Change) (es : List Entry)
+      → k.row.act ≡ Init
       → cs ≡ begun_changes k.job Asking (created_row k.row k.item k.stack.trav props k.required)
       → es ≡ begun_entries e k.job Asking (created_row k.row k.item k.stack.trav props k.required)
       → Move s e (Prepared props effect) None cs es
-  begin_same : (k : Begins s e) (props : Members) (effect : Effect) (cs : List Change) (es : List Entry) → k.row.act ≢ Init
+  begin_same : (k : Begins s e) (props : Members) (effect : Effect) (cs : List Change) (es : List Entry)
+      → k.row.act ≢ Init
       → k.row.status ≡ Complete → IsSame k.row k.item props
       → cs ≡ begun_changes k.job Ending (same_row k.row k.item k.stack.trav k.required)
       → es ≡ begun_entries e k.job Ending (same_row k.row k.item k.stack.trav k.required)
       → Move s e (Prepared props effect) None cs es
-  begin_in_place : (k : Begins s e) (props : Members) (effect : Effect) (cs : List Change) (es : List Entry) → k.row.act ≢ Init
+  begin_in_place : (k : Begins s e) (props : Members) (effect : Effect) (cs : List Change) (es : List Entry)
+      → k.row.act ≢ Init
       → k.row.status ≡ Complete → IsSoft k.row k.item props effect
       → cs ≡ begun_changes k.job Asking (updated_row k.row k.item k.stack.trav props k.required)
       → es ≡ begun_entries e k.job Asking (updated_row k.row k.item k.stack.trav props k.required)
       → Move s e (Prepared props effect) None cs es
-  begin_resumed : (k : Begins s e) (props : Members) (effect : Effect) (cs : List Change) (es : List Entry) → k.row.act ≢ Init
+  begin_resumed : (k : Begins s e) (props : Members) (effect : Effect) (cs : List Change) (es : List Entry)
+      → k.row.act ≢ Init
       → k.row.status ≡ InProgress → k.row.trav ≡ k.stack.trav
       → cs ≡ onward_changes k.job Asking
       → es ≡ onward_entries e k.job Asking
       → Move s e (Prepared props effect) None cs es
-  begin_failed : (k : Begins s e) (props : Members) (effect : Effect) (cs : List Change) (es : List Entry) → k.row.act ≢ Init
+  begin_failed : (k : Begins s e) (props : Members) (effect : Effect) (cs : List Change) (es : List Entry)
+      → k.row.act ≢ Init
       → k.row.status ≡ Failed → k.row.trav ≡ k.stack.trav
       → cs ≡ left_changes e k.row
       → es ≡ left_entries e k.row
       → Move s e (Prepared props effect) None cs es
-  begin_replaced : (k : Begins s e) (props : Members) (effect : Effect) (cs : List Change) (es : List Entry) → k.row.act ≢ Init
+  begin_replaced : (k : Begins s e) (props : Members) (effect : Effect) (cs : List Change) (es : List Entry)
+      → k.row.act ≢ Init
       → MustGo k.row k.item k.stack.trav props effect
       → cs ≡ replaced_changes s e k props
       → es ≡ replaced_entries s e k props
@@ -96,26 +107,31 @@ pub data Move (s : StateData) (e : ℕ) : Given → Option Stack → List Change
       → cs ≡ onward_changes k.job Ending
       → es ≡ onward_entries e k.job Ending
       → Move s e Nothing None cs es
-  clean_kept : (k : Cleans s e) (r : Row) (cs : List Change) (es : List Entry) → row_at s.rows k.job.row ≡ Some r → IsKept s k.stack r
+  clean_kept : (k : Cleans s e) (r : Row) (cs : List Change) (es : List Entry) → row_at s.rows k.job.row ≡ Some r
+      → IsKept s k.stack r
       → cs ≡ onward_changes k.job Ending
       → es ≡ onward_entries e k.job Ending
       → Move s e Nothing None cs es
-  clean_init : (k : Cleans s e) (r : Row) (cs : List Change) (es : List Entry) → row_at s.rows k.job.row ≡ Some r → ¬ IsKept s k.stack r
+  clean_init : (k : Cleans s e) (r : Row) (cs : List Change) (es : List Entry) → row_at s.rows k.job.row ≡ Some r
+      → ¬ IsKept s k.stack r
       → r.act ≡ Init
       → cs ≡ purged_changes k.job r
       → es ≡ purged_entries e k.job r
       → Move s e Nothing None cs es
-  clean_stuck : (k : Cleans s e) (r : Row) (cs : List Change) (es : List Entry) → row_at s.rows k.job.row ≡ Some r → ¬ IsKept s k.stack r
+  clean_stuck : (k : Cleans s e) (r : Row) (cs : List Change) (es : List Entry) → row_at s.rows k.job.row ≡ Some r
+      → ¬ IsKept s k.stack r
       → IsStuck r k.stack.trav
       → cs ≡ left_changes e r
       → es ≡ left_entries e r
       → Move s e Nothing None cs es
-  clean_retained : (k : Cleans s e) (r : Row) (cs : List Change) (es : List Entry) → row_at s.rows k.job.row ≡ Some r → ¬ IsKept s k.stack r
+  clean_retained : (k : Cleans s e) (r : Row) (cs : List Change) (es : List Entry) → row_at s.rows k.job.row ≡ Some r
+      → ¬ IsKept s k.stack r
       → r.act ≢ Init → ¬ IsStuck r k.stack.trav → r.policy ≡ Retain
       → cs ≡ retained_changes k.job r
       → es ≡ retained_entries e k.job r
       → Move s e Nothing None cs es
-  clean_deleted : (k : Cleans s e) (r : Row) (cs : List Change) (es : List Entry) → row_at s.rows k.job.row ≡ Some r → ¬ IsKept s k.stack r
+  clean_deleted : (k : Cleans s e) (r : Row) (cs : List Change) (es : List Entry) → row_at s.rows k.job.row ≡ Some r
+      → ¬ IsKept s k.stack r
       → r.act ≢ Init → ¬ IsStuck r k.stack.trav → r.policy ≢ Retain
       → cs ≡ begun_changes k.job Asking (deleted_row r k.stack.trav)
       → es ≡ begun_entries e k.job Asking (deleted_row r k.stack.trav)
@@ -125,8 +141,9 @@ pub data Move (s : StateData) (e : ℕ) : Given → Option Stack → List Change
       → cs ≡ onward_changes k.job Polling
       → es ≡ call_entry e k.row asked answer.Begun ∷ onward_entries e k.job Polling
       → Move s e (Answer answer.Begun) None cs es
-  ask_failed : (k : Calls s e Asking) (asked : Request) (given : Answered) (reason : Why) (letters : List Letter) (failed : Option Stack)
-      (cs : List Change) (es : List Entry) → Asks k.row asked → Refuses k.row.act asked given reason → Falls s k.job letters failed
+  ask_failed : (k : Calls s e Asking) (asked : Request) (given : Answered) (reason : Why) (letters : List Letter)
+      (failed : Option Stack) (cs : List Change) (es : List Entry) → Asks k.row asked
+      → Refuses k.row.act asked given reason → Falls s k.job letters failed
       → cs ≡ failed_changes s e k.row letters failed
       → es ≡ call_entry e k.row asked given ∷ failed_entries e k.row letters failed reason
       → Move s e (Answer given) failed cs es
@@ -143,8 +160,9 @@ pub data Move (s : StateData) (e : ℕ) : Given → Option Stack → List Change
       → cs ≡ purged_changes k.job k.row
       → es ≡ call_entry e k.row request.Gone answer.Gone ∷ purged_entries e k.job k.row
       → Move s e (Answer answer.Gone) None cs es
-  poll_failed : (k : Calls s e Polling) (asked : Request) (given : Answered) (reason : Why) (letters : List Letter) (failed : Option Stack)
-      (cs : List Change) (es : List Entry) → Polls k.row asked → Refuses k.row.act asked given reason → Falls s k.job letters failed
+  poll_failed : (k : Calls s e Polling) (asked : Request) (given : Answered) (reason : Why) (letters : List Letter)
+      (failed : Option Stack) (cs : List Change) (es : List Entry) → Polls k.row asked
+      → Refuses k.row.act asked given reason → Falls s k.job letters failed
       → cs ≡ failed_changes s e k.row letters failed
       → es ≡ call_entry e k.row asked given ∷ failed_entries e k.row letters failed reason
       → Move s e (Answer given) failed cs es

@@ -98,7 +98,8 @@ pub data IsForward : Act → Type 0 where
 -- a command of a line, its changes and its entries
 pub data Command (s : StateData) (cs : List Change) (es : List Entry) : Type 0 where
   create : (name : List ℕ) (plan : PlanData) (rollback : Bool) (k : Lays s name plan.items)
-      → IsPlan plan.items plan.absent → stack_at s.stacks name ≡ None → length s.stacks < stack_limit → HasRoomFor s plan.items
+      → IsPlan plan.items plan.absent → stack_at s.stacks name ≡ None → length s.stacks < stack_limit
+      → HasRoomFor s plan.items
       → cs ≡ laid_changes s name plan.items (create_sets s name plan rollback) k
       → es ≡ laid_entries s name plan.items (create_sets s name plan rollback) k
       → Command s cs es

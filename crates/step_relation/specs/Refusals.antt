@@ -4,12 +4,14 @@ use Rattle.heat_plan.specs.Plans.{PlanData}
 use Rattle.heat_plan.specs.declared.phase.Act.TheVariants.{Delete}
 use Rattle.heat_plan.specs.declared.phase.Status.TheVariants.{InProgress}
 use Rattle.heat_plan.specs.declared.refusal.Refusal.{Refusal}
-use Rattle.heat_plan.specs.declared.refusal.Refusal.TheVariants.{Deleting, NoEngine, NoStack, NotRunning, StackExists, TooManyEngines, TooManyRows, TooManyStacks, Worn}
+use Rattle.heat_plan.specs.declared.refusal.Refusal.TheVariants.{Deleting, NoEngine, NoStack, NotRunning, StackExists}
+use Rattle.heat_plan.specs.declared.refusal.Refusal.TheVariants.{TooManyEngines, TooManyRows, TooManyStacks, Worn}
 use Rattle.core_state.specs.State.{StateData, stack_at}
 use Rattle.core_state.specs.declared.entry.Actor.TheVariants.{Main}
 use Rattle.core_state.specs.declared.stack.Stack.{Stack}
 use Rattle.step_relation.specs.Commands.{Lays, laid_changes}
-use Rattle.step_relation.specs.Orders.{HasRoomFor, IsForward, create_sets, delete_sets, plan_back, rollback_sets, stack_limit, update_sets}
+use Rattle.step_relation.specs.Orders.{HasRoomFor, IsForward, create_sets, delete_sets, plan_back, rollback_sets}
+use Rattle.step_relation.specs.Orders.{stack_limit, update_sets}
 use Rattle.step_relation.specs.Steps.{engine_limit}
 use Rattle.step_relation.specs.Turns.{IsWorn}
 
@@ -19,16 +21,21 @@ pub data RefusesCreate (s : StateData) (name : List ℕ) (plan : PlanData) (roll
       → RefusesCreate s name plan rollback TooManyStacks
   too_many_rows : stack_at s.stacks name ≡ None → length s.stacks < stack_limit → ¬ HasRoomFor s plan.items
       → RefusesCreate s name plan rollback TooManyRows
-  worn : (k : Lays s name plan.items) → stack_at s.stacks name ≡ None → length s.stacks < stack_limit → HasRoomFor s plan.items
-      → IsWorn (laid_changes s name plan.items (create_sets s name plan rollback) k) → RefusesCreate s name plan rollback Worn
+  worn : (k : Lays s name plan.items) → stack_at s.stacks name ≡ None → length s.stacks < stack_limit
+      → HasRoomFor s plan.items
+      → IsWorn (laid_changes s name plan.items (create_sets s name plan rollback) k)
+      → RefusesCreate s name plan rollback Worn
 
 pub data RefusesUpdate (s : StateData) (name : List ℕ) (plan : PlanData) (rollback : Bool) : Refusal → Type 0 where
   absent : stack_at s.stacks name ≡ None → RefusesUpdate s name plan rollback NoStack
-  deleting : (st : Stack) → stack_at s.stacks name ≡ Some st → st.act ≡ Delete → RefusesUpdate s name plan rollback Deleting
+  deleting : (st : Stack) → stack_at s.stacks name ≡ Some st → st.act ≡ Delete
+      → RefusesUpdate s name plan rollback Deleting
   too_many_rows : (st : Stack) → stack_at s.stacks name ≡ Some st → st.act ≢ Delete → ¬ HasRoomFor s plan.items
       → RefusesUpdate s name plan rollback TooManyRows
-  worn : (st : Stack) (k : Lays s st.name plan.items) → stack_at s.stacks name ≡ Some st → st.act ≢ Delete → HasRoomFor s plan.items
-      → IsWorn (laid_changes s st.name plan.items (update_sets s st plan rollback) k) → RefusesUpdate s name plan rollback Worn
+  worn : (st : Stack) (k : Lays s st.name plan.items) → stack_at s.stacks name ≡ Some st → st.act ≢ Delete
+      → HasRoomFor s plan.items
+      → IsWorn (laid_changes s st.name plan.items (update_sets s st plan rollback) k)
+      → RefusesUpdate s name plan rollback Worn
 
 pub data RefusesDelete (s : StateData) (name : List ℕ) : Refusal → Type 0 where
   absent : stack_at s.stacks name ≡ None → RefusesDelete s name NoStack

@@ -15,6 +15,7 @@ use Rattle.step_relation.specs.Begins.{Begins}
 use Rattle.step_relation.specs.Freshness.{plan_of}
 use Rattle.step_relation.specs.Given.{Answer, Faulted, Given, Nothing, Prepared}
 use Rattle.step_relation.specs.Inputs.{AreKnown}
+use Rattle.core_state.specs.declared.entry.What.TheVariants as what
 use Rattle.step_relation.specs.Steps.{Step, close, command, enlist, note, restart, stop, turn, unstored}
 
 -- what the item of the node that begins resolves to, with the node's inputs
@@ -51,9 +52,29 @@ IsTiedStep judges s cs es (restart count some few below is made) = Unit {0}
 IsTiedStep judges s cs es (note it noted is made) = Unit {0}
 IsTiedStep judges s cs es (close is made) = Unit {0}
 
+-- the input was closed
+pub record IsClosed (h : List Entry) : Type 0 where
+  pub entry : Entry
+  pub among : Contains h entry
+  pub closes : entry.what ≡ what.Closed
+
+-- a step closes the input only where it wasn't closed before
+abbrev pub ClosesOnce : (before : List Entry) (s : StateData) (cs : List Change) (es : List Entry)
+    → Step s cs es → Type 0
+ClosesOnce before s cs es (command it fits) = Unit {0}
+ClosesOnce before s cs es (turn e given it fits) = Unit {0}
+ClosesOnce before s cs es (unstored e given lost all call it some fits first is made) = Unit {0}
+ClosesOnce before s cs es (stop e live is made) = Unit {0}
+ClosesOnce before s cs es (enlist few below is made) = Unit {0}
+ClosesOnce before s cs es (restart count some few below is made) = Unit {0}
+ClosesOnce before s cs es (note it noted is made) = Unit {0}
+ClosesOnce before s cs es (close is made) = ¬ IsClosed before
+
 -- from the first state to the last, with all entries between; each turn was given what one of these registries says
 pub data Run (registries : List Judges) (first : StateData) : StateData → List Entry → Type 0 where
   begins : (last : StateData) (all : List Entry) → last ≡ first → all ≡ [] → Run registries first last all
   goes_on : (judges : Judges) (mid last : StateData) (cs : List Change) (before after all : List Entry)
-      → Run registries first mid before → (step : Step mid cs after) → Contains registries judges → IsTiedStep judges mid cs after step
-      → last ≡ applied cs mid → all ≡ before ++ after → Run registries first last all
+      → Run registries first mid before → (step : Step mid cs after) → Contains registries judges
+      → IsTiedStep judges mid cs after step
+      → ClosesOnce before mid cs after step → last ≡ applied cs mid → all ≡ before ++ after
+      → Run registries first last all

@@ -55,7 +55,8 @@ pub data Step (s : StateData) (cs : List Change) (es : List Entry) : Type 0 wher
   unstored : (e : ℕ) (given : Answered) (lost : List Change) (all : List Entry) (call : Entry)
       → Turn s e (Answer given) lost all → lost ≢ [] → ¬ WearsOut s e (Answer given) → BeginsWithCall all call
       → cs ≡ [] → es ≡ call ∷ [] → Step s cs es
-  stop : (e : ℕ) → Contains s.live e → cs ≡ Stop e ∷ [] → es ≡ entry_of Main (what.Engine (engine.Stop e)) ∷ [] → Step s cs es
+  stop : (e : ℕ) → Contains s.live e → cs ≡ Stop e ∷ [] → es ≡ entry_of Main (what.Engine (engine.Stop e)) ∷ []
+      → Step s cs es
   enlist : length s.live < engine_limit → s.next.engine < 2 ^ 62
       → cs ≡ change_to.Numbers (past_engines s.next 1) ∷ Enlist s.next.engine ∷ []
       → es ≡ entry_of Main (what.Engine (engine.Start s.next.engine)) ∷ [] → Step s cs es

@@ -16,9 +16,10 @@ pub record IsCurrentOf (rows : List Row) (stack name : List ℕ) (r : Row) : Typ
 
 -- no row of the stack and name is current
 abbrev pub HasNoCurrent : List Row → List ℕ → List ℕ → Type 0
-HasNoCurrent rows stack name = (m : ℕ) (q : Row) → row_at rows m ≡ Some q → q.stack ≡ stack → q.name ≡ name → ¬ IsCurrent q
+HasNoCurrent rows stack name = (m : ℕ) (q : Row) → row_at rows m ≡ Some q → q.stack ≡ stack → q.name ≡ name
+    → ¬ IsCurrent q
 
--- an update node's target ends the chain of its chosen row, or is current where that row stands no more; a clean-up node's is its row
+-- an update node's target ends its chosen row's chain, or is current if that row is gone; a clean-up node's is its row
 pub data IsTarget (rows : List Row) (stack : List ℕ) : Node → ℕ → Type 0 where
   of_c : (n : ℕ) → IsTarget rows stack (C n) n
   of_u : (name : List ℕ) (n t : ℕ) → Leads rows n t → IsTarget rows stack (U name n) t

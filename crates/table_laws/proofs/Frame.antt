@@ -1,5 +1,7 @@
 -- Each change is on one stack, and what it leaves of the others.
-use Rattle.std.proofs.Common.{◌≡◌, ◌≤◌, ◌⊎◌, inl, inr, ℕ, List, [], ◌∷◌, Option, Some, None, refl, sym, ap, ◌∙◌, subst, arith}
+use Rattle.std.proofs.Common.{◌≡◌, ◌≤◌, ◌⊎◌, inl, inr, ℕ, List, [], ◌∷◌, ◌++◌, Option, Some, None, refl, sym, ap, ◌∙◌}
+use Rattle.std.proofs.Common.{subst}
+use Rattle.std.proofs.Common.{arith}
 use Rattle.std.specs.Prelude.{Contains}
 use Rattle.std.proofs.lemmas.List.Elements.{Contains-append_cases, Contains-append_left}
 use Rattle.heat_plan.specs.declared.token.Token.{Token}
@@ -10,22 +12,34 @@ use Rattle.sync_points.specs.declared.point.Point.{Point}
 use Rattle.mail_table.specs.Mails.{job_at, letter_at}
 use Rattle.mail_table.specs.declared.mail.Job.{Job}
 use Rattle.mail_table.specs.declared.mail.Letter.{Letter}
-use Rattle.core_state.specs.Changes.{apply, fresh_graph}
+use Rattle.core_state.specs.Applies.{NoneFalls}
+use Rattle.core_state.specs.Changes.{applied, apply, fresh_graph}
 use Rattle.core_state.specs.State.{StateData}
-use Rattle.core_state.specs.declared.change.Change.TheVariants.{Drop, DropRow, DropStack, EndJob, Enlist, PutGraph, PutJob, PutPast, PutPoint, PutRow, PutStack, Release, Send, Stop}
+use Rattle.core_state.specs.declared.change.Change.{Change}
+use Rattle.core_state.specs.declared.change.Change.TheVariants.{Drop, DropRow, DropStack, EndJob, Enlist, PutGraph}
+use Rattle.core_state.specs.declared.change.Change.TheVariants.{PutJob, PutPast, PutPoint, PutRow, PutStack, Release}
+use Rattle.core_state.specs.declared.change.Change.TheVariants.{Send, Stop}
 use Rattle.core_state.specs.declared.numbers.Numbers.{Numbers}
 use Rattle.core_state.specs.declared.past.Past.{Past}
 use Rattle.core_state.specs.declared.stack.Stack.{Stack}
-use Rattle.soundness.specs.Elsewhere.{Elsewhere, Rises}
+use Rattle.soundness.specs.Elsewhere.{Elsewhere}
 use Rattle.table_laws.proofs.Points.{point_else}
-use Rattle.table_laws.proofs.Rows.{graph_else, graph_kept, job_cut, job_else, job_kept, job_put, letter_cut, letter_else, letter_kept, letter_put, past_else, past_kept, row_cut, row_else, row_kept, row_put, stack_else, stack_kept}
+use Rattle.table_laws.proofs.Rows.{graph_else, graph_kept, job_cut, job_else, job_kept, job_put, letter_cut}
+use Rattle.table_laws.proofs.Rows.{letter_else, letter_kept, letter_put, past_else, past_kept, row_cut, row_else}
+use Rattle.table_laws.proofs.Rows.{row_kept, row_put, stack_else, stack_kept}
 use Rattle.core_state.specs.declared.change.Change.TheVariants as change_to
 
-pub Rises-same : (a : Numbers) → Rises a a
-Rises-same a = record { stack = omega arith; trav = omega arith; row = omega arith; engine = omega arith; letter = omega arith }
+pub NoneFalls-same : (a : Numbers) → NoneFalls a a
+NoneFalls-same a = record {
+  stack = omega arith;
+  trav = omega arith;
+  row = omega arith;
+  engine = omega arith;
+  letter = omega arith;
+}
 
-pub Rises-then : (a b c : Numbers) → Rises a b → Rises b c → Rises a c
-Rises-then a b c u v = record {
+pub NoneFalls-then : (a b c : Numbers) → NoneFalls a b → NoneFalls b c → NoneFalls a c
+NoneFalls-then a b c u v = record {
   stack = let l = u.stack in let m = v.stack in omega arith;
   trav = let l = u.trav in let m = v.trav in omega arith;
   row = let l = u.row in let m = v.row in omega arith;
@@ -47,7 +61,7 @@ nowhere own s = record {
   released = λ t ne has. has;
   released_stay = λ t has. has;
   born = λ n q is at. inl (q, at, is);
-  rises = Rises-same s.next;
+  rises = NoneFalls-same s.next;
 }
 
 pub then : (own : List ℕ) (s t u : StateData) → Elsewhere own s t → Elsewhere own t u → Elsewhere own s u
@@ -67,14 +81,20 @@ then own s t u a b = record {
     | inl (o, was, o_is) ↦ a.born n o o_is was
     | inr new ↦ let l = a.rises.row in inr (omega arith)
   ];
-  rises = Rises-then s.next t.next u.next a.rises b.rises;
+  rises = NoneFalls-then s.next t.next u.next a.rises b.rises;
 }
 
-only_one : {A : Type 0} (x y : A) → Contains (x ∷ []) y → x ≡ y
+pub applied-append : (first last : List Change) (s : StateData)
+    → applied (first ++ last) s ≡ applied last (applied first s)
+applied-append [] last s = refl
+applied-append (c ∷ cs) last s = applied-append cs last (apply c s)
+
+pub only_one : {A : Type 0} (x y : A) → Contains (x ∷ []) y → x ≡ y
 only_one x y (n, lt, is) = let first : n ≡ 0 = omega arith in rw first at is
 
 -- a row of this stack is written over one of this stack, or under a new number
-pub on_row : (own : List ℕ) (s : StateData) (q : Row) → q.stack ≡ own → ((o : Row) → row_at s.rows q.no ≡ Some o → o.stack ≡ own)
+pub on_row : (own : List ℕ) (s : StateData) (q : Row) → q.stack ≡ own
+    → ((o : Row) → row_at s.rows q.no ≡ Some o → o.stack ≡ own)
     → ((row_at s.rows q.no ≡ None) → s.next.row ≤ q.no) → Elsewhere own s (apply (PutRow q) s)
 on_row own s q is over fresh = record {
   stacks = λ name ne. refl;
@@ -86,7 +106,7 @@ on_row own s q is over fresh = record {
   jobs_stay = λ e j ne at. at;
   released = λ t ne has. has;
   released_stay = λ t has. has;
-  rises = Rises-same s.next;
+  rises = NoneFalls-same s.next;
   rows = λ n r ne at. elim (row_put q s.rows at) [
     | inl new ↦ absurd (ne (ap (λ (x : Row). x.stack) (sym new.1) ∙ is))
     | inr was ↦ was.1
@@ -116,7 +136,7 @@ on_row_gone own s c over = record {
   jobs_stay = λ e j ne at. at;
   released = λ t ne has. has;
   released_stay = λ t has. has;
-  rises = Rises-same s.next;
+  rises = NoneFalls-same s.next;
   rows = λ n r ne at. (row_cut c s.rows at).1;
   rows_stay = λ n r ne at.
       row_kept c s.rows n (λ eq. ne (over r (subst (λ (k : ℕ). row_at s.rows k ≡ Some r) (sym eq) at))) ∙ at;
@@ -137,7 +157,7 @@ on_job own s q is over = record {
   released = λ t ne has. has;
   released_stay = λ t has. has;
   born = λ n p p_is at. inl (p, at, p_is);
-  rises = Rises-same s.next;
+  rises = NoneFalls-same s.next;
   jobs = λ e j ne at. elim (job_put q s.jobs at) [
     | inl new ↦ absurd (ne (ap (λ (x : Job). x.letter.stack) (sym new.1) ∙ is))
     | inr was ↦ was.1
@@ -159,7 +179,7 @@ on_end own s e over = record {
   released = λ t ne has. has;
   released_stay = λ t has. has;
   born = λ n p p_is at. inl (p, at, p_is);
-  rises = Rises-same s.next;
+  rises = NoneFalls-same s.next;
   jobs = λ f j ne at. (job_cut e s.jobs at).1;
   jobs_stay = λ f j ne at.
       job_kept e s.jobs f (λ eq. ne (over j (subst (λ (k : ℕ). job_at s.jobs k ≡ Some j) (sym eq) at))) ∙ at;
@@ -178,13 +198,14 @@ on_send own s l is over = record {
   released = λ t ne has. has;
   released_stay = λ t has. has;
   born = λ n p p_is at. inl (p, at, p_is);
-  rises = Rises-same s.next;
+  rises = NoneFalls-same s.next;
   letters = λ n m ne at. elim (letter_put l s.letters at) [
     | inl new ↦ absurd (ne (ap (λ (x : Letter). x.stack) (sym new.1) ∙ is))
     | inr was ↦ was.1
   ];
   letters_stay = λ n m ne at.
-      letter_else l s.letters n (λ eq. ne (over m (subst (λ (k : ℕ). letter_at s.letters k ≡ Some m) (sym eq) at))) ∙ at;
+      letter_else l s.letters n (λ eq. ne (over m (subst (λ (k : ℕ). letter_at s.letters k ≡ Some m) (sym eq) at)))
+      ∙ at;
 }
 
 pub on_drop : (own : List ℕ) (s : StateData) (c : ℕ) → ((o : Letter) → letter_at s.letters c ≡ Some o → o.stack ≡ own)
@@ -200,10 +221,11 @@ on_drop own s c over = record {
   released = λ t ne has. has;
   released_stay = λ t has. has;
   born = λ n p p_is at. inl (p, at, p_is);
-  rises = Rises-same s.next;
+  rises = NoneFalls-same s.next;
   letters = λ n m ne at. (letter_cut c s.letters at).1;
   letters_stay = λ n m ne at.
-      letter_kept c s.letters n (λ eq. ne (over m (subst (λ (k : ℕ). letter_at s.letters k ≡ Some m) (sym eq) at))) ∙ at;
+      letter_kept c s.letters n (λ eq. ne (over m (subst (λ (k : ℕ). letter_at s.letters k ≡ Some m) (sym eq) at)))
+      ∙ at;
 }
 
 pub on_stack : (own : List ℕ) (s : StateData) (st : Stack) → st.name ≡ own → Elsewhere own s (apply (PutStack st) s)
@@ -219,7 +241,7 @@ on_stack own s st is = record {
   released = λ t ne has. has;
   released_stay = λ t has. has;
   born = λ n p p_is at. inl (p, at, p_is);
-  rises = Rises-same s.next;
+  rises = NoneFalls-same s.next;
   stacks = λ name ne. stack_else st s.stacks name (λ eq. ne (sym eq ∙ is));
 }
 
@@ -234,7 +256,7 @@ on_stack_gone own s = record {
   released = λ t ne has. has;
   released_stay = λ t has. has;
   born = λ n p p_is at. inl (p, at, p_is);
-  rises = Rises-same s.next;
+  rises = NoneFalls-same s.next;
   stacks = λ name ne. stack_kept own s.stacks name (λ eq. ne (sym eq));
   graphs = λ name ne. graph_kept own s.graphs name (λ eq. ne (sym eq));
   pasts = λ name ne. past_kept own s.pasts name (λ eq. ne (sym eq));
@@ -253,7 +275,7 @@ on_graph own s graph = record {
   released = λ t ne has. has;
   released_stay = λ t has. has;
   born = λ n p p_is at. inl (p, at, p_is);
-  rises = Rises-same s.next;
+  rises = NoneFalls-same s.next;
   graphs = λ name ne. graph_else (fresh_graph own graph) s.graphs name (λ eq. ne (sym eq));
 }
 
@@ -270,7 +292,7 @@ on_point own s p is = record {
   released = λ t ne has. has;
   released_stay = λ t has. has;
   born = λ n p p_is at. inl (p, at, p_is);
-  rises = Rises-same s.next;
+  rises = NoneFalls-same s.next;
   graphs = λ name ne. point_else p s.graphs name (λ eq. ne (sym eq ∙ is));
 }
 
@@ -287,7 +309,7 @@ on_past own s p is = record {
   released = λ t ne has. has;
   released_stay = λ t has. has;
   born = λ n p p_is at. inl (p, at, p_is);
-  rises = Rises-same s.next;
+  rises = NoneFalls-same s.next;
   pasts = λ name ne. past_else p s.pasts name (λ eq. ne (sym eq ∙ is));
 }
 
@@ -303,7 +325,7 @@ on_release own s t is = record {
   jobs = λ e j ne at. at;
   jobs_stay = λ e j ne at. at;
   born = λ n p p_is at. inl (p, at, p_is);
-  rises = Rises-same s.next;
+  rises = NoneFalls-same s.next;
   released = λ u ne has. elim (Contains-append_cases s.released (t ∷ []) u has) [
     | inl was ↦ was
     | inr new ↦ absurd (ne (ap (λ (x : Token). x.stack) (sym (only_one t u new)) ∙ is))
@@ -312,7 +334,8 @@ on_release own s t is = record {
 }
 
 -- the numbers rise; last of all, since a new row has a number from the next one on
-pub on_numbers : (own : List ℕ) (s : StateData) (next : Numbers) → Rises s.next next → Elsewhere own s (apply (change_to.Numbers next) s)
+pub on_numbers : (own : List ℕ) (s : StateData) (next : Numbers) → NoneFalls s.next next
+    → Elsewhere own s (apply (change_to.Numbers next) s)
 on_numbers own s next up = record {
   stacks = λ name ne. refl;
   graphs = λ name ne. refl;
@@ -343,7 +366,7 @@ on_enlist own s e = record {
   released = λ t ne has. has;
   released_stay = λ t has. has;
   born = λ n p p_is at. inl (p, at, p_is);
-  rises = Rises-same s.next;
+  rises = NoneFalls-same s.next;
 }
 
 pub on_stop : (own : List ℕ) (s : StateData) (e : ℕ) → Elsewhere own s (apply (Stop e) s)
@@ -360,5 +383,5 @@ on_stop own s e = record {
   released = λ t ne has. has;
   released_stay = λ t has. has;
   born = λ n p p_is at. inl (p, at, p_is);
-  rises = Rises-same s.next;
+  rises = NoneFalls-same s.next;
 }

@@ -24,7 +24,8 @@ use Rattle.table_laws.proofs.Tables.{cases}
 use Rattle.table_laws.proofs.Targets.{target_once}
 
 -- a name in the plan is an item's
-pub item_of : (items : List Item) (name : List ℕ) → Contains (names_of items) name → (item : Item) × (item_at items name ≡ Some item)
+pub item_of : (items : List Item) (name : List ℕ) → Contains (names_of items) name
+    → (item : Item) × (item_at items name ≡ Some item)
 unfolding at
 item_of [] name has = absurd (contains_none name has)
 item_of (x ∷ xs) name has = elim (cases bytes_eq bytes_eq-Decides (λ (i : Item). i.name) x.name name) [
@@ -35,12 +36,14 @@ item_of (x ∷ xs) name has = elim (cases bytes_eq bytes_eq-Decides (λ (i : Ite
   ]
 ]
 
-fresh_at : (s : StateData) → Standing s → (j : Job) (st : Stack) (g : Graph) (node : Node) → Names s j.letter st g node → JobFits s j st g node
+fresh_at : (s : StateData) → Standing s → (j : Job) (st : Stack) (g : Graph) (node : Node) → Names s j.letter st g node
+    → JobFits s j st g node
     → IsFresh s j.letter j.row
 fresh_at s S j st g (U word n) names f =
     let fits = named_fits s S j.letter st g (U word n) names in
     let (q, is) = fits.targets.updates j.letter.node n word names.its_node in
-    let (item, asked) = item_of (plan_of st.plan).items word (fits.nodes.only_items j.letter.node n word names.its_node) in
+    let (item, asked) = item_of (plan_of st.plan).items word
+    (fits.nodes.only_items j.letter.node n word names.its_node) in
     let number = target_once s.rows st.name (U word n) j.row q.no f.target is.to in record {
       stack = st;
       graph = g;
@@ -60,11 +63,13 @@ fresh_at s S j st g (C n) names f = record {
   serves = cleans n (row_at s.rows j.row);
 }
 
-pub fresh_of_newest : (s : StateData) → Standing s → (e : ℕ) (j : Job) → job_at s.jobs e ≡ Some j → (st : Stack) → IsNewest s j.letter st
+pub fresh_of_newest : (s : StateData) → Standing s → (e : ℕ) (j : Job) → job_at s.jobs e ≡ Some j → (st : Stack)
+    → IsNewest s j.letter st
     → IsFresh s j.letter j.row
 fresh_of_newest s S e j its st newest =
     let k = S.shape.jobs.newest e j st its newest in fresh_at s S j st k.graph k.node k.names k.fits
 
-pub overrun_is_old : (s : StateData) → Standing s → (e : ℕ) (j : Job) → job_at s.jobs e ≡ Some j → IsOverrun s j → (st : Stack)
+pub overrun_is_old : (s : StateData) → Standing s → (e : ℕ) (j : Job) → job_at s.jobs e ≡ Some j → IsOverrun s j
+    → (st : Stack)
     → IsNewest s j.letter st → ⊥
 overrun_is_old s S e j its overrun st newest = overrun (fresh_of_newest s S e j its st newest)

@@ -18,7 +18,8 @@ use Rattle.soundness.specs.Groups.{IsOrdered, creates, deletes, rolls_back, upda
 use Rattle.soundness.specs.Sound.{Standing}
 
 -- a plan is what the stack has or what it would go back to
-pub back_cases : (P : Option PlanData → Type 0) (st : Stack) (past : Past) → P st.plan → P past.back → P (back_after st past)
+pub back_cases : (P : Option PlanData → Type 0) (st : Stack) (past : Past) → P st.plan → P past.back
+    → P (back_after st past)
 back_cases P st past plan back = by st.status st.act where
   by : (status : Status) (act : Act) → P (back_after (record st { status = status; act = act }) past)
   by Complete Delete = back
@@ -48,26 +49,31 @@ module _ (s : StateData) (S : Standing s) where
   back_proper name (Some past) at = (S.pasts.each name past at).proper
 
   -- what a rollback goes back to is a plan
-  pub back_is_plan : (st : Stack) → stack_at s.stacks st.name ≡ Some st → IsPlan (plan_back s st).items (plan_back s st).absent
+  pub back_is_plan : (st : Stack) → stack_at s.stacks st.name ≡ Some st
+      → IsPlan (plan_back s st).items (plan_back s st).absent
   back_is_plan st at =
-      back_cases IsProper st (past_of s st.name) (S.marks.each st.name st at).proper (back_proper st.name (past_at s.pasts st.name) refl)
+      back_cases IsProper st (past_of s st.name) (S.marks.each st.name st at).proper
+      (back_proper st.name (past_at s.pasts st.name) refl)
 
   -- the items are those of a plan
-  pub ordered_plan : (name : List ℕ) (items : List Item) (it : Sets) → IsOrdered s name items it → (absent : List (List ℕ)) × IsPlan items absent
+  pub ordered_plan : (name : List ℕ) (items : List Item) (it : Sets) → IsOrdered s name items it
+      → (absent : List (List ℕ)) × IsPlan items absent
   ordered_plan _ _ _ (creates name plan rollback none proper) = (plan.absent, proper)
   ordered_plan _ _ _ (updates st plan rollback at act proper) = (plan.absent, proper)
   ordered_plan _ _ _ (deletes st at) = ([], no_plan)
   ordered_plan _ _ _ (rolls_back st actor at forward unfinished) = ((plan_back s st).absent, back_is_plan st at)
 
 -- a command that lays out a delete asks for nothing
-pub ordered_delete : (s : StateData) (name : List ℕ) (items : List Item) (it : Sets) → IsOrdered s name items it → it.act ≡ Delete → items ≡ []
+pub ordered_delete : (s : StateData) (name : List ℕ) (items : List Item) (it : Sets) → IsOrdered s name items it
+    → it.act ≡ Delete → items ≡ []
 ordered_delete s _ _ _ (creates name plan rollback none proper) is = cc
 ordered_delete s _ _ _ (updates st plan rollback at act proper) is = cc
 ordered_delete s _ _ _ (deletes st at) is = refl
 ordered_delete s _ _ _ (rolls_back st actor at forward unfinished) is = cc
 
 -- its past is the stack's
-pub ordered_past : (s : StateData) (name : List ℕ) (items : List Item) (it : Sets) → IsOrdered s name items it → it.past.stack ≡ name
+pub ordered_past : (s : StateData) (name : List ℕ) (items : List Item) (it : Sets) → IsOrdered s name items it
+    → it.past.stack ≡ name
 ordered_past s _ _ _ (creates name plan rollback none proper) = refl
 ordered_past s _ _ _ (updates st plan rollback at act proper) = refl
 ordered_past s _ _ _ (deletes st at) = refl

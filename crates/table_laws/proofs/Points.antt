@@ -14,7 +14,8 @@ pub point_here : (p : Point) (gs : List Graph) (g : Graph) → graph_at gs p.sta
 unfolding at put_point
 point_here p [] g h = cc
 point_here p (x ∷ xs) g h = elim (cases bytes_eq bytes_eq-Decides graph_key x.stack p.stack) [
-  | inl is ↦ let e : Some x ≡ Some g = rw is.0 at h in let f : x ≡ g = cc in rw (is.0, is.0) (ap (λ (y : Graph). Some (with_point p y)) f)
+  | inl is ↦ let e : Some x ≡ Some g = rw is.0 at h in let f : x ≡ g = cc in
+      rw (is.0, is.0) (ap (λ (y : Graph). Some (with_point p y)) f)
   | inr not ↦ rw (not.0, not.0) (point_here p xs g (rw not.0 at h))
 ]
 

@@ -9,11 +9,13 @@ use Rattle.row_table.specs.declared.row.Row.{Row}
 use Rattle.mail_table.specs.Mails.{cut_job, cut_letter, job_at, job_key, letter_at, letter_key, put_job, put_letter}
 use Rattle.mail_table.specs.declared.mail.Job.{Job}
 use Rattle.mail_table.specs.declared.mail.Letter.{Letter}
-use Rattle.core_state.specs.State.{cut_graph, cut_past, cut_stack, graph_at, graph_key, past_at, past_key, put_graph, put_past, put_stack, stack_at, stack_key}
+use Rattle.core_state.specs.State.{cut_graph, cut_past, cut_stack, graph_at, graph_key, past_at, past_key, put_graph}
+use Rattle.core_state.specs.State.{put_past, put_stack, stack_at, stack_key}
 use Rattle.core_state.specs.declared.graph.Graph.{Graph}
 use Rattle.core_state.specs.declared.past.Past.{Past}
 use Rattle.core_state.specs.declared.stack.Stack.{Stack}
-use Rattle.table_laws.proofs.Tables.{at-cut_other, at-cut_same, at-key, at-put_other, at-put_same, cases, cut_found, put_found}
+use Rattle.table_laws.proofs.Tables.{at-cut_other, at-cut_same, at-key, at-put_other, at-put_same, cases, cut_found}
+use Rattle.table_laws.proofs.Tables.{put_found}
 
 pub same_some : {A : Type 0} (x y : A) {o : Option A} → o ≡ Some x → o ≡ Some y → x ≡ y
 same_some x y h i = cc
@@ -80,7 +82,8 @@ pub letter-key : (letters : List Letter) (n : ℕ) (l : Letter) → letter_at le
 letter-key letters n l h = at-key nat_eq Decides-eqb letter_key letters n l h
 
 pub letter_put : (q : Letter) (letters : List Letter) {n : ℕ} {a : Letter}
-    → letter_at (put_letter q letters) n ≡ Some a → ((q.no ≡ n) × (q ≡ a)) ⊎ ((q.no ≢ n) × (letter_at letters n ≡ Some a))
+    → letter_at (put_letter q letters) n ≡ Some a
+    → ((q.no ≡ n) × (q ≡ a)) ⊎ ((q.no ≢ n) × (letter_at letters n ≡ Some a))
 letter_put q letters h = put_found nat_eq Decides-eqb letter_key q letters h
 
 pub letter_here : (q : Letter) (letters : List Letter) → letter_at (put_letter q letters) q.no ≡ Some q
@@ -106,7 +109,8 @@ pub stack-key : (stacks : List Stack) (n : List ℕ) (st : Stack) → stack_at s
 stack-key stacks n st h = at-key bytes_eq bytes_eq-Decides stack_key stacks n st h
 
 pub stack_put : (q : Stack) (stacks : List Stack) {n : List ℕ} {a : Stack}
-    → stack_at (put_stack q stacks) n ≡ Some a → ((q.name ≡ n) × (q ≡ a)) ⊎ ((q.name ≢ n) × (stack_at stacks n ≡ Some a))
+    → stack_at (put_stack q stacks) n ≡ Some a
+    → ((q.name ≡ n) × (q ≡ a)) ⊎ ((q.name ≢ n) × (stack_at stacks n ≡ Some a))
 stack_put q stacks h = put_found bytes_eq bytes_eq-Decides stack_key q stacks h
 
 pub stack_here : (q : Stack) (stacks : List Stack) → stack_at (put_stack q stacks) q.name ≡ Some q

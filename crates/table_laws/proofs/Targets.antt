@@ -15,7 +15,8 @@ leads_stands rows n t (ends _ r at l) = (r, at)
 leads_stands rows n t (goes _ m _ r at by up on) = (r, at)
 
 -- where a chain goes on, its row isn't the last
-not_last : (rows : List Row) (n m t : ℕ) (r q : Row) → row_at rows n ≡ Some r → IsLast rows r → row_at rows n ≡ Some q → q.replaced_by ≡ Some m
+not_last : (rows : List Row) (n m t : ℕ) (r q : Row) → row_at rows n ≡ Some r → IsLast rows r → row_at rows n ≡ Some q
+    → q.replaced_by ≡ Some m
     → n < m → Leads rows m t → ⊥
 not_last rows n m t r q at l at_q by up on =
     let (x, at_x) = leads_stands rows m t on in
@@ -34,23 +35,30 @@ leads_once rows n t u (goes _ m _ r at by up on) (goes _ k _ q at' by' up' on') 
     leads_once rows m t u on (subst (λ (x : ℕ). Leads rows x u) (sym same) on')
 
 -- a stack and a name have one current row
-pub current_once : (rows : List Row) (stack name : List ℕ) (r q : Row) → IsCurrentOf rows stack name r → IsCurrentOf rows stack name q → r.no ≡ q.no
+pub current_once : (rows : List Row) (stack name : List ℕ) (r q : Row) → IsCurrentOf rows stack name r
+    → IsCurrentOf rows stack name q → r.no ≡ q.no
 current_once rows stack name r q a b =
     let le : q.no ≤ r.no = a.greatest q.no q b.found b.stack_is b.name_is b.current in
     let ge : r.no ≤ q.no = b.greatest r.no r a.found a.stack_is a.name_is a.current in
     omega arith
 
-pub same_current : (rows : List Row) (stack name : List ℕ) (r q : Row) → IsCurrentOf rows stack name r → IsCurrentOf rows stack name q → r ≡ q
+pub same_current : (rows : List Row) (stack name : List ℕ) (r q : Row) → IsCurrentOf rows stack name r
+    → IsCurrentOf rows stack name q → r ≡ q
 same_current rows stack name r q a b =
-    same_some r q a.found (subst (λ (k : ℕ). row_at rows k ≡ Some q) (sym (current_once rows stack name r q a b)) b.found)
+    same_some r q a.found (subst (λ (k : ℕ). row_at rows k ≡ Some q)
+    (sym (current_once rows stack name r q a b)) b.found)
 
 -- a node has one target
-pub target_once : (rows : List Row) (stack : List ℕ) (node : Node) (t u : ℕ) → IsTarget rows stack node t → IsTarget rows stack node u → t ≡ u
+pub target_once : (rows : List Row) (stack : List ℕ) (node : Node) (t u : ℕ) → IsTarget rows stack node t
+    → IsTarget rows stack node u → t ≡ u
 target_once rows stack node t u (of_c _) (of_c _) = refl
 target_once rows stack node t u (of_u name n _ on) (of_u _ _ _ on') = leads_once rows n t u on on'
-target_once rows stack node t u (of_u name n _ on) (renewed _ _ r none is) = let (q, at) = leads_stands rows n t on in cc
-target_once rows stack node t u (renewed name n r none is) (of_u _ _ _ on) = let (q, at) = leads_stands rows n u on in cc
-target_once rows stack node t u (renewed name n r none is) (renewed _ _ q none' is') = current_once rows stack name r q is is'
+target_once rows stack node t u (of_u name n _ on) (renewed _ _ r none is) = let (q, at) =
+    leads_stands rows n t on in cc
+target_once rows stack node t u (renewed name n r none is) (of_u _ _ _ on) = let (q, at) =
+    leads_stands rows n u on in cc
+target_once rows stack node t u (renewed name n r none is) (renewed _ _ q none' is') =
+    current_once rows stack name r q is is'
 
 pub cleanup_target : (rows : List Row) (stack : List ℕ) (n t : ℕ) → IsTarget rows stack (C n) t → n ≡ t
 cleanup_target rows stack n t (of_c _) = refl
@@ -69,14 +77,16 @@ SameWay-same r = record { no_ = refl; stack = refl; name = refl; act = refl; rep
 module _ (before after : List Row) (alike : Alike SameWay before after) where
   last : (o a : Row) → SameWay o a → IsLast before o → IsLast after a
   last o a same h m q by up at =
-      let (p, at_p, _) = alike.were m q at in h m p (sym same.replaced_by ∙ by) (subst (λ (k : ℕ). k < m) same.no_ up) at_p
+      let (p, at_p, _) = alike.were m q at in
+      h m p (sym same.replaced_by ∙ by) (subst (λ (k : ℕ). k < m) same.no_ up) at_p
 
   pub leads_kept : (n t : ℕ) → Leads before n t → Leads after n t
   leads_kept n t (ends _ r at h) = let (a, at_a, same) = alike.are n r at in ends n a at_a (last r a same h)
   leads_kept n t (goes _ m _ r at by up on) =
       let (a, at_a, same) = alike.are n r at in goes n m t a at_a (same.replaced_by ∙ by) up (leads_kept m t on)
 
-  pub current_kept : (stack name : List ℕ) (r : Row) → IsCurrentOf before stack name r → (a : Row) × (a.no ≡ r.no) × IsCurrentOf after stack name a
+  pub current_kept : (stack name : List ℕ) (r : Row) → IsCurrentOf before stack name r
+      → (a : Row) × (a.no ≡ r.no) × IsCurrentOf after stack name a
   current_kept stack name r is =
       let (a, at_a, same) = alike.are r.no r is.found in (a, same.no_, by a at_a same) where
         by : (a : Row) → row_at after r.no ≡ Some a → SameWay r a → IsCurrentOf after stack name a
@@ -84,7 +94,11 @@ module _ (before after : List Row) (alike : Alike SameWay before after) where
           found = subst (λ (k : ℕ). row_at after k ≡ Some a) (sym same.no_) at_a;
           stack_is = same.stack ∙ is.stack_is;
           name_is = same.name ∙ is.name_is;
-          current = record { kept = λ e. is.current.kept (sym same.act ∙ e); last = same.replaced_by ∙ is.current.last };
+          current = record {
+            kept = λ e. is.current.kept (sym same.act ∙ e);
+            last = same.replaced_by
+                ∙ is.current.last;
+          };
           greatest = λ m q at of called current.
               let (p, at_p, like) = alike.were m q at in
               let le : m ≤ r.no = is.greatest m p at_p (sym like.stack ∙ of) (sym like.name ∙ called)

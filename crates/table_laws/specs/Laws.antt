@@ -6,4 +6,5 @@ use Rattle.step_relation.specs.Targets.{IsTarget}
 
 -- a node has at most one target
 abbrev pub TargetIsOne : Type 0
-TargetIsOne = (rows : List Row) (stack : List ℕ) (node : Node) (t u : ℕ) → IsTarget rows stack node t → IsTarget rows stack node u → t ≡ u
+TargetIsOne = (rows : List Row) (stack : List ℕ) (node : Node) (t u : ℕ) → IsTarget rows stack node t
+    → IsTarget rows stack node u → t ≡ u

@@ -6,7 +6,7 @@ ghost use Rattle.core_state.specs.declared.entry.Actor.TheVariants.{Main};
 ghost use Rattle.core_state.specs.declared.entry.EngineChange.TheVariants as engine;
 ghost use Rattle.core_state.specs.declared.entry.What.TheVariants as what;
 ghost use Rattle.step_relation.specs.Refusals.{RefusesEnlist};
-ghost use Rattle.step_relation.specs.Steps.{past_engines};
+ghost use Rattle.step_relation.specs.Steps.{Step, past_engines};
 ghost use Rattle.step_relation.specs.Writes.{entry_of};
 ghost use Rattle.takeover_steps.specs.Engines.{Enlists};
 
@@ -21,6 +21,7 @@ pub const ENGINE_LIMIT: usize = 64;
 /// The enlisting of an engine; refuses `TooManyEngines` where so many are live as may be, else
 /// `Worn` where its number would be 2^62.
 pub fn enlist(alloc: Global, s: &State) -> Result<Made, Refusal>
+    ensures step { IfOk result (λ m. Step s.now.state m.changes m.entries) }
     ensures made { IfOk result (λ m. Enlists s.now.state m.changes m.entries) }
     ensures cause { IfErr result (λ r. (r ≡ Memory) ⊎ RefusesEnlist s.now.state r) }
 {

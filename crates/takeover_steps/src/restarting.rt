@@ -2,7 +2,7 @@
 ghost use Rattle.std.specs.Prelude.{◌≡◌, ◌≤◌, ◌+◌, ◌++◌, ◌⊎◌, ◌^◌, ◌∷◌, [], IfOk, IfErr, OnOk, map};
 ghost use Rattle.heat_plan.specs.declared.refusal.Refusal.TheVariants.{Memory};
 ghost use Rattle.core_state.specs.declared.change.Change.TheVariants as change_to;
-ghost use Rattle.step_relation.specs.Steps.{engine_limit, engines_from, restart_changes};
+ghost use Rattle.step_relation.specs.Steps.{Step, engine_limit, engines_from, restart_changes};
 ghost use Rattle.takeover_steps.specs.Engines.{RefusesRestart, Restarts};
 
 use crate::enlisting::past_engines;
@@ -15,6 +15,7 @@ use std::alloc::{AllocError, Global};
 pub fn restart(alloc: Global, s: &State, count: u8) -> Result<Made, Refusal>
     requires some { 1 ≤ count }
     requires few { count ≤ engine_limit }
+    ensures step { IfOk result (λ m. Step s.now.state m.changes m.entries) }
     ensures made { IfOk result (λ m. Restarts s.now.state count m.changes m.entries) }
     ensures cause { IfErr result (λ r. (r ≡ Memory) ⊎ RefusesRestart s.now.state count r) }
 {

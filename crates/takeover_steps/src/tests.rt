@@ -7,24 +7,24 @@ use heat_plan::{EngineNo, Refusal};
 use std::alloc::Global;
 use std::test::Fail;
 
-/// How many changes were made, or why none was.
+// How many changes were made, or why none was.
 fn told(made: Result<Made, Refusal>) -> Result<usize, Refusal> {
     Ok(made?.changes.len())
 }
 
-/// Enlists an engine of this number.
+// Enlists an engine of this number.
 fn put_engine(alloc: Global, state: &mut State, no: u64) -> Option<()> {
     let e = EngineNo::new(no)?;
     state.apply(alloc, Change::Enlist(e)).ok()
 }
 
-/// Two engines, of the numbers 3 and 5.
+// Two engines, of the numbers 3 and 5.
 fn put_engines(alloc: Global, state: &mut State) -> Option<()> {
     put_engine(alloc, state, 3)?;
     put_engine(alloc, state, 5)
 }
 
-/// What a stop of the engine 5 makes, and one of the engine 4.
+// What a stop of the engine 5 makes, and one of the engine 4.
 fn stops(alloc: Global, state: &State) -> Option<(Result<usize, Refusal>, Result<usize, Refusal>)> {
     let live = EngineNo::new(5)?;
     let absent = EngineNo::new(4)?;
@@ -54,7 +54,7 @@ fn a_second_engine_is_enlisted(rt: HostRuntime) -> Result<(), Fail> {
     Ok(())
 }
 
-/// Fills the live engines up to the limit.
+// Fills the live engines up to the limit.
 fn fill(alloc: Global, state: &mut State) -> Option<()> {
     for no in 1..65 {
         put_engine(alloc, state, no)?;

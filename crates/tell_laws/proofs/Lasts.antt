@@ -7,7 +7,8 @@ use Rattle.heat_plan.specs.declared.phase.Act.TheVariants.{Create}
 use Rattle.core_state.specs.State.{stack_at}
 use Rattle.core_state.specs.declared.entry.Entry.{Entry}
 use Rattle.core_state.specs.declared.stack.Stack.{Stack}
-use Rattle.history.specs.Last.{HasCreate, IsCommandOf, IsCompleted, IsCompletion, IsLast, IsNeverReached, IsReached, WasReached, at_first, created, kept, opened, reached, since}
+use Rattle.history.specs.Last.{HasCreate, IsCommandOf, IsCompleted, IsCompletion, IsLast, IsNeverReached, IsReached}
+use Rattle.history.specs.Last.{WasReached, at_first, created, kept, opened, reached, since}
 use Rattle.history.specs.Newest.{Latest}
 use Rattle.history.specs.Opening.{Opening}
 use Rattle.table_laws.proofs.Rows.{stack-key}

@@ -22,9 +22,11 @@ use Rattle.history.specs.Marked.{Completed, FailedFor, Marked, mark_by_cause, ma
 use Rattle.history.specs.Newest.{latest_of}
 use Rattle.history.specs.Opening.{Opening}
 use Rattle.soundness.specs.Tells.{IsGone, deleted, TellsStack, deleted}
-use Rattle.table_laws.proofs.Rows.{past_kept, stack-key, stack_cut, stack_else, stack_here, stack_kept, stack_put, text_or_not}
+use Rattle.table_laws.proofs.Rows.{past_kept, stack-key, stack_cut, stack_else, stack_here, stack_kept, stack_put}
+use Rattle.table_laws.proofs.Rows.{text_or_not}
 use Rattle.tell_laws.proofs.Appends.{marked-append, newest-append, rollback-append}
-use Rattle.tell_laws.proofs.Beside.{IsBeside, beside_mark, beside_silent, gone_beside, passing_failed, past_same, stack_beside}
+use Rattle.tell_laws.proofs.Beside.{IsBeside, beside_mark, beside_silent, gone_beside, passing_failed, past_same}
+use Rattle.tell_laws.proofs.Beside.{stack_beside}
 use Rattle.tell_laws.proofs.Lasts.{last_kept}
 use Rattle.tell_laws.proofs.Newests.{last_completed}
 use Rattle.tell_laws.proofs.Silence.{AreUnmarking}

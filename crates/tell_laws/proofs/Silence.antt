@@ -13,7 +13,8 @@ use Rattle.history.specs.Could.{could_by, could_of}
 use Rattle.history.specs.Marked.{Marked, marked_by, marked_of}
 use Rattle.history.specs.Newest.{Latest, newest, newest_by, rollback_by, rollback_of}
 use Rattle.history.specs.Opening.{Opening}
-use Rattle.tell_laws.proofs.Appends.{could-append, could_on, marked-append, marked_on, newest-append, newest_on, rollback-append, rollback_on}
+use Rattle.tell_laws.proofs.Appends.{could-append, could_on, marked-append, marked_on, newest-append, newest_on}
+use Rattle.tell_laws.proofs.Appends.{rollback-append, rollback_on}
 use Rattle.core_state.specs.declared.entry.What.TheVariants as what
 
 -- neither a command nor a mark

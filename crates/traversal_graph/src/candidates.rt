@@ -29,8 +29,8 @@ pub(crate) fn add_needs(draft: &mut Draft, items: &[Item]) -> Result<(), AllocEr
     Ok(())
 }
 
-/// From each item that one item needs to that item. No edge leads out of the item meanwhile, so what is
-/// reached from it stays the same.
+// From each item that one item needs to that item. No edge leads out of the item meanwhile, so what is
+// reached from it stays the same.
 fn add_needs_of(
     draft: &mut Draft,
     items: &[Item],
@@ -47,7 +47,7 @@ fn add_needs_of(
     draw_needs(draft, items, place, item, &reached)
 }
 
-/// Considers the needs of an item, from which those nodes are reached.
+// Considers the needs of an item, from which those nodes are reached.
 fn draw_needs(
     draft: &mut Draft,
     items: &[Item],
@@ -72,7 +72,7 @@ fn draw_needs(
     Ok(())
 }
 
-/// The place of the item of a name, and past all items where there is none.
+// The place of the item of a name, and past all items where there is none.
 fn place_of_name(items: &[Item], name: &ResName) -> usize
     requires { Rising (names_of items.now) }
     ensures { result ≡ place_of items.now name.now }
@@ -100,7 +100,7 @@ pub(crate) fn add_rows(
     Ok(())
 }
 
-/// From one item to the rows of its name.
+// From one item to the rows of its name.
 fn add_rows_behind(
     draft: &mut Draft,
     first: u32,
@@ -135,8 +135,8 @@ pub(crate) fn add_requires(
     Ok(())
 }
 
-/// From one row to the rows that it requires. No edge leads to the row meanwhile, so what reaches it
-/// stays the same.
+// From one row to the rows that it requires. No edge leads to the row meanwhile, so what reaches it
+// stays the same.
 fn add_required_behind(
     draft: &mut Draft,
     first: u32,
@@ -153,7 +153,7 @@ fn add_required_behind(
     draw_required(draft, first, rows, r, row, &reaching)
 }
 
-/// Considers the rows that a row requires, which those nodes reach.
+// Considers the rows that a row requires, which those nodes reach.
 fn draw_required(
     draft: &mut Draft,
     first: u32,
@@ -194,7 +194,7 @@ pub(crate) fn add_replaces(
     Ok(())
 }
 
-/// From one row to the row that it replaces.
+// From one row to the row that it replaces.
 fn add_replaced_behind(
     draft: &mut Draft,
     first: u32,
@@ -214,7 +214,7 @@ fn add_replaced_behind(
     Ok(())
 }
 
-/// Whether a row replaces the row of a number.
+// Whether a row replaces the row of a number.
 fn replaces(row: &RowBrief, no: RowNo) -> bool
     ensures { result ≡ option_map_or (λ old. old == no) row.now.replaces false }
 {

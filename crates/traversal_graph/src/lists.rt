@@ -69,7 +69,7 @@ impl TravGraph {
     }
 }
 
-/// Whether an edge leads into a node.
+// Whether an edge leads into a node.
 fn is_behind(edges: &[(u32, u32)], node: u32) -> bool
     ensures leads { OnTrue result ((before : ℕ) × Joins edges.now before node) }
     ensures leaf { OnFalse result ((before : ℕ) → ¬ Joins edges.now before node) }
@@ -82,7 +82,7 @@ fn is_behind(edges: &[(u32, u32)], node: u32) -> bool
     false
 }
 
-/// So many lists without nodes.
+// So many lists without nodes.
 fn empty_lists(alloc: Global, count: usize) -> Result<Seq<Seq<u32>>, AllocError>
     ensures { IfOk result (λ all. all ≡ replicate count []) }
 {
@@ -93,7 +93,7 @@ fn empty_lists(alloc: Global, count: usize) -> Result<Seq<Seq<u32>>, AllocError>
     Ok(all)
 }
 
-/// Puts a node in among another's predecessors, where there is such a list.
+// Puts a node in among another's predecessors, where there is such a list.
 fn put_pred(all: &mut Seq<Seq<u32>>, before: u32, after: u32) -> Result<(), AllocError>
     requires { AreRising all.old }
     ensures { OnOk result (PutsPred before after all.old all.new) }

@@ -7,8 +7,8 @@ use heat_value::{Equals, Seq, Text, TryCopy};
 use std::process::Abort;
 use std::test::Fail;
 
-/// What a graph is drawn from, and what it is to be. Needs are pairs of an item and its need,
-/// required and replaced rows pairs of a row and the other.
+// What a graph is drawn from, and what it is to be. Needs are pairs of an item and its need,
+// required and replaced rows pairs of a row and the other.
 #[derive(Drop)]
 struct Case<'a> {
     name: &'a str,
@@ -139,7 +139,7 @@ fn rows_of(rt: &impl AllocGlobal, case: &Case<'_>) -> Result<Vec<RowBrief>, Fail
     Ok(rows)
 }
 
-/// The numbers that stand beside this one.
+// The numbers that stand beside this one.
 fn numbers_beside(
     rt: &impl AllocGlobal,
     pairs: &[(u64, u64)],
@@ -158,7 +158,7 @@ fn number(no: u64) -> Result<RowNo, Fail> {
     Ok(RowNo::new(no).ok_or("a number")?)
 }
 
-/// The rows 101, 102 and so on.
+// The rows 101, 102 and so on.
 fn chosen_for(rt: &impl AllocGlobal, count: usize) -> Result<Vec<RowNo>, Fail> {
     let mut chosen = Vec::new(rt.alloc());
     for place in 0..count {
@@ -178,7 +178,7 @@ fn shows(rt: &(impl Abort + AllocGlobal), case: &Case<'_>, graph: &TravGraph) ->
     Ok(())
 }
 
-/// Whether a node is an update node, and its row's number.
+// Whether a node is an update node, and its row's number.
 fn kind_and_row(node: &Node) -> (bool, u64) {
     match node {
         Node::U(_, no) => (true, no.get()),

@@ -1,5 +1,6 @@
 -- All of a kind below a bound, listed by rising number.
-use Rattle.std.proofs.Common.{◌≡◌, inl, inr, ◌<◌, ◌≤◌, ℕ, zero, suc, ◌+◌, List, [], ◌∷◌, length, get_or, map, map-id, Option, Some, None, refl, sym, ap, subst, arith}
+use Rattle.std.proofs.Common.{◌≡◌, inl, inr, ◌<◌, ◌≤◌, ℕ, zero, suc, ◌+◌, List, [], ◌∷◌, length, get_or, map, map-id}
+use Rattle.std.proofs.Common.{Option, Some, None, refl, sym, ap, subst, arith}
 use Rattle.std.specs.Prelude.{Contains}
 use Rattle.std.proofs.lemmas.List.{get_or_default}
 use Rattle.dep_graph.specs.Lists.{IsRising, ListsAll}
@@ -44,7 +45,8 @@ module _ {A : Type 0} (key : A → ℕ) (find : ℕ → Option A) (keyed : (n : 
     },
   )
   collect (suc count) low high e = by (find low) refl (collect count (low + 1) high (omega (arith, e))) where
-    by : (o : Option A) → find low ≡ o → (xs : List A) × Collects (low + 1) high xs → (xs : List A) × Collects low high xs
+    by : (o : Option A) → find low ≡ o → (xs : List A) × Collects (low + 1) high xs
+        → (xs : List A) × Collects low high xs
     by None is (xs, c) = (
       xs,
       record {
@@ -62,14 +64,16 @@ module _ {A : Type 0} (key : A → ℕ) (find : ℕ → Option A) (keyed : (n : 
           y ∷ xs,
           record {
             rising = rising-cons (key y) (map key xs)
-                (λ n at. let (x, at_x, e) = key_was xs n at in let h = c.above x at_x in omega (arith, h, e, at_y)) c.rising;
+                (λ n at. let (x, at_x, e) = key_was xs n at in let h = c.above x at_x in
+                omega (arith, h, e, at_y)) c.rising;
             has = λ n x le lt found. elim (same_or_not low n) [
               | inl same ↦ (let found_y : find n ≡ Some y = subst (λ (k : ℕ). find k ≡ Some y) same is in
                   let same_x : y ≡ x = cc in subst (Contains (y ∷ xs)) same_x (in_head xs y))
               | inr ne ↦ in_tail xs y x (c.has n x (omega (arith, le, ne)) lt found)
             ];
             only = λ x at. elim (cons_cases xs y x at) [
-              | inl same ↦ subst (λ (z : A). find (key z) ≡ Some z) (sym same) (subst (λ (k : ℕ). find k ≡ Some y) (sym at_y) is)
+              | inl same ↦ subst (λ (z : A). find (key z) ≡ Some z) (sym same)
+                  (subst (λ (k : ℕ). find k ≡ Some y) (sym at_y) is)
               | inr later ↦ c.only x later
             ];
             above = λ x at. elim (cons_cases xs y x at) [
@@ -102,6 +106,9 @@ module _ (P : ℕ → Type 0) (d : (n : ℕ) → Decided (P n)) where
         ns,
         record {
           rising = subst IsRising (map-id ns) c.rising;
-          each = λ n. ((λ at. (chosen_is n n (d n) (c.only n at)).1), (λ p. c.has n n (omega arith) (within n p) (is_chosen n (d n) p)));
+          each = λ n. (
+            (λ at. (chosen_is n n (d n) (c.only n at)).1),
+            (λ p. c.has n n (omega arith) (within n p) (is_chosen n (d n) p)),
+          );
         },
       )

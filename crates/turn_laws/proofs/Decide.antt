@@ -1,5 +1,6 @@
 -- What can be decided: of numbers up to a bound, of the members of a list, and of the parts of both.
-use Rattle.std.proofs.Common.{◌≡◌, ◌⊎◌, inl, inr, ◌<◌, ◌≤◌, ℕ, zero, suc, ◌+◌, Bool, true, false, List, [], ◌∷◌, Some, refl, ap, subst, ◌∙◌, arith}
+use Rattle.std.proofs.Common.{◌≡◌, ◌⊎◌, inl, inr, ◌<◌, ◌≤◌, ℕ, zero, suc, ◌+◌, Bool, true, false, List, [], ◌∷◌, Some}
+use Rattle.std.proofs.Common.{refl, ap, subst, ◌∙◌, arith}
 use Rattle.std.specs.Prelude.{Contains, nat_eq}
 use Rattle.std.proofs.lemmas.Bool.Decides.{Decides-eqb}
 use Rattle.heat_plan.specs.Tables.{at}
@@ -40,12 +41,14 @@ flag_or_not true = inl refl
 flag_or_not false = inr (λ e. cc)
 
 -- the least number of a kind, or none below the bound
-pub least_or_none : (P : ℕ → Type 0) → ((n : ℕ) → Decided (P n)) → (b : ℕ) → ((n : ℕ) × IsLeast P n) ⊎ ((n : ℕ) → n < b → ¬ P n)
+pub least_or_none : (P : ℕ → Type 0) → ((n : ℕ) → Decided (P n)) → (b : ℕ)
+    → ((n : ℕ) × IsLeast P n) ⊎ ((n : ℕ) → n < b → ¬ P n)
 least_or_none P d zero = inr (λ n lt p. omega (arith, lt))
 least_or_none P d (suc b) = elim (least_or_none P d b) [
   | inl found ↦ inl found
   | inr none ↦ elim (d b) [
-    | inl p ↦ inl (b, record { is = p; least = λ m q. elim (below_or_not m b) [ inl lt ↦ absurd (none m lt q) | inr le ↦ le ] })
+    | inl p ↦ inl
+        (b, record { is = p; least = λ m q. elim (below_or_not m b) [ inl lt ↦ absurd (none m lt q) | inr le ↦ le ] })
     | inr not ↦ inr (λ n lt p. elim (same_or_not n b) [
       | inl is ↦ not (subst P is p)
       | inr ne ↦ none n (elim (below_or_not n b) [ inl less ↦ less | inr le ↦ absurd (ne (omega (arith, lt, le))) ]) p
@@ -59,7 +62,8 @@ pub record IsGreatest (P : ℕ → Type 0) (b n : ℕ) : Type 0 where
   pub below : n < b
   pub greatest : (m : ℕ) → m < b → P m → m ≤ n
 
-pub greatest_or_none : (P : ℕ → Type 0) → ((n : ℕ) → Decided (P n)) → (b : ℕ) → ((n : ℕ) × IsGreatest P b n) ⊎ ((n : ℕ) → n < b → ¬ P n)
+pub greatest_or_none : (P : ℕ → Type 0) → ((n : ℕ) → Decided (P n)) → (b : ℕ)
+    → ((n : ℕ) × IsGreatest P b n) ⊎ ((n : ℕ) → n < b → ¬ P n)
 greatest_or_none P d zero = inr (λ n lt p. omega (arith, lt))
 greatest_or_none P d (suc b) = elim (d b) [
   | inl p ↦ inl (b, record { is = p; below = omega arith; greatest = λ m lt q. omega (arith, lt) })
@@ -71,7 +75,8 @@ greatest_or_none P d (suc b) = elim (d b) [
         below = omega (arith, g.below);
         greatest = λ m lt q. elim (same_or_not m b) [
           | inl is ↦ absurd (not (subst P is q))
-          | inr ne ↦ g.greatest m (elim (below_or_not m b) [ inl less ↦ less | inr le ↦ absurd (ne (omega (arith, lt, le))) ]) q
+          | inr ne ↦ g.greatest m
+              (elim (below_or_not m b) [ inl less ↦ less | inr le ↦ absurd (ne (omega (arith, lt, le))) ]) q
         ];
       },
     )
@@ -90,7 +95,8 @@ all_or_one P d b = elim (least_or_none (λ n. ¬ P n) (λ n. not_or (d n)) b) [
 ]
 
 -- a member of a list is of the kind, or none is
-pub some_or_none : {A : Type 0} (P : A → Type 0) → ((x : A) → Decided (P x)) → (xs : List A) → ((x : A) × Contains xs x × P x) ⊎ ((x : A) → Contains xs x → ¬ P x)
+pub some_or_none : {A : Type 0} (P : A → Type 0) → ((x : A) → Decided (P x)) → (xs : List A)
+    → ((x : A) × Contains xs x × P x) ⊎ ((x : A) → Contains xs x → ¬ P x)
 some_or_none P d [] = inr (λ x c p. no_member x c)
 some_or_none {A = A} P d (y ∷ ys) = elim (d y) [
   | inl p ↦ inl (y, in_head ys y, p)
@@ -100,7 +106,8 @@ some_or_none {A = A} P d (y ∷ ys) = elim (d y) [
   ]
 ]
 
-pub each_or_one : {A : Type 0} (P : A → Type 0) → ((x : A) → Decided (P x)) → (xs : List A) → ((x : A) → Contains xs x → P x) ⊎ ((x : A) × Contains xs x × ¬ P x)
+pub each_or_one : {A : Type 0} (P : A → Type 0) → ((x : A) → Decided (P x)) → (xs : List A)
+    → ((x : A) → Contains xs x → P x) ⊎ ((x : A) × Contains xs x × ¬ P x)
 each_or_one P d xs = elim (some_or_none (λ x. ¬ P x) (λ x. not_or (d x)) xs) [
   | inl found ↦ inr found
   | inr none ↦ inl (λ x c. elim (d x) [ inl p ↦ p | inr not ↦ absurd (none x c not) ])
@@ -119,7 +126,8 @@ pair_same x y e f =
 
 pub pair_or_not : (x y : ℕ × ℕ) → Decided (x ≡ y)
 pair_or_not x y = elim (same_or_not x.0 y.0) [
-  | inl e ↦ elim (same_or_not x.1 y.1) [ inl f ↦ inl (pair_same x y e f) | inr not ↦ inr (λ is. not (ap (λ (p : ℕ × ℕ). p.1) is)) ]
+  | inl e ↦ elim (same_or_not x.1 y.1)
+      [ inl f ↦ inl (pair_same x y e f) | inr not ↦ inr (λ is. not (ap (λ (p : ℕ × ℕ). p.1) is)) ]
   | inr not ↦ inr (λ is. not (ap (λ (p : ℕ × ℕ). p.0) is))
 ]
 
@@ -136,7 +144,8 @@ bound_of {A = A} key (y ∷ ys) =
     )
 
 -- so is each key under which a table finds something
-pub bound_at : {A : Type 0} (key : A → ℕ) (xs : List A) → (b : ℕ) × ((k : ℕ) (x : A) → at nat_eq key xs k ≡ Some x → k < b)
+pub bound_at : {A : Type 0} (key : A → ℕ) (xs : List A)
+    → (b : ℕ) × ((k : ℕ) (x : A) → at nat_eq key xs k ≡ Some x → k < b)
 unfolding at
 bound_at key [] = (0, λ k x h. cc)
 bound_at {A = A} key (y ∷ ys) =

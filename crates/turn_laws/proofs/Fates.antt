@@ -21,7 +21,8 @@ use Rattle.step_relation.specs.Begins.{IsSame, IsSoft, changed, given_up, overta
 use Rattle.step_relation.specs.Cleanups.{IsKept, IsStuck}
 use Rattle.step_relation.specs.Freshness.{plan_of}
 use Rattle.table_laws.proofs.Rows.{row_self, same_or_not, text_or_not}
-use Rattle.next_laws.proofs.Verdicts.{Clears, Decides, Fate, Lot, creates, deletes, gone, keeps, kept, leaves, purges, replaces, resumes, retains, sticks, updates}
+use Rattle.next_laws.proofs.Verdicts.{Clears, Decides, Fate, Lot, creates, deletes, gone, keeps, kept, leaves, purges}
+use Rattle.next_laws.proofs.Verdicts.{replaces, resumes, retains, sticks, updates}
 use Rattle.turn_laws.proofs.Decide.{Decided, both_or_not, exchanged, member_or_not}
 use Rattle.turn_laws.proofs.Targets.{current_is_or_not, delete_or_not}
 
@@ -50,7 +51,8 @@ members_or_not : (a b : Members) → Decided (a ≡ b)
 members_or_not a b = by (same_members a b) refl where
   by : (x : Bool) → same_members a b ≡ x → Decided (a ≡ b)
   by true e = inl (same_members-true a b e)
-  by false e = inr (λ is. let t : same_members a b ≡ true = subst (λ (m : Members). same_members a m ≡ true) is (same_members-same a) in cc)
+  by false e = inr (λ is. let t : same_members a b ≡ true = subst (λ (m : Members). same_members a m ≡ true) is
+      (same_members-same a) in cc)
 
 -- at an update node
 module _ (r : Row) (item : Item) (trav : ℕ) (props : Members) (effect : Effect) where
@@ -63,7 +65,8 @@ module _ (r : Row) (item : Item) (trav : ℕ) (props : Members) (effect : Effect
     | inr not ↦ inr (λ k. not k.kind)
     | inl kind ↦ elim (in_place_or_not effect) [
       | inr not ↦ inr (λ k. not k.in_place)
-      | inl is ↦ inl (record { kind = kind; differs = λ same. differs (record { kind = kind; props_are = same }); in_place = is })
+      | inl is ↦ inl
+          (record { kind = kind; differs = λ same. differs (record { kind = kind; props_are = same }); in_place = is })
     ]
   ]
 
@@ -91,13 +94,15 @@ module _ (r : Row) (item : Item) (trav : ℕ) (props : Members) (effect : Effect
 module _ (s : StateData) (st : Stack) where
   kept_decided : (r : Row) → row_at s.rows r.no ≡ Some r → Decided (IsKept s st r)
   kept_decided r at = exchanged (λ p. record { current = p.0; planned = p.1 }) (λ k. (k.current, k.planned))
-      (both_or_not (current_is_or_not s.rows r.stack r.name r at) (member_or_not text_or_not (names_of (plan_of st.plan).items) r.name))
+      (both_or_not (current_is_or_not s.rows r.stack r.name r at)
+      (member_or_not text_or_not (names_of (plan_of st.plan).items) r.name))
 
   stuck_decided : (r : Row) → Decided (IsStuck r st.trav)
-  stuck_decided r = elim (both_or_not (both_or_not (delete_or_not r.act) (failed_or_not r.status)) (same_or_not r.trav st.trav)) [
-    | inl p ↦ inl (record { act = p.0.0; status = p.0.1; newest = p.1 })
-    | inr not ↦ inr (λ k. not ((k.act, k.status), k.newest))
-  ]
+  stuck_decided r =
+      elim (both_or_not (both_or_not (delete_or_not r.act) (failed_or_not r.status)) (same_or_not r.trav st.trav)) [
+        | inl p ↦ inl (record { act = p.0.0; status = p.0.1; newest = p.1 })
+        | inr not ↦ inr (λ k. not ((k.act, k.status), k.newest))
+      ]
 
   pub lot_exists : (n : ℕ) (row : Option Row) → row_at s.rows n ≡ row → (lot : Lot) × Clears s st row lot
   lot_exists n None at = (_, gone)

@@ -13,14 +13,22 @@ use Rattle.core_state.specs.declared.change.Change.{Change}
 use Rattle.core_state.specs.declared.entry.Entry.{Entry}
 use Rattle.core_state.specs.declared.entry.Why.{Why}
 use Rattle.core_state.specs.declared.stack.Stack.{Stack}
-use Rattle.step_relation.specs.Asks.{Asks, Polls, Refuses, by_code, by_failure, by_quota, creates, deletes, looks, updates}
+use Rattle.step_relation.specs.Asks.{Asks, Polls, Refuses, by_code, by_failure, by_quota, creates, deletes, looks}
+use Rattle.step_relation.specs.Asks.{updates}
 use Rattle.step_relation.specs.Given.{Given}
-use Rattle.step_relation.specs.Moves.{Move, ask_begun, ask_failed, begin_failed, begin_faulted, begin_in_place, begin_init, begin_overrun, begin_replaced, begin_resumed, begin_same, clean_deleted, clean_gone, clean_init, clean_kept, clean_retained, clean_stuck, finish, finish_last, finish_overrun, poll_failed, poll_gone, poll_ready, poll_waits, take_dropped, take_free, take_stolen, takeover_fresh, takeover_overrun}
+use Rattle.step_relation.specs.Moves.{Move, ask_begun, ask_failed, begin_failed, begin_faulted, begin_in_place}
+use Rattle.step_relation.specs.Moves.{begin_init, begin_overrun, begin_replaced, begin_resumed, begin_same}
+use Rattle.step_relation.specs.Moves.{clean_deleted, clean_gone, clean_init, clean_kept, clean_retained, clean_stuck}
+use Rattle.step_relation.specs.Moves.{finish, finish_last, finish_overrun, poll_failed, poll_gone, poll_ready}
+use Rattle.step_relation.specs.Moves.{poll_waits, take_dropped, take_free, take_stolen, takeover_fresh}
+use Rattle.step_relation.specs.Moves.{takeover_overrun}
 use Rattle.step_relation.specs.Nexts.{IsIdle}
 use Rattle.step_relation.specs.Turns.{plain, rolls}
 use Rattle.next_laws.proofs.Parts.{IsNext, Kind, Placed, at_job, by_left, by_letter, placed}
 use Rattle.turn_laws.specs.Fits.{TurnIsLive, TurnSuits}
-use Rattle.turn_laws.specs.Suits.{MayAnswer, Suits, asks, cleans, create_begun, create_quota, delete_begun, ends, failed, faults, gone, gone_waits, overruns, poll_broken, poll_ready, prepares, takes, takes_over, update_begun}
+use Rattle.turn_laws.specs.Suits.{MayAnswer, Suits, asks, cleans, create_begun, create_quota, delete_begun, ends}
+use Rattle.turn_laws.specs.Suits.{failed, faults, gone, gone_waits, overruns, poll_broken, poll_ready, prepares, takes}
+use Rattle.turn_laws.specs.Suits.{takes_over, update_begun}
 use Rattle.heat_plan.specs.declared.calls.Answered.TheVariants as answer
 use Rattle.heat_plan.specs.declared.calls.Request.TheVariants as request
 use Rattle.step_relation.specs.Asks as call

@@ -18,7 +18,8 @@ use Rattle.next_laws.proofs.Parts.{AtJob, ByLeft, ByLetter, IsNext, Kind, at_job
 use Rattle.next_laws.proofs.Readings.{names_one, works_one}
 use Rattle.next_laws.proofs.Works.{asks_one, call_one, polls_one}
 use Rattle.turn_laws.specs.Fits.{IsKin, IsOfItem, SuitsIsOneKind, answers, faulted, items, nothing, prepared}
-use Rattle.turn_laws.specs.Suits.{MayAnswer, Suits, asks, cleans, ends, faults, overruns, polls, prepares, takes, takes_over}
+use Rattle.turn_laws.specs.Suits.{MayAnswer, Suits, asks, cleans, ends, faults, overruns, polls, prepares, takes}
+use Rattle.turn_laws.specs.Suits.{takes_over}
 
 module _ (s : StateData) (e : ℕ) where
   -- at a job's begin, where the node isn't an update node that has work

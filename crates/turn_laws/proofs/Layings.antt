@@ -1,5 +1,6 @@
 -- What a command lays out can be found: rows, a graph and its leaves.
-use Rattle.std.proofs.Common.{◌≡◌, inl, inr, ℕ, suc, ◌+◌, List, [], ◌∷◌, ◌++◌, length, map, Option, Some, None, refl, sym, ap, subst, ◌∙◌, arith}
+use Rattle.std.proofs.Common.{◌≡◌, inl, inr, ℕ, suc, ◌+◌, List, [], ◌∷◌, ◌++◌, length, map, Option, Some, None, refl}
+use Rattle.std.proofs.Common.{sym, ap, subst, ◌∙◌, arith}
 use Rattle.std.specs.Prelude.{Contains}
 use Rattle.std.specs.List.Sorted.{IsNonDecreasing}
 use Rattle.std.proofs.lemmas.List.Sorted.{IsPermutation-refl}
@@ -32,9 +33,17 @@ chosen_for : (s : StateData) (stack : List ℕ) (trav next : ℕ) (items : List 
 chosen_for s stack trav next [] = record { numbers = []; rows = []; chooses = none next }
 chosen_for s stack trav next (item ∷ items) = elim (current_or_none s.rows stack item.name) [
   | inl found ↦ let (r, is) = found in let rest = chosen_for s stack trav next items in
-      record { numbers = r.no ∷ rest.numbers; rows = rest.rows; chooses = current next item items r rest.numbers rest.rows is rest.chooses }
+      record {
+        numbers = r.no ∷ rest.numbers;
+        rows = rest.rows;
+        chooses = current next item items r rest.numbers rest.rows is rest.chooses;
+      }
   | inr missing ↦ let rest = chosen_for s stack trav (next + 1) items in
-      record { numbers = next ∷ rest.numbers; rows = new_row stack trav next item ∷ rest.rows; chooses = fresh next item items rest.numbers rest.rows missing rest.chooses }
+      record {
+        numbers = next ∷ rest.numbers;
+        rows = new_row stack trav next item ∷ rest.rows;
+        chooses = fresh next item items rest.numbers rest.rows missing rest.chooses;
+      }
 ]
 
 -- the rows of a stack
@@ -43,11 +52,13 @@ module _ (rows : List Row) (stack : List ℕ) where
   of_stack None = None
   of_stack (Some r) = elim (text_or_not r.stack stack) [ inl is ↦ Some r | inr not ↦ None ]
 
-  kept_row : (r x : Row) (d : Decided (r.stack ≡ stack)) → elim d as (λ _. Option Row) [ inl is ↦ Some r | inr not ↦ None ] ≡ Some x → (r ≡ x) × (x.stack ≡ stack)
+  kept_row : (r x : Row) (d : Decided (r.stack ≡ stack))
+      → elim d as (λ _. Option Row) [ inl is ↦ Some r | inr not ↦ None ] ≡ Some x → (r ≡ x) × (x.stack ≡ stack)
   kept_row r x (inl is) e = let same : r ≡ x = cc in (same, subst (λ (q : Row). q.stack ≡ stack) same is)
   kept_row r x (inr not) e = cc
 
-  keeps_row : (r : Row) (d : Decided (r.stack ≡ stack)) → r.stack ≡ stack → elim d as (λ _. Option Row) [ inl is ↦ Some r | inr not ↦ None ] ≡ Some r
+  keeps_row : (r : Row) (d : Decided (r.stack ≡ stack)) → r.stack ≡ stack
+      → elim d as (λ _. Option Row) [ inl is ↦ Some r | inr not ↦ None ] ≡ Some r
   keeps_row r (inl is) of = refl
   keeps_row r (inr not) of = absurd (not of)
 
@@ -60,7 +71,8 @@ module _ (rows : List Row) (stack : List ℕ) where
   own_is n x e = by (row_at rows n) refl e where
     by : (o : Option Row) → row_at rows n ≡ o → of_stack o ≡ Some x → (row_at rows n ≡ Some x) × (x.stack ≡ stack)
     by None at h = cc
-    by (Some r) at h = let (same, of) = kept_row r x (text_or_not r.stack stack) h in (at ∙ ap (λ (q : Row). Some q) same, of)
+    by (Some r) at h = let (same, of) = kept_row r x (text_or_not r.stack stack) h in
+        (at ∙ ap (λ (q : Row). Some q) same, of)
 
   is_own : (n : ℕ) (x : Row) → row_at rows n ≡ Some x → x.stack ≡ stack → own_row n ≡ Some x
   unfolding own_row

@@ -44,7 +44,8 @@ named_or_not x = by x.name refl where
 
 required_or_not : (inputs : List Input) (n : ℕ) → Decided (IsRequired inputs n)
 required_or_not inputs n = elim (some_or_none Gives gives_or_not inputs) [
-  | inl found ↦ let (x, among, (named, row)) = found in inl (record { input = x; among = among; name = named.0; named = named.1; row = row })
+  | inl found ↦ let (x, among, (named, row)) = found in
+      inl (record { input = x; among = among; name = named.0; named = named.1; row = row })
   | inr none ↦ inr (λ k. none k.input k.among ((k.name, k.named), k.row))
 ] where
   Gives : Input → Type 0
@@ -59,14 +60,16 @@ required_or_not inputs n = elim (some_or_none Gives gives_or_not inputs) [
 required_list : (inputs : List Input) → (ns : List ℕ) × ListsAll (IsRequired inputs) ns
 required_list inputs =
     let (b, within) = bound_of (λ (x : Input). x.row) inputs in
-    all_of (IsRequired inputs) (required_or_not inputs) b (λ n k. let lt = within k.input k.among in subst (λ (m : ℕ). m < b) k.row lt)
+    all_of (IsRequired inputs) (required_or_not inputs) b
+    (λ n k. let lt = within k.input k.among in subst (λ (m : ℕ). m < b) k.row lt)
 
 polled_for : (r : Row) → (asked : Request) × Polls r asked
 polled_for r = elim (delete_or_not r.act) [ inl is ↦ (_, looks is) | inr not ↦ (_, polls not) ]
 
 module _ (s : StateData) (e : ℕ) (h : HasWork s e) where
   -- a job at Taken that has work
-  begins_with : (j : Job) (w : Works s e j Taken) (st : Stack) (g : Graph) (node : Node) (row : Option Row) → Names s j.letter st g node
+  begins_with : (j : Job) (w : Works s e j Taken) (st : Stack) (g : Graph) (node : Node) (row : Option Row)
+      → Names s j.letter st g node
       → row_at s.rows j.row ≡ row → Serves st node row → Something s e
   begins_with j w st g _ _ names found (updates name chosen item r asked kept) =
       let (p, there) = h.points j st g (U name chosen) w.its names in
@@ -101,12 +104,18 @@ module _ (s : StateData) (e : ℕ) (h : HasWork s e) where
   by_stage : (j : Job) (stage : Stage) → Works s e j stage → Something s e
   by_stage j Taken w = taken j w
   by_stage j Asking w =
-      let a = h.asking j w.its w.stage_is in
-      (Answer answer.Failed, suits.asks (record { job = j; row = a.row; works = w; found = a.found }) a.asked answer.Failed a.asks (failed a.asked))
+      let a = h.asking j w.its w.stage_is in (
+        Answer answer.Failed,
+        suits.asks
+            (record { job = j; row = a.row; works = w; found = a.found }) a.asked answer.Failed a.asks (failed a.asked),
+      )
   by_stage j Polling w =
       let (r, found) = h.polling j w.its w.stage_is in
-      let (asked, is) = polled_for r in
-      (Answer answer.Failed, suits.polls (record { job = j; row = r; works = w; found = found }) asked answer.Failed is (failed asked))
+      let (asked, is) = polled_for r in (
+        Answer answer.Failed,
+        suits.polls (record { job = j; row = r; works = w; found = found }) asked answer.Failed is
+            (failed asked),
+      )
   by_stage j Ending w = (Nothing, suits.ends j w)
 
 -- the lowest letter, or none
@@ -128,12 +137,14 @@ module _ (s : StateData) where
           least.is.letter,
           record {
             waits = subst (λ (k : ℕ). letter_at s.letters k ≡ Some least.is.letter) (sym number) least.is.at;
-            lowest = λ m other at. let le = least.least m (record { letter = other; at = at }) in subst (λ (k : ℕ). k ≤ m) (sym number) le;
+            lowest = λ m other at. let le = least.least m (record { letter = other; at = at }) in
+                subst (λ (k : ℕ). k ≤ m) (sym number) le;
           },
         )
     | inr none ↦ inr (λ n. by b within none n (letter_at s.letters n) refl)
   ] where
-    by : (b : ℕ) → ((k : ℕ) (x : Letter) → letter_at s.letters k ≡ Some x → k < b) → ((k : ℕ) → k < b → ¬ Waits k) → (n : ℕ) (o : Option Letter)
+    by : (b : ℕ) → ((k : ℕ) (x : Letter) → letter_at s.letters k ≡ Some x → k < b) → ((k : ℕ) → k < b → ¬ Waits k)
+        → (n : ℕ) (o : Option Letter)
         → letter_at s.letters n ≡ o → letter_at s.letters n ≡ None
     by b within none n None is = is
     by b within none n (Some l) is = absurd (none n (within n l is) (record { letter = l; at = is }))
@@ -152,19 +163,26 @@ module _ (s : StateData) where
       | inr stopped ↦ inl (record { job = j; left = record { stopped = stopped; its = its } })
     ]
 
-  left_or_none : ((f : ℕ) × (j : Job) × HasLeft s f j × ((g : ℕ) (k : Job) → HasLeft s g k → f ≤ g)) ⊎ ((f : ℕ) (j : Job) → ¬ HasLeft s f j)
+  left_or_none : ((f : ℕ) × (j : Job) × HasLeft s f j × ((g : ℕ) (k : Job) → HasLeft s g k → f ≤ g))
+      ⊎ ((f : ℕ) (j : Job) → ¬ HasLeft s f j)
   left_or_none = let (b, within) = bound_at job_key s.jobs in elim (least_or_none Leaves leaves_or_not b) [
-    | inl found ↦ let (f, least) = found in inl (f, least.is.job, least.is.left, (λ g k left. least.least g (record { job = k; left = left })))
+    | inl found ↦ let (f, least) = found in
+        inl (f, least.is.job, least.is.left, (λ g k left. least.least g (record { job = k; left = left })))
     | inr none ↦ inr (λ f j left. none f (within f j left.its) (record { job = j; left = left }))
   ]
 
 module _ (s : StateData) (e : ℕ) (live : Contains s.live e) where
   jobless : job_at s.jobs e ≡ None → Something s e ⊎ IsIdle s e
   jobless none = elim (lowest_or_none s) [
-    | inl found ↦ let (l, first) = found in inl (Nothing, takes l (record { live = live; jobless = none; first = first }))
+    | inl found ↦ let (l, first) = found in
+        inl (Nothing, takes l (record { live = live; jobless = none; first = first }))
     | inr silent ↦ elim (left_or_none s) [
       | inl found ↦ let (f, j, left, lowest) = found in
-          inl (Nothing, takes_over f j (record { live = live; jobless = none; silent = silent; left = left; lowest = lowest }))
+          inl (
+            Nothing,
+            takes_over f j
+                (record { live = live; jobless = none; silent = silent; left = left; lowest = lowest }),
+          )
       | inr none_left ↦ inr (record { live = live; jobless = none; silent = silent; none_left = none_left })
     ]
   ]

@@ -1,5 +1,6 @@
 -- Whether edges lead from one node to another can be told, so that candidates can be considered in turn.
-use Rattle.std.proofs.Common.{◌≡◌, ◌⊎◌, inl, inr, ℕ, List, [], ◌∷◌, ◌++◌, append_assoc, append-nil, refl, sym, ap, subst}
+use Rattle.std.proofs.Common.{◌≡◌, ◌⊎◌, inl, inr, ℕ, List, [], ◌∷◌, ◌++◌, append_assoc, append-nil, refl, sym, ap}
+use Rattle.std.proofs.Common.{subst}
 use Rattle.std.specs.Prelude.{Contains}
 use Rattle.dep_graph.specs.Paths.{HasPath, Leads}
 use Rattle.dep_graph.proofs.PathLemmas.{HasPath-append, HasPath-same, HasPath-step, leads_of}
@@ -9,7 +10,8 @@ use Rattle.next_laws.proofs.Listings.{cons_cases, in_head, in_tail, no_member}
 use Rattle.turn_laws.proofs.Decide.{Decided, both_or_not}
 
 -- paths over more edges
-wider : (x : ℕ × ℕ) (es : List (ℕ × ℕ)) (a : ℕ) (p : List ℕ) (b : ℕ) → Leads (Joins es) a p b → HasPath (Joins (x ∷ es)) a b
+wider : (x : ℕ × ℕ) (es : List (ℕ × ℕ)) (a : ℕ) (p : List ℕ) (b : ℕ) → Leads (Joins es) a p b
+    → HasPath (Joins (x ∷ es)) a b
 wider x es a [] b e = HasPath-same (Joins (x ∷ es)) a b e
 wider x es a (c ∷ p) b (e, rest) = HasPath-step (Joins (x ∷ es)) a c b (in_tail es x (a, c) e) (wider x es c p b rest)
 
@@ -66,7 +68,8 @@ considered kept x = elim (path_or_not kept x.1 x.0) [
   | inr not ↦ (kept ++ (x.0, x.1) ∷ [], inr (not, refl))
 ]
 
-keeps_more : (first done rest kept : List (ℕ × ℕ)) → Keeps first done kept → (all : List (ℕ × ℕ)) × Keeps first (done ++ rest) all
+keeps_more : (first done rest kept : List (ℕ × ℕ)) → Keeps first done kept
+    → (all : List (ℕ × ℕ)) × Keeps first (done ++ rest) all
 keeps_more first done [] kept h = (kept, subst (λ (l : List (ℕ × ℕ)). Keeps first l kept) (sym (append-nil done)) h)
 keeps_more first done (x ∷ rest) kept h =
     let (new, step) = considered kept x in

@@ -26,7 +26,8 @@ use Rattle.core_state.specs.declared.entry.Why.{Why}
 use Rattle.core_state.specs.declared.graph.Graph.{Graph}
 use Rattle.core_state.specs.declared.stack.Stack.{Stack}
 use Rattle.type_catalog.specs.declared.effect.Effect.{Effect}
-use Rattle.step_relation.specs.Asks.{Asks, Calls, Falls, Polls, Refuses, by_code, by_failure, by_quota, marked, marks, overrun}
+use Rattle.step_relation.specs.Asks.{Asks, Calls, Falls, Polls, Refuses, by_code, by_failure, by_quota, marked, marks}
+use Rattle.step_relation.specs.Asks.{overrun}
 use Rattle.step_relation.specs.Begins.{Begins}
 use Rattle.step_relation.specs.Cleanups.{Cleans}
 use Rattle.step_relation.specs.Commands.{laid_changes, laid_entries}
@@ -34,17 +35,25 @@ use Rattle.step_relation.specs.Finishes.{Finishes, Settles, graph_then}
 use Rattle.step_relation.specs.Freshness.{IsFresh, IsMeant, IsOverrun}
 use Rattle.step_relation.specs.Given.{Answer, Faulted, Given, Nothing, Prepared}
 use Rattle.step_relation.specs.Inputs.{AllDone, input_of, passed}
-use Rattle.step_relation.specs.Moves.{Move, ask_begun, ask_failed, begin_failed, begin_faulted, begin_in_place, begin_init, begin_overrun, begin_replaced, begin_resumed, begin_same, clean_deleted, clean_gone, clean_init, clean_kept, clean_retained, clean_stuck, finish, finish_last, finish_overrun, poll_failed, poll_gone, poll_ready, poll_waits, take_dropped, take_free, take_stolen, takeover_fresh, takeover_overrun}
+use Rattle.step_relation.specs.Moves.{Move, ask_begun, ask_failed, begin_failed, begin_faulted, begin_in_place}
+use Rattle.step_relation.specs.Moves.{begin_init, begin_overrun, begin_replaced, begin_resumed, begin_same}
+use Rattle.step_relation.specs.Moves.{clean_deleted, clean_gone, clean_init, clean_kept, clean_retained, clean_stuck}
+use Rattle.step_relation.specs.Moves.{finish, finish_last, finish_overrun, poll_failed, poll_gone, poll_ready}
+use Rattle.step_relation.specs.Moves.{poll_waits, take_dropped, take_free, take_stolen, takeover_fresh}
+use Rattle.step_relation.specs.Moves.{takeover_overrun}
 use Rattle.step_relation.specs.Nexts.{TakesNext, TakesOver, Works}
 use Rattle.step_relation.specs.Orders.{IsForward, of_create, of_update, past_of, plan_back, rollback_sets}
 use Rattle.step_relation.specs.Takes.{Releases, Takes, done, held, outdated}
 use Rattle.step_relation.specs.Turns.{IsDue, Turn, plain, rolls, stays, unfailed}
 use Rattle.table_laws.proofs.Rows.{same_or_not, stack-key, stack_here}
-use Rattle.next_laws.proofs.Verdicts.{Clears, Decides, Fate, Lot, creates, deletes, gone, keeps, kept, leaves, purges, replaces, resumes, retains, sticks, updates}
+use Rattle.next_laws.proofs.Verdicts.{Clears, Decides, Fate, Lot, creates, deletes, gone, keeps, kept, leaves, purges}
+use Rattle.next_laws.proofs.Verdicts.{replaces, resumes, retains, sticks, updates}
 use Rattle.turn_laws.specs.HasTurn.{TurnExists}
-use Rattle.turn_laws.specs.Suits.{MayAnswer, Suits, asks, cleans, ends, faults, overruns, polls, prepares, takes, takes_over}
+use Rattle.turn_laws.specs.Suits.{MayAnswer, Suits, asks, cleans, ends, faults, overruns, polls, prepares, takes}
+use Rattle.turn_laws.specs.Suits.{takes_over}
 use Rattle.turn_laws.proofs.Collect.{all_of}
-use Rattle.turn_laws.proofs.Decide.{Decided, all_or_one, both_or_not, bound_of, exchanged, flag_or_not, le_or_not, member_or_not, pair_or_not}
+use Rattle.turn_laws.proofs.Decide.{Decided, all_or_one, both_or_not, bound_of, exchanged, flag_or_not, le_or_not}
+use Rattle.turn_laws.proofs.Decide.{member_or_not, pair_or_not}
 use Rattle.turn_laws.proofs.Fates.{fate_exists, lot_exists}
 use Rattle.turn_laws.proofs.Layings.{lays_exist}
 use Rattle.turn_laws.proofs.Sights.{done_or_not, fresh_or_not, holder_or_none, meant_or_not, ready_or_not}
@@ -78,7 +87,8 @@ module _ (s : StateData) (e : ℕ) where
     not_rollback k = elim k [ ]
 
   due_or_not : (t : StateData) (st : Stack) → Decided (IsDue t st)
-  due_or_not t st = exchanged (λ p. record { forward = p.0.0; asked = p.0.1; room = p.1 }) (λ k. ((k.forward, k.asked), k.room))
+  due_or_not t st = exchanged (λ p. record { forward = p.0.0; asked = p.0.1; room = p.1 })
+      (λ k. ((k.forward, k.asked), k.room))
       (both_or_not (both_or_not (forward_or_not st.act) (flag_or_not (past_of t st.name).rollback)) (le_or_not _ _))
 
   -- one that marks a stack is one, alone or with what follows
@@ -90,7 +100,14 @@ module _ (s : StateData) (e : ℕ) where
       changes = cs ++ laid_changes t failed.name (plan_back t failed).items (rollback_sets t failed (Engine e)) lays;
       entries = es ++ laid_entries t failed.name (plan_back t failed).items (rollback_sets t failed (Engine e)) lays;
       turn = rolls st cs _ es _ m due
-          (record { failed = failed; is = found; its_name = stack-key t.stacks st.name failed found; lays = lays; changes = refl; entries = refl }) refl refl;
+          (record {
+            failed = failed;
+            is = found;
+            its_name = stack-key t.stacks st.name failed found;
+            lays = lays;
+            changes = refl;
+            entries = refl;
+          }) refl refl;
     }
   ]
 
@@ -100,13 +117,14 @@ take_turn s e l t = elim (meant_or_not s l) [
   | inr over ↦ quiet s e Nothing _ _ (take_dropped l _ _ t (outdated over) refl refl)
   | inl meant ↦ elim (done_or_not meant.fresh.graph l.node) [
     | inl is ↦ quiet s e Nothing _ _ (take_dropped l _ _ t (done meant is) refl refl)
-    | inr open_ ↦ let k : Takes s e = record { letter = l; next = t; meant = meant; open_ = open_ } in elim (holder_or_none s.jobs meant.target) [
-      | inr free ↦ quiet s e Nothing _ _ (take_free k _ _ free refl refl)
-      | inl found ↦ let (f, j, holds) = found in elim (member_or_not same_or_not s.live f) [
-        | inl live ↦ quiet s e Nothing _ _ (take_dropped l _ _ t (held meant f j holds live) refl refl)
-        | inr stopped ↦ quiet s e Nothing _ _ (take_stolen k f j _ _ holds stopped refl refl)
-      ]
-    ]
+    | inr open_ ↦ let k : Takes s e = record { letter = l; next = t; meant = meant; open_ = open_ } in
+        elim (holder_or_none s.jobs meant.target) [
+          | inr free ↦ quiet s e Nothing _ _ (take_free k _ _ free refl refl)
+          | inl found ↦ let (f, j, holds) = found in elim (member_or_not same_or_not s.live f) [
+            | inl live ↦ quiet s e Nothing _ _ (take_dropped l _ _ t (held meant f j holds live) refl refl)
+            | inr stopped ↦ quiet s e Nothing _ _ (take_stolen k f j _ _ holds stopped refl refl)
+          ]
+        ]
   ]
 ]
 
@@ -123,7 +141,8 @@ take_over_turn s e f j t = elim (fresh_or_not s j.letter j.row) [
 ]
 
 -- begins
-prepared_turn : (s : StateData) (e : ℕ) (k : Begins s e) (props : Members) (effect : Effect) → HasTurn s e (Prepared props effect)
+prepared_turn : (s : StateData) (e : ℕ) (k : Begins s e) (props : Members) (effect : Effect)
+    → HasTurn s e (Prepared props effect)
 prepared_turn s e k props effect =
     let (fate, is) = fate_exists k.row k.item k.stack.trav props effect in by fate is
   where
@@ -135,12 +154,14 @@ prepared_turn s e k props effect =
     by _ (leaves begun is newest) = quiet s e _ _ _ (begin_failed k props effect _ _ begun is newest refl refl)
     by _ (replaces begun goes) = quiet s e _ _ _ (begin_replaced k props effect _ _ begun goes refl refl)
 
-fault_turn : (s : StateData) (e : ℕ) (k : Begins s e) (code : List ℕ) (path : List Step) → HasTurn s e (Faulted code path)
+fault_turn : (s : StateData) (e : ℕ) (k : Begins s e) (code : List ℕ) (path : List Step)
+    → HasTurn s e (Faulted code path)
 fault_turn s e k code path = elim (fresh_or_not s k.job.letter k.job.row) [
   | inr over ↦ absurd (over (begun_fresh s e k))
   | inl fresh ↦ elim (progress_or_not fresh.stack.status) [
     | inr not ↦ quiet s e _ _ _ (begin_faulted k code path None _ _ (marked fresh not) refl refl)
-    | inl is ↦ marking s e _ fresh.stack _ _ (begin_faulted k code path (Some fresh.stack) _ _ (marks fresh is) refl refl)
+    | inl is ↦ marking s e _ fresh.stack _ _
+        (begin_faulted k code path (Some fresh.stack) _ _ (marks fresh is) refl refl)
         (record fresh.stack { status = Failed }) (stack_here (record fresh.stack { status = Failed }) s.stacks)
   ]
 ] where
@@ -156,38 +177,51 @@ fault_turn s e k code path = elim (fresh_or_not s k.job.letter k.job.row) [
   }
 
 clean_turn : (s : StateData) (e : ℕ) → Cleans s e → HasTurn s e Nothing
-clean_turn s e k = let (lot, is) = lot_exists s k.stack k.job.row (row_at s.rows k.job.row) refl in by (row_at s.rows k.job.row) refl lot is
+clean_turn s e k = let (lot, is) = lot_exists s k.stack k.job.row (row_at s.rows k.job.row) refl in
+    by (row_at s.rows k.job.row) refl lot is
   where
-    by : (row : Option Row) → row_at s.rows k.job.row ≡ row → (lot : Lot) → Clears s k.stack row lot → HasTurn s e Nothing
+    by : (row : Option Row) → row_at s.rows k.job.row ≡ row → (lot : Lot) → Clears s k.stack row lot
+        → HasTurn s e Nothing
     by _ at _ gone = quiet s e _ _ _ (clean_gone k _ _ at refl refl)
     by _ at _ (kept r is) = quiet s e _ _ _ (clean_kept k r _ _ at is refl refl)
     by _ at _ (purges r not new) = quiet s e _ _ _ (clean_init k r _ _ at not new refl refl)
     by _ at _ (sticks r not stuck) = quiet s e _ _ _ (clean_stuck k r _ _ at not stuck refl refl)
-    by _ at _ (retains r not begun loose retained) = quiet s e _ _ _ (clean_retained k r _ _ at not begun loose retained refl refl)
-    by _ at _ (deletes r not begun loose other) = quiet s e _ _ _ (clean_deleted k r _ _ at not begun loose other refl refl)
+    by _ at _ (retains r not begun loose retained) =
+        quiet s e _ _ _ (clean_retained k r _ _ at not begun loose retained refl refl)
+    by _ at _ (deletes r not begun loose other) =
+        quiet s e _ _ _ (clean_deleted k r _ _ at not begun loose other refl refl)
 
 -- calls
-ask_failing : (s : StateData) (e : ℕ) (k : Calls s e Asking) (asked : Request) (given : Answered) (reason : Why) → Asks k.row asked
+ask_failing : (s : StateData) (e : ℕ) (k : Calls s e Asking) (asked : Request) (given : Answered) (reason : Why)
+    → Asks k.row asked
     → Refuses k.row.act asked given reason → HasTurn s e (Answer given)
 ask_failing s e k asked given reason a x = let (ls, f, falls) = falls_exist s k.job in by ls f falls
   where
     by : (ls : List Letter) (f : Option Stack) → Falls s k.job ls f → HasTurn s e (Answer given)
-    by _ _ (overrun ls over sends) = quiet s e _ _ _ (ask_failed k asked given reason ls None _ _ a x (overrun ls over sends) refl refl)
-    by _ _ (marked fresh not) = quiet s e _ _ _ (ask_failed k asked given reason [] None _ _ a x (marked fresh not) refl refl)
-    by _ _ (marks fresh is) = marking s e _ fresh.stack _ _ (ask_failed k asked given reason [] (Some fresh.stack) _ _ a x (marks fresh is) refl refl)
+    by _ _ (overrun ls over sends) =
+        quiet s e _ _ _ (ask_failed k asked given reason ls None _ _ a x (overrun ls over sends) refl refl)
+    by _ _ (marked fresh not) =
+        quiet s e _ _ _ (ask_failed k asked given reason [] None _ _ a x (marked fresh not) refl refl)
+    by _ _ (marks fresh is) = marking s e _ fresh.stack _ _
+        (ask_failed k asked given reason [] (Some fresh.stack) _ _ a x (marks fresh is) refl refl)
         (record fresh.stack { status = Failed }) (stack_here (record fresh.stack { status = Failed }) s.stacks)
 
-poll_failing : (s : StateData) (e : ℕ) (k : Calls s e Polling) (asked : Request) (given : Answered) (reason : Why) → Polls k.row asked
+poll_failing : (s : StateData) (e : ℕ) (k : Calls s e Polling) (asked : Request) (given : Answered) (reason : Why)
+    → Polls k.row asked
     → Refuses k.row.act asked given reason → HasTurn s e (Answer given)
 poll_failing s e k asked given reason a x = let (ls, f, falls) = falls_exist s k.job in by ls f falls
   where
     by : (ls : List Letter) (f : Option Stack) → Falls s k.job ls f → HasTurn s e (Answer given)
-    by _ _ (overrun ls over sends) = quiet s e _ _ _ (poll_failed k asked given reason ls None _ _ a x (overrun ls over sends) refl refl)
-    by _ _ (marked fresh not) = quiet s e _ _ _ (poll_failed k asked given reason [] None _ _ a x (marked fresh not) refl refl)
-    by _ _ (marks fresh is) = marking s e _ fresh.stack _ _ (poll_failed k asked given reason [] (Some fresh.stack) _ _ a x (marks fresh is) refl refl)
+    by _ _ (overrun ls over sends) =
+        quiet s e _ _ _ (poll_failed k asked given reason ls None _ _ a x (overrun ls over sends) refl refl)
+    by _ _ (marked fresh not) =
+        quiet s e _ _ _ (poll_failed k asked given reason [] None _ _ a x (marked fresh not) refl refl)
+    by _ _ (marks fresh is) = marking s e _ fresh.stack _ _
+        (poll_failed k asked given reason [] (Some fresh.stack) _ _ a x (marks fresh is) refl refl)
         (record fresh.stack { status = Failed }) (stack_here (record fresh.stack { status = Failed }) s.stacks)
 
-ask_turn : (s : StateData) (e : ℕ) (k : Calls s e Asking) (asked : Request) (given : Answered) → Asks k.row asked → MayAnswer asked given
+ask_turn : (s : StateData) (e : ℕ) (k : Calls s e Asking) (asked : Request) (given : Answered) → Asks k.row asked
+    → MayAnswer asked given
     → HasTurn s e (Answer given)
 ask_turn s e k asked given a (may.create_begun kind props) = quiet s e _ _ _ (ask_begun k _ _ _ a refl refl)
 ask_turn s e k asked given a (may.create_quota kind props) = ask_failing s e k _ _ _ a (by_quota kind props)
@@ -216,10 +250,12 @@ polls_alive r (call.polls ne) = ne
 looks_gone : (r : Row) → Polls r request.Gone → r.act ≡ Delete
 looks_gone r (call.looks is) = is
 
-poll_turn : (s : StateData) (e : ℕ) (k : Calls s e Polling) (asked : Request) (given : Answered) → Polls k.row asked → MayAnswer asked given
+poll_turn : (s : StateData) (e : ℕ) (k : Calls s e Polling) (asked : Request) (given : Answered) → Polls k.row asked
+    → MayAnswer asked given
     → HasTurn s e (Answer given)
 poll_turn s e k asked given a may.poll_waits = quiet s e _ _ _ (poll_waits k _ _ _ a refl refl)
-poll_turn s e k asked given a (may.poll_ready facts) = quiet s e _ _ _ (poll_ready k facts _ _ (polls_alive k.row a) refl refl)
+poll_turn s e k asked given a (may.poll_ready facts) =
+    quiet s e _ _ _ (poll_ready k facts _ _ (polls_alive k.row a) refl refl)
 poll_turn s e k asked given a (may.poll_broken code) = poll_failing s e k _ _ _ a (by_code code)
 poll_turn s e k asked given a may.gone_waits = quiet s e _ _ _ (poll_waits k _ _ _ a refl refl)
 poll_turn s e k asked given a may.gone = quiet s e _ _ _ (poll_gone k _ _ (looks_gone k.row a) refl refl)
@@ -239,25 +275,30 @@ poll_turn s e k asked given a may.delete_begun = absurd (no_delete a) where
 
 -- finishes
 all_done_or_not : (g : Graph) → Decided (AllDone g)
-all_done_or_not g = elim (all_or_one (λ i. (node : Node) → slice_get g.graph.nodes i ≡ Some node → IsDone g i) done_if (length g.graph.nodes)) [
-  | inl all ↦ inl (λ i node at. all i (slice_get_within g.graph.nodes i node at) node at)
-  | inr one ↦ let (i, not) = one in inr (λ all. not (all i))
-] where
-  done_if : (i : ℕ) → Decided ((node : Node) → slice_get g.graph.nodes i ≡ Some node → IsDone g i)
-  done_if i = by (slice_get g.graph.nodes i) refl where
-    by : (o : Option Node) → slice_get g.graph.nodes i ≡ o → Decided ((node : Node) → slice_get g.graph.nodes i ≡ Some node → IsDone g i)
-    by None none = inl (λ node at. cc)
-    by (Some node) at = elim (done_or_not g i) [ inl is ↦ inl (λ x y. is) | inr not ↦ inr (λ all. not (all node at)) ]
+all_done_or_not g = elim (all_or_one (λ i. (node : Node) → slice_get g.graph.nodes i ≡ Some node → IsDone g i) done_if
+    (length g.graph.nodes)) [
+      | inl all ↦ inl (λ i node at. all i (slice_get_within g.graph.nodes i node at) node at)
+      | inr one ↦ let (i, not) = one in inr (λ all. not (all i))
+    ] where
+      done_if : (i : ℕ) → Decided ((node : Node) → slice_get g.graph.nodes i ≡ Some node → IsDone g i)
+      done_if i = by (slice_get g.graph.nodes i) refl where
+        by : (o : Option Node) → slice_get g.graph.nodes i ≡ o
+            → Decided ((node : Node) → slice_get g.graph.nodes i ≡ Some node → IsDone g i)
+        by None none = inl (λ node at. cc)
+        by (Some node) at = elim (done_or_not g i)
+            [ inl is ↦ inl (λ x y. is) | inr not ↦ inr (λ all. not (all node at)) ]
 
 module _ (s : StateData) (e : ℕ) (j : Job) (w : Works s e j Ending) (fresh : IsFresh s j.letter j.row) where
   finishes : Finishes s e
   finishes =
       let edges = fresh.graph.graph.edges in
       let (b, within) = bound_of (λ (x : ℕ × ℕ). x.1) edges in
-      let (succs, behind) = all_of (Joins edges j.letter.node) (λ k. member_or_not pair_or_not edges (j.letter.node, k)) b (λ k c. within (j.letter.node, k) c) in
+      let (succs, behind) = all_of (Joins edges j.letter.node)
+      (λ k. member_or_not pair_or_not edges (j.letter.node, k)) b (λ k c. within (j.letter.node, k) c) in
       let g = passed fresh.graph j.letter.node (input_of j.letter.node fresh.node j.row fresh.row) succs in
       let (b', within') = bound_of (λ (k : ℕ). k) succs in
-      let (ready, are) = all_of (λ k. Contains succs k × IsReady g k) (λ k. both_or_not (member_or_not same_or_not succs k) (ready_or_not g k)) b' (λ k c. within' k c.0) in
+      let (ready, are) = all_of (λ k. Contains succs k × IsReady g k)
+      (λ k. both_or_not (member_or_not same_or_not succs k) (ready_or_not g k)) b' (λ k c. within' k c.0) in
       record { job = j; works = w; fresh = fresh; succs = succs; behind = behind; ready = ready; ready_are = are }
 
   settles_or_not : (k : Finishes s e) → Decided (Settles s e k)

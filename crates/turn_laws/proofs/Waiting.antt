@@ -31,12 +31,20 @@ module _ (s : StateData) (st : Stack) (g : Graph) (number : ℕ) where
   awaits_at i None none = inr (λ k. let there = k.node in cc)
   awaits_at i (Some (C n)) at = inr (λ k. is_update n k.name k.chosen (same_some (C n) (U k.name k.chosen) at k.node))
   awaits_at i (Some (U name n)) at = elim (target_or_none s.rows st.name (U name n)) [
-    | inr none ↦ inr (λ k. none number (subst (λ (x : Node). IsTarget s.rows st.name x number) (same_node i (U k.name k.chosen) (U name n) k.node at) k.to))
+    | inr none ↦ inr (λ k. none number (subst (λ (x : Node). IsTarget s.rows st.name x number)
+        (same_node i (U k.name k.chosen) (U name n) k.node at) k.to))
     | inl found ↦ let (t, to) = found in elim (same_or_not t number) [
       | inr not ↦ inr (λ k. not (target_once s.rows st.name (U name n) t number to
-          (subst (λ (x : Node). IsTarget s.rows st.name x number) (same_node i (U k.name k.chosen) (U name n) k.node at) k.to)))
+          (subst (λ (x : Node). IsTarget s.rows st.name x number)
+          (same_node i (U k.name k.chosen) (U name n) k.node at) k.to)))
       | inl is ↦ elim (open_or_not g i) [
-        | inl open_ ↦ inl (record { name = name; chosen = n; node = at; to = subst (IsTarget s.rows st.name (U name n)) is to; open_ = open_ })
+        | inl open_ ↦ inl (record {
+          name = name;
+          chosen = n;
+          node = at;
+          to = subst (IsTarget s.rows st.name (U name n)) is to;
+          open_ = open_;
+        })
         | inr not ↦ inr (λ k. not k.open_)
       ]
     ]
@@ -51,7 +59,8 @@ module _ (s : StateData) (st : Stack) (g : Graph) (number : ℕ) where
   sweeps_at i (Some (C n)) at = elim (same_or_not n number) [
     | inr not ↦ inr (λ k. let same : C n ≡ C number = same_some (C n) (C number) at k.node in not cc)
     | inl is ↦ elim (open_or_not g i) [
-      | inl open_ ↦ inl (record { node = subst (λ (m : ℕ). slice_get g.graph.nodes i ≡ Some (C m)) is at; open_ = open_ })
+      | inl open_ ↦
+          inl (record { node = subst (λ (m : ℕ). slice_get g.graph.nodes i ≡ Some (C m)) is at; open_ = open_ })
       | inr not ↦ inr (λ k. not k.open_)
     ]
   ]
@@ -64,30 +73,42 @@ module _ (s : StateData) (name : List ℕ) (number : ℕ) where
   none_without no_ = ([], nobody (λ st g k has w. no_ st g has) (λ st g k has w. no_ st g has))
 
   resends_with : (st : Stack) (g : Graph) → HasGraph s name st g → (ls : List Letter) × Resends s name number ls
-  resends_with st g has = elim (least_or_none (AwaitsUpdate s st g number) (awaits_update_or_not s st g number) (length g.graph.nodes)) [
-    | inl found ↦ let (i, least) = found in (_, update st g i has least)
-    | inr none ↦ elim (least_or_none (AwaitsCleanup g number) (awaits_cleanup_or_not s st g number) (length g.graph.nodes)) [
-      | inl found ↦ let (i, least) = found in (_, cleanup st g i has (λ k w. no_update none k w) least)
-      | inr none' ↦ ([], nobody (λ st' g' k has' w. no_update none k (here_update st' g' has' k w)) (λ st' g' k has' w. no_cleanup none' k (here_cleanup st' g' has' k w)))
-    ]
-  ] where
-    no_update : ((i : ℕ) → i < length g.graph.nodes → ¬ AwaitsUpdate s st g number i) → (k : ℕ) → AwaitsUpdate s st g number k → ⊥
-    no_update none k w = none k (slice_get_within g.graph.nodes k (U w.name w.chosen) w.node) w
+  resends_with st g has = elim (least_or_none (AwaitsUpdate s st g number) (awaits_update_or_not s st g number)
+      (length g.graph.nodes)) [
+        | inl found ↦ let (i, least) = found in (_, update st g i has least)
+        | inr none ↦ elim (least_or_none (AwaitsCleanup g number) (awaits_cleanup_or_not s st g number)
+            (length g.graph.nodes)) [
+              | inl found ↦ let (i, least) = found in (_, cleanup st g i has (λ k w. no_update none k w) least)
+              | inr none' ↦ (
+                [],
+                nobody (λ st' g' k has' w. no_update none k (here_update st' g' has' k w))
+                    (λ st' g' k has' w. no_cleanup none' k (here_cleanup st' g' has' k w)),
+              )
+            ]
+      ] where
+        no_update : ((i : ℕ) → i < length g.graph.nodes → ¬ AwaitsUpdate s st g number i) → (k : ℕ)
+            → AwaitsUpdate s st g number k → ⊥
+        no_update none k w = none k (slice_get_within g.graph.nodes k (U w.name w.chosen) w.node) w
 
-    no_cleanup : ((i : ℕ) → i < length g.graph.nodes → ¬ AwaitsCleanup g number i) → (k : ℕ) → AwaitsCleanup g number k → ⊥
-    no_cleanup none k w = none k (slice_get_within g.graph.nodes k (C number) w.node) w
+        no_cleanup : ((i : ℕ) → i < length g.graph.nodes → ¬ AwaitsCleanup g number i) → (k : ℕ)
+            → AwaitsCleanup g number k → ⊥
+        no_cleanup none k w = none k (slice_get_within g.graph.nodes k (C number) w.node) w
 
-    here_update : (st' : Stack) (g' : Graph) → HasGraph s name st' g' → (k : ℕ) → AwaitsUpdate s st' g' number k → AwaitsUpdate s st g number k
-    here_update st' g' has' k w =
-        subst (λ (z : Graph). AwaitsUpdate s st z number k) (same_some g' g has'.its_graph has.its_graph)
-        (subst (λ (z : Stack). AwaitsUpdate s z g' number k) (same_some st' st has'.in_table has.in_table) w)
+        here_update : (st' : Stack) (g' : Graph) → HasGraph s name st' g' → (k : ℕ) → AwaitsUpdate s st' g' number k
+            → AwaitsUpdate s st g number k
+        here_update st' g' has' k w =
+            subst (λ (z : Graph). AwaitsUpdate s st z number k) (same_some g' g has'.its_graph has.its_graph)
+            (subst (λ (z : Stack). AwaitsUpdate s z g' number k) (same_some st' st has'.in_table has.in_table) w)
 
-    here_cleanup : (st' : Stack) (g' : Graph) → HasGraph s name st' g' → (k : ℕ) → AwaitsCleanup g' number k → AwaitsCleanup g number k
-    here_cleanup st' g' has' k w = subst (λ (z : Graph). AwaitsCleanup z number k) (same_some g' g has'.its_graph has.its_graph) w
+        here_cleanup : (st' : Stack) (g' : Graph) → HasGraph s name st' g' → (k : ℕ) → AwaitsCleanup g' number k
+            → AwaitsCleanup g number k
+        here_cleanup st' g' has' k w = subst (λ (z : Graph). AwaitsCleanup z number k)
+            (same_some g' g has'.its_graph has.its_graph) w
 
   pub resends_exist : (ls : List Letter) × Resends s name number ls
   resends_exist = by (stack_at s.stacks name) refl where
-    by_graph : (st : Stack) → stack_at s.stacks name ≡ Some st → (o : Option Graph) → graph_at s.graphs name ≡ o → (ls : List Letter) × Resends s name number ls
+    by_graph : (st : Stack) → stack_at s.stacks name ≡ Some st → (o : Option Graph) → graph_at s.graphs name ≡ o
+        → (ls : List Letter) × Resends s name number ls
     by_graph st at None none = none_without (λ st' g has. let there = has.its_graph in cc)
     by_graph st at (Some g) at_g = resends_with st g (record { in_table = at; its_graph = at_g })
 

@@ -22,7 +22,8 @@ use Rattle.turn_laws.specs.Suits.{Suits}
 
 -- whatever the state: what suits an engine's next step makes a turn of it
 abbrev pub TurnExists : Type 0
-TurnExists = (s : StateData) (e : ℕ) (given : Given) → Suits s e given → (cs : List Change) × (es : List Entry) × Turn s e given cs es
+TurnExists = (s : StateData) (e : ℕ) (given : Given) → Suits s e given → (cs : List Change) × (es : List Entry)
+    × Turn s e given cs es
 
 -- a job that asks has a row that something is asked for
 pub record IsAskable (s : StateData) (j : Job) : Type 0 where
@@ -43,5 +44,6 @@ pub record StepsOrIsIdle (s : StateData) (e : ℕ) : Type 0 where
   pub either : ((given : Given) × Suits s e given) ⊎ IsIdle s e
   pub apart : (given : Given) → Suits s e given → ¬ IsIdle s e
 
+-- so it is where its job has what it works at
 abbrev pub NextExists : Type 0
 NextExists = (s : StateData) (e : ℕ) → HasWork s e → Contains s.live e → StepsOrIsIdle s e

@@ -41,5 +41,7 @@ pub data Suits (s : StateData) (e : ℕ) : Given → Type 0 where
   ends : (j : Job) → Works s e j Ending → Suits s e Nothing
   prepares : (k : Begins s e) (props : Members) (effect : Effect) → Suits s e (Prepared props effect)
   faults : (k : Begins s e) (code : List ℕ) (path : List Step) → Suits s e (Faulted code path)
-  asks : (k : Calls s e Asking) (asked : Request) (given : Answered) → Asks k.row asked → MayAnswer asked given → Suits s e (Answer given)
-  polls : (k : Calls s e Polling) (asked : Request) (given : Answered) → Polls k.row asked → MayAnswer asked given → Suits s e (Answer given)
+  asks : (k : Calls s e Asking) (asked : Request) (given : Answered)
+      → Asks k.row asked → MayAnswer asked given → Suits s e (Answer given)
+  polls : (k : Calls s e Polling) (asked : Request) (given : Answered)
+      → Polls k.row asked → MayAnswer asked given → Suits s e (Answer given)

@@ -33,7 +33,8 @@ use Rattle.table_laws.proofs.Fresh.{fresh_of_newest, item_of}
 use Rattle.table_laws.proofs.Rows.{same_some, stack-key}
 use Rattle.headline_laws.proofs.Items.{All-among}
 use Rattle.turn_laws.specs.HasTurn.{IsAskable}
-use Rattle.work_laws.specs.Found.{CallsMayBeMade, CallsStand, IsAskedAt, OldIsStale, PointsStand, SoundHasWork, asks, polls}
+use Rattle.work_laws.specs.Found.{CallsMayBeMade, CallsStand, IsAskedAt, OldIsStale, PointsStand, SoundHasWork, asks}
+use Rattle.work_laws.specs.Found.{polls}
 use Rattle.step_relation.specs.Asks as call
 use Rattle.step_relation.specs.Freshness as work
 use Rattle.soundness.specs.MailFits as stages
@@ -57,7 +58,8 @@ polled_for r = by r.act refl where
   by Delete is = (_, call.looks is)
   by Rollback is = (_, call.polls (λ d. cc))
 
-asked_at : (r : Row) (stage : Stage) → IsUnderWay stage → RowFits r → r.status ≡ InProgress → (asked : Request) × IsAskedAt r stage asked
+asked_at : (r : Row) (stage : Stage) → IsUnderWay stage → RowFits r → r.status ≡ InProgress
+    → (asked : Request) × IsAskedAt r stage asked
 asked_at r stage stages.asks fits under = let (asked, is) = asked_for r fits under in (asked, asks asked is)
 asked_at r stage stages.polls fits under = let (asked, is) = polled_for r in (asked, polls asked is)
 
@@ -81,11 +83,13 @@ calls_may_be_made o h s e j r stage asked x w found (asks _ is) = by asked is wh
       subst (λ (q : Row). q.status ≡ InProgress) (same_some row.row r row.found found) row.status
 
   alive : r.act ≡ Update → (y : TokenState) → Contains (could_of o h (token_of r)) y → IsSome y
-  alive act y c = elim ((x.agrees.rows j.row r y found c).updating act status) [ inl a ↦ rw a.alive refl | inr a ↦ rw a.alive refl ]
+  alive act y c = elim ((x.agrees.rows j.row r y found c).updating act status)
+      [ inl a ↦ rw a.alive refl | inr a ↦ rw a.alive refl ]
 
   by : (a : Request) → Asks r a → MayBeAsked (could_of o h (token_of r)) a
   by _ (call.creates act) = create r.kind.name r.props
-  by _ (call.updates act) = update (unwrap_or r.target r.props) (All-among IsSome (could_of o h (token_of r)) (alive act))
+  by _ (call.updates act) =
+      update (unwrap_or r.target r.props) (All-among IsSome (could_of o h (token_of r)) (alive act))
   by _ (call.deletes act) = delete
 calls_may_be_made o h s e j r stage asked x w found (polls _ is) = by asked is where
   by : (a : Request) → Polls r a → MayBeAsked (could_of o h (token_of r)) a
@@ -95,35 +99,55 @@ calls_may_be_made o h s e j r stage asked x w found (polls _ is) = by asked is w
       (λ y c. (x.agrees.polled e j r y w.its w.stage_is found c).going act))
 
 pub points_stand : PointsStand
-points_stand s l st g node S k = let p = (named_fits s S l st g node k).nodes.points l.node node k.its_node in (p.point, p.there)
+points_stand s l st g node S k = let p = (named_fits s S l st g node k).nodes.points l.node node k.its_node in
+    (p.point, p.there)
 
 -- a letter of its stack's newest traversal has work
-meant_at : (s : StateData) → Standing s → (l : Letter) (st : Stack) (g : Graph) (node : Node) → Names s l st g node → IsMeant s l
+meant_at : (s : StateData) → Standing s → (l : Letter) (st : Stack) (g : Graph) (node : Node) → Names s l st g node
+    → IsMeant s l
 meant_at s S l st g (U word n) names =
     let fits = named_fits s S l st g (U word n) names in
     let (q, is) = fits.targets.updates l.node n word names.its_node in
     let (item, asked) = item_of (plan_of st.plan).items word (fits.nodes.only_items l.node n word names.its_node) in
     let named : st.name ≡ l.stack = stack-key s.stacks l.stack st names.in_table in record {
       target = q.no;
-      fresh = record { stack = st; graph = g; node = U word n; row = Some q; names = names; found = is.is.found; serves = work.updates word n item q asked is.kept };
+      fresh = record {
+        stack = st;
+        graph = g;
+        node = U word n;
+        row = Some q;
+        names = names;
+        found = is.is.found;
+        serves = work.updates word n item q asked is.kept;
+      };
       to = subst (λ (a : List ℕ). IsTarget s.rows a (U word n) q.no) named is.to;
     }
 meant_at s S l st g (C n) names = record {
   target = n;
-  fresh = record { stack = st; graph = g; node = C n; row = row_at s.rows n; names = names; found = refl; serves = cleans n _ };
+  fresh = record {
+    stack = st;
+    graph = g;
+    node = C n;
+    row = row_at s.rows n;
+    names = names;
+    found = refl;
+    serves = cleans n _;
+  };
   to = of_c n;
 }
 
 pub old_is_stale : OldIsStale
 old_is_stale = record { letters = letters; jobs = jobs } where
-  letters : (s : StateData) (n : ℕ) (l : Letter) → Standing s → letter_at s.letters n ≡ Some l → IsOutdated s l ↔ IsStale s.stacks l
+  letters : (s : StateData) (n : ℕ) (l : Letter) → Standing s → letter_at s.letters n ≡ Some l
+      → IsOutdated s l ↔ IsStale s.stacks l
   letters s n l S at = (
     (λ old st found newest. let k = S.shape.letters.newest n l st at (record { in_table = found; newest = newest }) in
         old (meant_at s S l st k.graph k.node k.names)),
     (λ stale meant. stale meant.fresh.stack meant.fresh.names.in_table meant.fresh.names.newest),
   )
 
-  jobs : (s : StateData) (e : ℕ) (j : Job) → Standing s → job_at s.jobs e ≡ Some j → IsOverrun s j ↔ IsStale s.stacks j.letter
+  jobs : (s : StateData) (e : ℕ) (j : Job) → Standing s → job_at s.jobs e ≡ Some j
+      → IsOverrun s j ↔ IsStale s.stacks j.letter
   jobs s e j S at = (
     (λ over st found newest. over (fresh_of_newest s S e j at st (record { in_table = found; newest = newest }))),
     (λ stale fresh. stale fresh.stack fresh.names.in_table fresh.names.newest),
@@ -135,7 +159,8 @@ asks_at s e j S its is =
     let (asked, asks_it) = asked_for row.row (S.shape.each_row j.row row.row row.found) row.status in
     record { row = row.row; found = row.found; asked = asked; asks = asks_it }
 
-polls_at : (s : StateData) (e : ℕ) (j : Job) → Standing s → job_at s.jobs e ≡ Some j → j.stage ≡ Polling → (r : Row) × (row_at s.rows j.row ≡ Some r)
+polls_at : (s : StateData) (e : ℕ) (j : Job) → Standing s → job_at s.jobs e ≡ Some j → j.stage ≡ Polling
+    → (r : Row) × (row_at s.rows j.row ≡ Some r)
 polls_at s e j S its is =
     let row = S.shape.jobs.under_way e j its (subst IsUnderWay (sym is) stages.polls) in (row.row, row.found)
 

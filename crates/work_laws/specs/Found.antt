@@ -40,12 +40,15 @@ pub record CallStands (s : StateData) (j : Job) (stage : Stage) : Type 0 where
   pub asked : Request
   pub is_asked : IsAskedAt row stage asked
 
+-- a job that asks or polls has its row
 abbrev pub CallsStand : Type 0
-CallsStand = (s : StateData) (e : ℕ) (j : Job) (stage : Stage) → Standing s → IsUnderWay stage → Works s e j stage → CallStands s j stage
+CallsStand = (s : StateData) (e : ℕ) (j : Job) (stage : Stage) → Standing s → IsUnderWay stage → Works s e j stage
+    → CallStands s j stage
 
 -- it is only asked what may be asked of its token, whatever state that may be in
 abbrev pub CallsMayBeMade : Type 0
-CallsMayBeMade = (o : Opening) (h : List Entry) (s : StateData) (e : ℕ) (j : Job) (r : Row) (stage : Stage) (asked : Request)
+CallsMayBeMade = (o : Opening) (h : List Entry) (s : StateData) (e : ℕ) (j : Job) (r : Row) (stage : Stage)
+    (asked : Request)
     → Sound o h s → Works s e j stage → row_at s.rows j.row ≡ Some r → IsAskedAt r stage asked
     → MayBeAsked (could_of o h (token_of r)) asked
 

@@ -1,7 +1,6 @@
 -- What a step that works at one row leaves: other rows, jobs and tokens as they were.
 use Rattle.std.proofs.Common.{◌≡◌, ◌≢◌, ◌⊎◌, inl, inr, ◌<◌, ◌≤◌, ℕ, List, Some, None, sym, subst, ◌∙◌, arith}
 use Rattle.std.specs.Prelude.{Contains, IsSome}
-use Rattle.heat_plan.specs.declared.phase.Act.TheVariants.{Rollback}
 use Rattle.heat_plan.specs.declared.token.Token.{Token}
 use Rattle.provider.specs.Table.{TokenState}
 use Rattle.row_table.specs.Rows.{row_at}
@@ -17,11 +16,12 @@ use Rattle.history.specs.Opening.{Opening}
 use Rattle.soundness.specs.MailFits.{IsUnderWay}
 use Rattle.table_laws.proofs.Rows.{row-key, same_or_not}
 use Rattle.turn_laws.proofs.Decide.{below_or_not}
-use Rattle.workable_laws.specs.Workable.{CloudFits, Drawn, IsCalled, JobsStand, MayPoll, MustLive}
+use Rattle.soundness.specs.Numbered.{EachOnce}
+use Rattle.workable_laws.specs.Workable.{CloudFits, Drawn, IsCalled, JobsStand, MayPoll, MustLive, RowStands}
 
 -- a row that the step wrote: at its own number, with its token, or at a new one
 pub record IsWritten (o : Opening) (g : List Entry) (s : StateData) (m n : ℕ) (q : Row) : Type 0 where
-  pub act : q.act ≢ Rollback
+  pub stands : RowStands q
   pub lives : MustLive q → (x : TokenState) → Contains (could_of o g (token_of q)) x → IsSome x
   pub token : n ≡ m → n < s.next.row → (r : Row) × (row_at s.rows m ≡ Some r) × (token_of q ≡ token_of r)
 
@@ -37,7 +37,8 @@ pub record JobsKept (s : StateData) (jobs : List Job) (e m : ℕ) : Type 0 where
 pub record OwnJob (o : Opening) (g : List Entry) (s t : StateData) (m : ℕ) (k : Job) : Type 0 where
   pub place : (k.row ≡ m) ⊎ (s.next.row ≤ k.row)
   pub called : IsUnderWay k.stage → IsCalled t k
-  pub polled : k.stage ≡ Polling → (r : Row) (x : TokenState) → row_at t.rows k.row ≡ Some r → Contains (could_of o g (token_of r)) x
+  pub polled : k.stage ≡ Polling → (r : Row) (x : TokenState) → row_at t.rows k.row ≡ Some r
+      → Contains (could_of o g (token_of r)) x
       → MayPoll r.act x
 
 pub record Kept (o : Opening) (h g : List Entry) (s t : StateData) (e m : ℕ) : Type 0 where
@@ -47,8 +48,10 @@ pub record Kept (o : Opening) (h g : List Entry) (s t : StateData) (e m : ℕ) :
   pub own : (k : Job) → job_at t.jobs e ≡ Some k → OwnJob o g s t m k
   pub could : (x : Token) → x.row ≢ m → could_of o g x ≡ could_of o h x
   pub released : (x : Token) → Contains t.released x → Contains s.released x ⊎ (row_at t.rows x.row ≡ None)
+  pub once : EachOnce t.live
 
-module _ (o : Opening) (h g : List Entry) (s t : StateData) (e m : ℕ) (d : Drawn s) (js : JobsStand s) (c : CloudFits o h s)
+module _ (o : Opening) (h g : List Entry) (s t : StateData) (e m : ℕ) (d : Drawn s) (js : JobsStand s)
+    (c : CloudFits o h s)
     (k : Kept o h g s t e m) where
   -- a row is an old one, or was written
   was : (n : ℕ) (q : Row) → row_at t.rows n ≡ Some q → ((n ≢ m) × (row_at s.rows n ≡ Some q)) ⊎ IsWritten o g s m n q
@@ -65,7 +68,11 @@ module _ (o : Opening) (h g : List Entry) (s t : StateData) (e m : ℕ) (d : Dra
 
   -- an engine with a job was live before
   lived : (f : ℕ) (j : Job) → job_at s.jobs f ≡ Some j → Contains t.live f → Contains s.live f
-  lived f j its alive = elim (k.live f alive) [ inl old ↦ old | inr le ↦ let lt = d.holders f j its in absurd (omega (arith, lt, le)) ]
+  lived f j its alive = elim (k.live f alive) [
+    | inl old ↦ old
+    | inr le ↦ let lt = d.holders f j its in
+        absurd (omega (arith, lt, le))
+  ]
 
   -- its own row is no other job's
   strange : (f : ℕ) (i j : Job) → job_at t.jobs f ≡ Some i → f ≢ e → job_at t.jobs e ≡ Some j → i.row ≡ j.row → ⊥
@@ -102,16 +109,19 @@ module _ (o : Opening) (h g : List Entry) (s t : StateData) (e m : ℕ) (d : Dra
   stands = record {
     apart = apart;
     called = called;
-    acts = λ n q at. elim (was n q at) [ inl old ↦ js.acts n q old.1 | inr new ↦ new.act ];
+    rows = λ n q at. elim (was n q at) [ inl old ↦ js.rows n q old.1 | inr new ↦ new.stands ];
   }
 
-  lives : (n : ℕ) (q : Row) (x : TokenState) → row_at t.rows n ≡ Some q → MustLive q → Contains (could_of o g (token_of q)) x → IsSome x
+  lives : (n : ℕ) (q : Row) (x : TokenState) → row_at t.rows n ≡ Some q → MustLive q
+      → Contains (could_of o g (token_of q)) x → IsSome x
   lives n q x at must among = elim (was n q at) [
-    | inl old ↦ c.lives n q x old.1 must (subst (λ (l : List TokenState). Contains l x) (k.could (token_of q) (token_row n q old.1 old.0)) among)
+    | inl old ↦ c.lives n q x old.1 must
+        (subst (λ (l : List TokenState). Contains l x) (k.could (token_of q) (token_row n q old.1 old.0)) among)
     | inr new ↦ new.lives must x among
   ]
 
-  polled : (f : ℕ) (j : Job) (r : Row) (x : TokenState) → Contains t.live f → job_at t.jobs f ≡ Some j → j.stage ≡ Polling
+  polled : (f : ℕ) (j : Job) (r : Row) (x : TokenState) → Contains t.live f → job_at t.jobs f ≡ Some j
+      → j.stage ≡ Polling
       → row_at t.rows j.row ≡ Some r → Contains (could_of o g (token_of r)) x → MayPoll r.act x
   polled f j r x alive its stage at among = elim (same_or_not f e) [
     | inl is ↦ (k.own j (subst (λ (n : ℕ). job_at t.jobs n ≡ Some j) is its)).polled stage r x at among

@@ -7,6 +7,12 @@ pub mod Begun
 pub mod Called
 pub mod Quiet
 pub mod Moved
+pub mod Within
 pub mod Laid
+pub mod Applying
+pub mod Applied
 pub mod Stepped
 pub mod Openings
+pub mod Admissions
+pub mod Restarts
+pub mod Runs

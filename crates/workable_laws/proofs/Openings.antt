@@ -1,6 +1,8 @@
--- An admitted image is workable, a sound state is, and what a live engine needs is there.
-use Rattle.std.proofs.Common.{◌≡◌, ◌≢◌, inl, inr, ◌<◌, ℕ, Option, Some, None, refl, sym, subst, ◌∙◌, arith}
-use Rattle.std.specs.Prelude.{Contains, IsSome, unwrap_or}
+-- An admitted image is workable where no live engine has a job, a sound state is, and what a live engine needs is
+-- there.
+use Rattle.std.proofs.Common.{◌≡◌, ◌≢◌, inl, inr, ◌<◌, ℕ, List, Option, Some, None, refl, sym, subst, ◌∙◌, arith}
+use Rattle.std.specs.Prelude.{Contains, IsSome, slice_index_or, unwrap_or}
+use Rattle.std.proofs.lemmas.Option.{slice_get-get_or}
 use Rattle.heat_plan.specs.declared.calls.Request.{Request}
 use Rattle.heat_plan.specs.declared.phase.Act.{Act}
 use Rattle.heat_plan.specs.declared.phase.Act.TheVariants.{Create, Delete, Init, Rollback, Update}
@@ -13,12 +15,15 @@ use Rattle.row_table.specs.declared.row.Row.{Row}
 use Rattle.mail_table.specs.Mails.{job_at}
 use Rattle.mail_table.specs.declared.mail.Job.{Job}
 use Rattle.mail_table.specs.declared.mail.Stage.TheVariants.{Asking}
+use Rattle.core_state.specs.declared.entry.Entry.{Entry}
+use Rattle.core_state.specs.declared.graph.Graph.{Graph}
 use Rattle.core_state.specs.State.{StateData, stack_at}
 use Rattle.core_state.specs.declared.stack.Stack.{Stack}
 use Rattle.step_relation.specs.Asks.{Asks, Polls}
 use Rattle.step_relation.specs.Rows.{token_of}
 use Rattle.history.specs.Could.{could_of}
-use Rattle.history.specs.Opening.{first_of}
+use Rattle.history.specs.Opening.{Opening, first_of}
+use Rattle.soundness.specs.Sound.{Sound}
 use Rattle.soundness.specs.Agrees.{IsGoing}
 use Rattle.soundness.specs.Headline.{MayBeAsked, create, delete, gone, poll, update}
 use Rattle.soundness.specs.GraphFits.{GraphFits}
@@ -29,8 +34,10 @@ use Rattle.table_laws.proofs.Rows.{job-key, letter-key, row-key, same_some}
 use Rattle.agree_laws.proofs.Called.{only}
 use Rattle.headline_laws.proofs.Items.{All-among}
 use Rattle.turn_laws.specs.HasTurn.{IsAskable}
+use Rattle.edge_laws.proofs.Members.{contains_at}
 use Rattle.workable_laws.specs.Laws.{AdmittedIsWorkable, SoundIsWorkable, WorkableHasWork, WorkableMayAsk}
-use Rattle.workable_laws.specs.Workable.{AllHavePoints, Drawn, HasPoints, IsCalled, IsCalledAct, MustLive, creates, deletes, ready, updates, updating}
+use Rattle.workable_laws.specs.Workable.{AreWhole, Drawn, IsCalled, IsCalledAct, IsWhole, MustLive, creates, deletes}
+use Rattle.workable_laws.specs.Workable.{ready, updates, updating}
 use Rattle.step_relation.specs.Asks as call
 use Rattle.work_laws.specs.Found as found_at
 
@@ -40,30 +47,38 @@ drawn_of s k below = record {
   rows = λ n r at. let lt = (k.numbered.rows n r at).no_ in let key = row-key s.rows n r at in omega (arith, lt, key);
   cleanups = λ name g i n at node. (k.numbered.graphs name g at).nodes i (C n) node;
   jobs = λ e j at. (k.numbered.jobs e j at).its_row;
-  holders = λ e j at. let lt = (k.numbered.jobs e j at).holder in let key = job-key s.jobs e j at in omega (arith, lt, key);
-  letters = λ n l at. let lt = (k.numbered.letters n l at).no_ in let key = letter-key s.letters n l at in omega (arith, lt, key);
+  holders = λ e j at. let lt = (k.numbered.jobs e j at).holder in let key = job-key s.jobs e j at in
+      omega (arith, lt, key);
+  letters = λ n l at. let lt = (k.numbered.letters n l at).no_ in let key = letter-key s.letters n l at in
+      omega (arith, lt, key);
   live = k.numbered.live;
   released = below;
 }
 
 pub admitted : AdmittedIsWorkable
-admitted o a = record {
+admitted o a still = record {
   drawn = drawn_of o.state a.tied.links a.tied.below;
-  points = a.read.points;
+  once = a.tied.links.numbered.once;
+  graphs = a.read.graphs;
   jobs = record {
     apart = a.tied.links.locked.apart;
-    called = λ e j live its way. absurd (a.still e live);
-    acts = a.read.acts;
+    called = λ e j live its way. absurd (jobless e j live its);
+    rows = λ n r at. record { act = a.read.acts n r at; target = a.tied.targets n r at };
   };
   cloud = record {
     lives = λ n r x at must among. subst IsSome (sym (only (first_of o (token_of r)) x among)) (lives n r at must);
-    polled = λ e j r x live its stage at among. absurd (a.still e live);
+    polled = λ e j r x live its stage at among. absurd (jobless e j live its);
     rowless = a.tied.released;
   };
 } where
+  jobless : (e : ℕ) (j : Job) → Contains o.state.live e → job_at o.state.jobs e ≡ Some j → ⊥
+  jobless e j live its = let none = still e live in cc
+
   lives : (n : ℕ) (r : Row) → row_at o.state.rows n ≡ Some r → MustLive r → IsSome (first_of o (token_of r))
-  lives n r at (ready done begun kept) = let k = (a.compared.rows n r at).ready done begun kept in rw k.alive.alive refl
-  lives n r at (updating act under) = elim ((a.compared.rows n r at).updating act under) [ inl k ↦ rw k.alive refl | inr k ↦ rw k.alive refl ]
+  lives n r at (ready done begun kept) =
+      let k = (a.compared.rows n r at).ready done begun in rw k.as_it_is.alive.alive refl
+  lives n r at (updating act under) =
+      elim ((a.compared.rows n r at).updating act under) [ inl k ↦ rw k.alive refl | inr k ↦ rw k.alive refl ]
 
 -- a sound state
 act_called : (r : Row) → r.act ≢ Rollback → r.act ≢ Init → IsCalledAct r.act
@@ -75,14 +90,29 @@ act_called r other begun = by r.act refl where
   by Delete is = deletes
   by Rollback is = absurd (other is)
 
+whole_graph : (s : StateData) (st : Stack) (g : Graph) → GraphFits s st g → IsWhole g
+whole_graph s st g fits = record {
+  points = λ i node there. let p = fits.nodes.points i node there in (p.point, p.there);
+  ends = λ i d lt. let e = slice_index_or g.graph.edges i d in
+      fits.nodes.ends e.0 e.1 (contains_at g.graph.edges i e (slice_get-get_or g.graph.edges i d lt));
+}
+
+pub whole_of : (o : Opening) (h : List Entry) (s : StateData) → Sound o h s → AreWhole s
+whole_of o h s x name g has at = by (stack_at s.stacks name) refl has where
+  by : (y : Option Stack) → stack_at s.stacks name ≡ y → IsSome y → IsWhole g
+  by (Some st) found some = whole_graph s st g
+      (subst (GraphFits s st) (graph_here s name g at) (x.standing.shape.graphs name st found))
+  by None found some = cc
+
 pub sound : SoundIsWorkable
 sound o h s x = record {
   drawn = drawn_of s x.standing.links x.released.below;
-  points = points;
+  once = x.standing.links.numbered.once;
+  graphs = whole_of o h s x;
   jobs = record {
     apart = x.standing.links.locked.apart;
     called = λ e j live its way. called e j its way;
-    acts = λ n r at. (x.standing.shape.each_row n r at).acts;
+    rows = λ n r at. let fits = x.standing.shape.each_row n r at in record { act = fits.acts; target = fits.updating };
   };
   cloud = record {
     lives = lives;
@@ -93,14 +123,6 @@ sound o h s x = record {
     rowless = x.released.rowless;
   };
 } where
-  points : AllHavePoints s
-  points name g has at = by (stack_at s.stacks name) refl has where
-    by : (x : Option Stack) → stack_at s.stacks name ≡ x → IsSome x → HasPoints g
-    by (Some st) found some = λ i node there.
-        let fits : GraphFits s st g = subst (GraphFits s st) (graph_here s name g at) (x.standing.shape.graphs name st found) in
-        let p = fits.nodes.points i node there in (p.point, p.there)
-    by None found some = cc
-
   called : (e : ℕ) (j : Job) → job_at s.jobs e ≡ Some j → IsUnderWay j.stage → IsCalled s j
   called e j its way =
       let k = x.standing.shape.jobs.under_way e j its way in
@@ -111,9 +133,12 @@ sound o h s x = record {
         act = act_called k.row fits.acts (λ is. let f = sym k.status ∙ fits.init is in cc);
       }
 
-  lives : (n : ℕ) (r : Row) (y : TokenState) → row_at s.rows n ≡ Some r → MustLive r → Contains (could_of o h (token_of r)) y → IsSome y
-  lives n r y at (ready done begun kept) among = let k = (x.agrees.rows n r y at among).ready done begun kept in rw k.alive.alive refl
-  lives n r y at (updating act under) among = elim ((x.agrees.rows n r y at among).updating act under) [ inl k ↦ rw k.alive refl | inr k ↦ rw k.alive refl ]
+  lives : (n : ℕ) (r : Row) (y : TokenState) → row_at s.rows n ≡ Some r → MustLive r
+      → Contains (could_of o h (token_of r)) y → IsSome y
+  lives n r y at (ready done begun kept) among = let k = (x.agrees.rows n r y at among).ready done begun kept in
+      rw k.alive.alive refl
+  lives n r y at (updating act under) among =
+      elim ((x.agrees.rows n r y at among).updating act under) [ inl k ↦ rw k.alive refl | inr k ↦ rw k.alive refl ]
 
 -- what a live engine needs
 asks_for : (r : Row) → IsCalledAct r.act → (asked : Request) × Asks r asked
@@ -125,7 +150,8 @@ asks_for r k = by r.act refl k where
 
 pub has_work : WorkableHasWork
 has_work o h s e w live = record {
-  points = λ j st g node its names. w.points j.letter.stack g (rw names.in_table refl) names.its_graph j.letter.node node names.its_node;
+  points = λ j st g node its names.
+      (w.graphs j.letter.stack g (rw names.in_table refl) names.its_graph).points j.letter.node node names.its_node;
   asking = λ j its is. askable j its is;
   polling = λ j its is. let k = w.jobs.called e j live its (subst IsUnderWay (sym is) polls) in (k.row, k.found);
 } where
@@ -143,9 +169,12 @@ may_ask o h s e j r stage asked w v found (found_at.asks _ is) = by asked is whe
 
   by : (a : Request) → Asks r a → MayBeAsked (could_of o h (token_of r)) a
   by _ (call.creates act) = create r.kind.name r.props
-  by _ (call.updates act) = update (unwrap_or r.target r.props) (All-among IsSome (could_of o h (token_of r)) (λ y c. w.cloud.lives j.row r y found (updating act status) c))
+  by _ (call.updates act) = update (unwrap_or r.target r.props)
+      (All-among IsSome (could_of o h (token_of r)) (λ y c. w.cloud.lives j.row r y found (updating act status) c))
   by _ (call.deletes act) = delete
 may_ask o h s e j r stage asked w v found (found_at.polls _ is) = by asked is where
   by : (a : Request) → Polls r a → MayBeAsked (could_of o h (token_of r)) a
-  by _ (call.polls ne) = poll (All-among IsSome (could_of o h (token_of r)) (λ y c. (w.cloud.polled e j r y v.live v.its v.stage_is found c).there ne))
-  by _ (call.looks act) = gone (All-among IsGoing (could_of o h (token_of r)) (λ y c. (w.cloud.polled e j r y v.live v.its v.stage_is found c).going act))
+  by _ (call.polls ne) = poll (All-among IsSome (could_of o h (token_of r))
+      (λ y c. (w.cloud.polled e j r y v.live v.its v.stage_is found c).there ne))
+  by _ (call.looks act) = gone (All-among IsGoing (could_of o h (token_of r))
+      (λ y c. (w.cloud.polled e j r y v.live v.its v.stage_is found c).going act))

@@ -25,8 +25,8 @@ use Rattle.history.specs.Opening.{Opening}
 use Rattle.soundness.specs.MailFits.{IsUnderWay, asks, polls}
 use Rattle.table_laws.proofs.Rows.{job_gone, job_here, same_some}
 use Rattle.tell_laws.proofs.Silence.{AreUncalling, could-silent}
-use Rattle.workable_laws.specs.Workable.{AllHavePoints, Drawn, IsCalled, MustLive, Workable, ready, updating}
-use Rattle.workable_laws.proofs.Drawing.{AllFit, drawn_applied, points_applied}
+use Rattle.workable_laws.specs.Workable.{AreWhole, Drawn, IsCalled, MustLive, Workable, ready, updating}
+use Rattle.workable_laws.proofs.Drawing.{AllFit, drawn_applied, whole_applied}
 use Rattle.workable_laws.proofs.Kept.{Kept, OwnJob, kept_cloud, kept_jobs}
 
 -- rows that nothing has to live for
@@ -43,7 +43,8 @@ dead_new q new (ready done begun kept) = begun new
 dead_new q new (updating act status) = cc
 
 pub like_live : (r q : Row) → q.status ≡ r.status → q.act ≡ r.act → MustLive q → MustLive r
-like_live r q status act (ready done begun kept) = ready (sym status ∙ done) (λ e. begun (act ∙ e)) (λ e. kept (act ∙ e))
+like_live r q status act (ready done begun kept) = ready (sym status ∙ done) (λ e. begun (act ∙ e))
+    (λ e. kept (act ∙ e))
 like_live r q status act (updating up under) = updating (sym act ∙ up) (sym status ∙ under)
 
 -- a job at Taken or Ending asks nothing
@@ -57,28 +58,35 @@ idle_ending _ is polls = cc
 
 module _ (o : Opening) (h : List Entry) (s : StateData) (w : Workable o h s) where
   -- a move is done
-  pub done : (cs : List Change) (es : List Entry) (e m : ℕ) → AllFit s s.next cs → Kept o h (h ++ es) s (applied cs s) e m
+  pub done : (cs : List Change) (es : List Entry) (e m : ℕ) → AllFit s s.next cs
+      → Kept o h (h ++ es) s (applied cs s) e m
       → Workable o (h ++ es) (applied cs s)
   done cs es e m fits k = record {
     drawn = drawn_applied s cs s fits w.drawn;
-    points = points_applied cs s fits w.points;
+    once = k.once;
+    graphs = whole_applied cs s fits w.graphs;
     jobs = kept_jobs o h (h ++ es) s (applied cs s) e m w.drawn w.jobs w.cloud k;
     cloud = kept_cloud o h (h ++ es) s (applied cs s) e m w.drawn w.jobs w.cloud k;
   }
 
-  pub done_with : (t : StateData) (es : List Entry) (e m : ℕ) → Drawn t → AllHavePoints t → Kept o h (h ++ es) s t e m → Workable o (h ++ es) t
-  done_with t es e m d p k = record {
+  pub done_with : (t : StateData) (es : List Entry) (e m : ℕ) → Drawn t → AreWhole t → Kept o h (h ++ es) s t e m
+      → Workable o (h ++ es) t
+  done_with t es e m d whole k = record {
     drawn = d;
-    points = p;
+    once = k.once;
+    graphs = whole;
     jobs = kept_jobs o h (h ++ es) s t e m w.drawn w.jobs w.cloud k;
     cloud = kept_cloud o h (h ++ es) s t e m w.drawn w.jobs w.cloud k;
   }
 
   -- what lived lives, where nobody is called
-  pub lived : (es : List Entry) → AreUncalling es → (n : ℕ) (r q : Row) → row_at s.rows n ≡ Some r → token_of q ≡ token_of r
-      → (MustLive q → MustLive r) → MustLive q → (x : TokenState) → Contains (could_of o (h ++ es) (token_of q)) x → IsSome x
+  pub lived : (es : List Entry) → AreUncalling es → (n : ℕ) (r q : Row) → row_at s.rows n ≡ Some r
+      → token_of q ≡ token_of r
+      → (MustLive q → MustLive r) → MustLive q → (x : TokenState)
+      → Contains (could_of o (h ++ es) (token_of q)) x → IsSome x
   lived es silent n r q at token back must x among =
-      w.cloud.lives n r x at (back must) (subst (λ (l : List TokenState). Contains l x) (could-silent o h es (token_of r) silent)
+      w.cloud.lives n r x at (back must)
+      (subst (λ (l : List TokenState). Contains l x) (could-silent o h es (token_of r) silent)
       (subst (λ (t : Token). Contains (could_of o (h ++ es) t) x) token among))
 
   -- a node's target is drawn
@@ -86,7 +94,8 @@ module _ (o : Opening) (h : List Entry) (s : StateData) (w : Workable o h s) whe
   leads_drawn n t (ends _ r at l) = w.drawn.rows n r at
   leads_drawn n t (goes _ m _ r at by up on) = leads_drawn m t on
 
-  pub target_drawn : (name : List ℕ) (g : Graph) (i : ℕ) (node : Node) (t : ℕ) → graph_at s.graphs name ≡ Some g → slice_get g.graph.nodes i ≡ Some node
+  pub target_drawn : (name : List ℕ) (g : Graph) (i : ℕ) (node : Node) (t : ℕ) → graph_at s.graphs name ≡ Some g
+      → slice_get g.graph.nodes i ≡ Some node
       → IsTarget s.rows name node t → t < s.next.row
   target_drawn name g i node t at there (of_c _) = w.drawn.cleanups name g i t at there
   target_drawn name g i node t at there (of_u word n _ on) = leads_drawn n t on
@@ -100,7 +109,8 @@ pub own_none : (jobs : List Job) (q : Job) (e : ℕ) → job_at (cut_job e jobs)
 own_none jobs q e at = let none = job_gone e jobs in cc
 
 -- one that asks nothing
-pub still_job : (o : Opening) (g : List Entry) (s t : StateData) (m : ℕ) (k : Job) → k.row ≡ m → (k.stage ≡ Taken) ⊎ (k.stage ≡ Ending) → OwnJob o g s t m k
+pub still_job : (o : Opening) (g : List Entry) (s t : StateData) (m : ℕ) (k : Job) → k.row ≡ m
+    → (k.stage ≡ Taken) ⊎ (k.stage ≡ Ending) → OwnJob o g s t m k
 still_job o g s t m k place (inl is) = record {
   place = inl place;
   called = λ way. absurd (idle_taken k.stage is way);
@@ -113,7 +123,8 @@ still_job o g s t m k place (inr is) = record {
 }
 
 -- one that asks for a row that was begun
-pub asking_job : (o : Opening) (g : List Entry) (s t : StateData) (m : ℕ) (k : Job) → (k.row ≡ m) ⊎ (s.next.row ≤ k.row) → k.stage ≡ Asking
+pub asking_job : (o : Opening) (g : List Entry) (s t : StateData) (m : ℕ) (k : Job) → (k.row ≡ m) ⊎ (s.next.row ≤ k.row)
+    → k.stage ≡ Asking
     → IsCalled t k → OwnJob o g s t m k
 asking_job o g s t m k place is called = record {
   place = place;

@@ -11,6 +11,7 @@ use Rattle.core_state.specs.declared.change.Change.{Change}
 use Rattle.core_state.specs.declared.entry.Entry.{Entry}
 use Rattle.history.specs.Opening.{Opening}
 use Rattle.tell_laws.proofs.Silence.{AreUncalling, could-silent}
+use Rattle.soundness.specs.Numbered.{EachOnce}
 use Rattle.workable_laws.specs.Workable.{Workable}
 use Rattle.workable_laws.proofs.Drawing.{AllFit}
 use Rattle.workable_laws.proofs.Kept.{JobsKept, Kept, RowsKept}
@@ -26,17 +27,24 @@ pub record IsSame (s t : StateData) : Type 0 where
 
 module _ (o : Opening) (h : List Entry) (s : StateData) (w : Workable o h s) where
   -- no row has the next number, and no engine of that number has a job
-  pub same_kept : (es : List Entry) → AreUncalling es → (t : StateData) → IsSame s t → Kept o h (h ++ es) s t s.next.engine s.next.row
-  same_kept es silent t same = record {
+  pub same_kept : (es : List Entry) → AreUncalling es → (t : StateData) → IsSame s t → EachOnce t.live
+      → Kept o h (h ++ es) s t s.next.engine s.next.row
+  same_kept es silent t same once = record {
     live = same.live;
     rows = subst (λ (l : List Row). RowsKept o (h ++ es) s l s.next.row) (sym same.rows)
-        (rows_untouched o h (h ++ es) s w.drawn w.jobs w.cloud s.next.row (λ q at must x among. let lt = w.drawn.rows s.next.row q at in absurd (omega (arith, lt))));
+        (rows_untouched o h (h ++ es) s w.drawn w.jobs w.cloud s.next.row
+        (λ q at must x among. let lt = w.drawn.rows s.next.row q at in absurd (omega (arith, lt))));
     jobs = subst (λ (l : List Job). JobsKept s l s.next.engine s.next.row) (sym same.jobs)
         (record { else_ = λ f j at ne. (at, (λ is. let lt = w.drawn.jobs f j at in omega (arith, lt, is))) });
-    own = λ q at. let lt = w.drawn.holders s.next.engine q (subst (λ (l : List Job). job_at l s.next.engine ≡ Some q) same.jobs at) in absurd (omega (arith, lt));
+    own = λ q at. let lt = w.drawn.holders s.next.engine q
+        (subst (λ (l : List Job). job_at l s.next.engine ≡ Some q) same.jobs at) in absurd (omega (arith, lt));
     could = λ x ne. could-silent o h es x silent;
     released = λ x c. inl (subst (λ (l : List Token). Contains l x) same.released c);
+    once = once;
   }
 
-  pub same_workable : (cs : List Change) (es : List Entry) → AreUncalling es → AllFit s s.next cs → IsSame s (applied cs s) → Workable o (h ++ es) (applied cs s)
-  same_workable cs es silent fits same = done o h s w cs es s.next.engine s.next.row fits (same_kept es silent (applied cs s) same)
+  pub same_workable : (cs : List Change) (es : List Entry) → AreUncalling es → AllFit s s.next cs
+      → IsSame s (applied cs s)
+      → EachOnce (applied cs s).live → Workable o (h ++ es) (applied cs s)
+  same_workable cs es silent fits same once = done o h s w cs es s.next.engine s.next.row fits
+      (same_kept es silent (applied cs s) same once)

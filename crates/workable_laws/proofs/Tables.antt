@@ -1,7 +1,6 @@
 -- The writes of a step to rows and jobs, at one row.
-use Rattle.std.proofs.Common.{◌≡◌, ◌≢◌, inl, inr, ◌<◌, ◌≤◌, ℕ, List, Some, refl, sym, ap, subst, ◌∙◌, arith}
+use Rattle.std.proofs.Common.{◌≡◌, inl, inr, ◌<◌, ◌≤◌, ℕ, List, Some, refl, sym, ap, subst, ◌∙◌, arith}
 use Rattle.std.specs.Prelude.{Contains, IsSome}
-use Rattle.heat_plan.specs.declared.phase.Act.TheVariants.{Rollback}
 use Rattle.heat_plan.specs.declared.token.Token.{Token}
 use Rattle.provider.specs.Table.{TokenState}
 use Rattle.row_table.specs.Rows.{cut_row, put_row, row_at}
@@ -15,7 +14,7 @@ use Rattle.step_relation.specs.Takes.{HasNoHolder}
 use Rattle.history.specs.Could.{could_of}
 use Rattle.history.specs.Opening.{Opening}
 use Rattle.table_laws.proofs.Rows.{job_cut, job_put, row-key, row_cut, row_else, row_kept, row_put}
-use Rattle.workable_laws.specs.Workable.{CloudFits, Drawn, JobsStand, MustLive}
+use Rattle.workable_laws.specs.Workable.{CloudFits, Drawn, JobsStand, MustLive, RowStands}
 use Rattle.workable_laws.proofs.Kept.{IsWritten, JobsKept, RowsKept}
 
 module _ (o : Opening) (h g : List Entry) (s : StateData) (d : Drawn s) (js : JobsStand s) (c : CloudFits o h s) where
@@ -23,7 +22,7 @@ module _ (o : Opening) (h g : List Entry) (s : StateData) (d : Drawn s) (js : Jo
   same_written : (m n : ℕ) (q : Row) → row_at s.rows n ≡ Some q → n ≡ m
       → (MustLive q → (x : TokenState) → Contains (could_of o g (token_of q)) x → IsSome x) → IsWritten o g s m n q
   same_written m n q at is lives = record {
-    act = js.acts n q at;
+    stands = js.rows n q at;
     lives = lives;
     token = λ e lt. (q, subst (λ (k : ℕ). row_at s.rows k ≡ Some q) is at, refl);
   }
@@ -32,7 +31,8 @@ module _ (o : Opening) (h g : List Entry) (s : StateData) (d : Drawn s) (js : Jo
   none_new n q at le = let lt = d.rows n q at in omega (arith, lt, le)
 
   -- nothing is written; what may be alive under the one token is told
-  pub rows_untouched : (m : ℕ) → ((q : Row) → row_at s.rows m ≡ Some q → MustLive q → (x : TokenState) → Contains (could_of o g (token_of q)) x → IsSome x)
+  pub rows_untouched : (m : ℕ) → ((q : Row) → row_at s.rows m ≡ Some q → MustLive q → (x : TokenState)
+      → Contains (could_of o g (token_of q)) x → IsSome x)
       → RowsKept o g s s.rows m
   rows_untouched m lives = record {
     else_ = λ n ne lt. refl;
@@ -43,13 +43,15 @@ module _ (o : Opening) (h g : List Entry) (s : StateData) (d : Drawn s) (js : Jo
   }
 
   -- the row is written anew
-  pub rows_put_here : (m : ℕ) (r q : Row) → row_at s.rows m ≡ Some r → token_of q ≡ token_of r → q.act ≢ Rollback
-      → (MustLive q → (x : TokenState) → Contains (could_of o g (token_of q)) x → IsSome x) → RowsKept o g s (put_row q s.rows) m
-  rows_put_here m r q at token act lives =
+  pub rows_put_here : (m : ℕ) (r q : Row) → row_at s.rows m ≡ Some r → token_of q ≡ token_of r → RowStands q
+      → (MustLive q → (x : TokenState) → Contains (could_of o g (token_of q)) x → IsSome x)
+      → RowsKept o g s (put_row q s.rows) m
+  rows_put_here m r q at token stands lives =
       let number : q.no ≡ m = ap (λ (y : Token). y.row) token ∙ row-key s.rows m r at in record {
         else_ = λ n ne lt. row_else q s.rows n (λ e. ne (sym e ∙ number));
         written = λ n p found where_. elim (row_put q s.rows found) [
-          | inl new ↦ subst (IsWritten o g s m n) new.1 (record { act = act; lives = lives; token = λ e lt. (r, at, token) })
+          | inl new ↦ subst (IsWritten o g s m n) new.1
+              (record { stands = stands; lives = lives; token = λ e lt. (r, at, token) })
           | inr old ↦ elim where_ [
             | inl is ↦ absurd (old.0 (number ∙ sym is))
             | inr le ↦ absurd (none_new n p old.1 le)
@@ -68,19 +70,20 @@ module _ (o : Opening) (h g : List Entry) (s : StateData) (d : Drawn s) (js : Jo
   }
 
   -- another row takes its place
-  pub rows_replaced : (m : ℕ) (r q p : Row) → row_at s.rows m ≡ Some r → token_of p ≡ token_of r → p.act ≢ Rollback
+  pub rows_replaced : (m : ℕ) (r q p : Row) → row_at s.rows m ≡ Some r → token_of p ≡ token_of r → RowStands p
       → (MustLive p → (x : TokenState) → Contains (could_of o g (token_of p)) x → IsSome x)
-      → q.no ≡ s.next.row → q.act ≢ Rollback → (MustLive q → ⊥) → RowsKept o g s (put_row p (put_row q s.rows)) m
-  rows_replaced m r q p at token act lives fresh new_act dead =
+      → q.no ≡ s.next.row → RowStands q → (MustLive q → ⊥) → RowsKept o g s (put_row p (put_row q s.rows)) m
+  rows_replaced m r q p at token stands lives fresh new_stands dead =
       let number : p.no ≡ m = ap (λ (y : Token). y.row) token ∙ row-key s.rows m r at in
       let below : m < s.next.row = d.rows m r at in record {
         else_ = λ n ne lt. row_else p (put_row q s.rows) n (λ e. ne (sym e ∙ number))
             ∙ row_else q s.rows n (λ e. omega (arith, lt, fresh, e));
         written = λ n x found where_. elim (row_put p (put_row q s.rows) found) [
-          | inl new ↦ subst (IsWritten o g s m n) new.1 (record { act = act; lives = lives; token = λ e lt. (r, at, token) })
+          | inl new ↦ subst (IsWritten o g s m n) new.1
+              (record { stands = stands; lives = lives; token = λ e lt. (r, at, token) })
           | inr old ↦ elim (row_put q s.rows old.1) [
             | inl own ↦ subst (IsWritten o g s m n) own.1 (record {
-              act = new_act;
+              stands = new_stands;
               lives = λ must. absurd (dead must);
               token = λ e lt. let at_next = own.0 in absurd (omega (arith, lt, at_next, fresh));
             })
@@ -94,7 +97,8 @@ module _ (o : Opening) (h g : List Entry) (s : StateData) (d : Drawn s) (js : Jo
 
 module _ (s : StateData) (js : JobsStand s) where
   -- the engine's job changes
-  pub jobs_restaged : (e : ℕ) (j k : Job) → job_at s.jobs e ≡ Some j → k.engine ≡ e → JobsKept s (put_job k s.jobs) e j.row
+  pub jobs_restaged : (e : ℕ) (j k : Job) → job_at s.jobs e ≡ Some j → k.engine ≡ e
+      → JobsKept s (put_job k s.jobs) e j.row
   jobs_restaged e j k its is = record {
     else_ = λ f i at ne. elim (job_put k s.jobs at) [
       | inl new ↦ absurd (ne (sym new.0 ∙ is))

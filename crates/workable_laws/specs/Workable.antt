@@ -1,4 +1,4 @@
--- What each step keeps of whatever image a book is opened with, and what the engines' calls need.
+-- What each step keeps of whatever image a book is opened with: what its changes need, and the engines' calls.
 use Rattle.std.specs.Prelude.{Contains, IsSome, List, Some, slice_get, ℕ, ◌<◌, ◌≡◌, ◌≢◌}
 use Rattle.heat_plan.specs.declared.phase.Act.{Act}
 use Rattle.heat_plan.specs.declared.phase.Act.TheVariants.{Create, Delete, Init, Rollback, Update}
@@ -14,6 +14,7 @@ use Rattle.mail_table.specs.Mails.{job_at, letter_at}
 use Rattle.mail_table.specs.declared.mail.Job.{Job}
 use Rattle.mail_table.specs.declared.mail.Letter.{Letter}
 use Rattle.mail_table.specs.declared.mail.Stage.TheVariants.{Polling}
+use Rattle.core_state.specs.Applies.{IsWithin}
 use Rattle.core_state.specs.State.{StateData, graph_at, stack_at}
 use Rattle.core_state.specs.declared.entry.Entry.{Entry}
 use Rattle.core_state.specs.declared.graph.Graph.{Graph}
@@ -22,11 +23,13 @@ use Rattle.history.specs.Could.{could_of}
 use Rattle.history.specs.Opening.{Opening}
 use Rattle.soundness.specs.Agrees.{IsGoing}
 use Rattle.soundness.specs.MailFits.{IsUnderWay}
+use Rattle.soundness.specs.Numbered.{EachOnce}
 
 -- the numbers that are drawn, and never again: those of rows, of jobs' and clean-up nodes' rows, of letters and engines
 pub record Drawn (s : StateData) : Type 0 where
   pub rows : (n : ℕ) (r : Row) → row_at s.rows n ≡ Some r → n < s.next.row
-  pub cleanups : (name : List ℕ) (g : Graph) (i n : ℕ) → graph_at s.graphs name ≡ Some g → slice_get g.graph.nodes i ≡ Some (C n)
+  pub cleanups : (name : List ℕ) (g : Graph) (i n : ℕ) → graph_at s.graphs name ≡ Some g
+      → slice_get g.graph.nodes i ≡ Some (C n)
       → n < s.next.row
   pub jobs : (e : ℕ) (j : Job) → job_at s.jobs e ≡ Some j → j.row < s.next.row
   pub holders : (e : ℕ) (j : Job) → job_at s.jobs e ≡ Some j → e < s.next.engine
@@ -34,13 +37,16 @@ pub record Drawn (s : StateData) : Type 0 where
   pub live : (e : ℕ) → Contains s.live e → e < s.next.engine
   pub released : (t : Token) → Contains s.released t → t.row < s.next.row
 
--- each node has its point
-abbrev pub HasPoints : Graph → Type 0
-HasPoints g = (i : ℕ) (node : Node) → slice_get g.graph.nodes i ≡ Some node → (p : Point) × (slice_get g.points i ≡ Some p)
+-- each node has its point, and each edge goes from a node to a node
+pub record IsWhole (g : Graph) : Type 0 where
+  pub points : (i : ℕ) (node : Node) → slice_get g.graph.nodes i ≡ Some node
+      → (p : Point) × (slice_get g.points i ≡ Some p)
+  pub ends : IsWithin g.graph
 
--- in the graph of each stack
-abbrev pub AllHavePoints : StateData → Type 0
-AllHavePoints s = (name : List ℕ) (g : Graph) → IsSome (stack_at s.stacks name) → graph_at s.graphs name ≡ Some g → HasPoints g
+-- so is the graph of each stack
+abbrev pub AreWhole : StateData → Type 0
+AreWhole s = (name : List ℕ) (g : Graph) → IsSome (stack_at s.stacks name) → graph_at s.graphs name ≡ Some g
+    → IsWhole g
 
 -- what a row is when something is asked for it
 pub data IsCalledAct : Act → Type 0 where
@@ -48,17 +54,23 @@ pub data IsCalledAct : Act → Type 0 where
   updates : IsCalledAct Update
   deletes : IsCalledAct Delete
 
+-- the row of a job that asks or polls: it is under way
 pub record IsCalled (s : StateData) (j : Job) : Type 0 where
   pub row : Row
   pub found : row_at s.rows j.row ≡ Some row
   pub status : row.status ≡ InProgress
   pub act : IsCalledAct row.act
 
--- the rows of jobs: never one for two engines, and under way where a live one asks or polls
+-- a row's act is never ROLLBACK, and a row that is being updated has the properties that it is to get
+pub record RowStands (r : Row) : Type 0 where
+  pub act : r.act ≢ Rollback
+  pub target : r.act ≡ Update → r.status ≡ InProgress → IsSome r.target
+
+-- the rows, and those of jobs: never one for two engines, and under way where a live one asks or polls
 pub record JobsStand (s : StateData) : Type 0 where
   pub apart : (e f : ℕ) (j k : Job) → job_at s.jobs e ≡ Some j → job_at s.jobs f ≡ Some k → j.row ≡ k.row → e ≡ f
   pub called : (e : ℕ) (j : Job) → Contains s.live e → job_at s.jobs e ≡ Some j → IsUnderWay j.stage → IsCalled s j
-  pub acts : (n : ℕ) (r : Row) → row_at s.rows n ≡ Some r → r.act ≢ Rollback
+  pub rows : (n : ℕ) (r : Row) → row_at s.rows n ≡ Some r → RowStands r
 
 -- the row's resource must be there: it is ready, or is being updated
 pub data MustLive (r : Row) : Type 0 where
@@ -72,14 +84,18 @@ pub record MayPoll (act : Act) (state : TokenState) : Type 0 where
 
 -- what the cloud may have, by the history, fits the rows and the jobs of live engines
 pub record CloudFits (o : Opening) (h : List Entry) (s : StateData) : Type 0 where
-  pub lives : (n : ℕ) (r : Row) (x : TokenState) → row_at s.rows n ≡ Some r → MustLive r → Contains (could_of o h (token_of r)) x
+  pub lives : (n : ℕ) (r : Row) (x : TokenState) → row_at s.rows n ≡ Some r → MustLive r
+      → Contains (could_of o h (token_of r)) x
       → IsSome x
-  pub polled : (e : ℕ) (j : Job) (r : Row) (x : TokenState) → Contains s.live e → job_at s.jobs e ≡ Some j → j.stage ≡ Polling
+  pub polled : (e : ℕ) (j : Job) (r : Row) (x : TokenState) → Contains s.live e → job_at s.jobs e ≡ Some j
+      → j.stage ≡ Polling
       → row_at s.rows j.row ≡ Some r → Contains (could_of o h (token_of r)) x → MayPoll r.act x
   pub rowless : (t : Token) (r : Row) → Contains s.released t → row_at s.rows t.row ≡ Some r → token_of r ≢ t
 
+-- what each step keeps of an image
 pub record Workable (o : Opening) (h : List Entry) (s : StateData) : Type 0 where
   pub drawn : Drawn s
-  pub points : AllHavePoints s
+  pub once : EachOnce s.live
+  pub graphs : AreWhole s
   pub jobs : JobsStand s
   pub cloud : CloudFits o h s

@@ -1,4 +1,4 @@
-use Rattle.history_examples.proofs.Spoiled.{runs_have_headline}
+use Rattle.history_examples.proofs.Sentences.{runs_have_headline}
 use Rattle.history_examples.proofs.runs_have_headline.Goals as goal
 
 pub returns : goal.returns

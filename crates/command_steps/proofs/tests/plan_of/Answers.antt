@@ -1,4 +1,4 @@
-use Rattle.command_steps.proofs.OneItem.{one_is_plan}
+use Rattle.heat_plan.proofs.OneItem.{one_is_plan}
 use Rattle.command_steps.proofs.tests.plan_of.Goals as goal
 
 pub new-requires-6 : goal.new-requires-6

@@ -2,27 +2,31 @@
 use Rattle.std.proofs.Common.{◌∙◌, ◌≤◌, inl, inr, refl, ap, arith}
 use Rattle.heat_io.specs.Reading.{Reader}
 use Rattle.heat_io.specs.Streams.{ahead}
+use Rattle.book.specs.Kept.{opening_of}
+use Rattle.converge_call.proofs.Handing.{same_opening}
 use Rattle.converge_call.proofs.Driving.{starts, goes_on, ends_at, ends_well, ends_unread, too_long_of}
 use Rattle.converge_call.proofs.Answering.{answered_as, never_read}
 use Rattle.converge_call.proofs.drive.drive.Goals as goal
 
 pub loop-number-init : goal.loop-number-init
 loop-number-init g c = record {
-  so = starts _ _ _ c.new-reader.result.held c.new-reader.result.given c.requires.opened c.requires.fresh (ap (λ (r : Reader). r.held) c.new-reader.ensures) (ap (λ (r : Reader). r.given) c.new-reader.ensures);
+  so = starts _ (opening_of g.P.Provider.cloud c.args.book.now) _ c.new-reader.result.held
+      c.new-reader.result.given c.requires.opened c.requires.fresh (ap (λ (r : Reader). r.held) c.new-reader.ensures)
+      (ap (λ (r : Reader). r.given) c.new-reader.ensures);
   reads = omega arith;
   writes = omega arith;
-  live = refl;
   same = record { opening = refl; origin = refl };
   goes_on = ap (λ (r : Reader). r.goes_on) c.new-reader.ensures;
 }
 
 pub loop-number-preserved : goal.loop-number-preserved
 loop-number-preserved g c = record {
-  so = goes_on _ _ _ _ _ _ _ c.loop-number.invariant.so _ c.next.new.self.given c.in-Line.line _ _ _ c.in-Line.ensures.told c.in-Line.ensures.seen.1.rises c.in-Line.ensures.seen.1.within
-      (answered_as _ _ c.in-Line.line _ _ _ _ _ _ _ c.as_slice.ensures c.loop-number.invariant.same.opening c.answer.ensures.answered) c.in-Ok.is;
+  so = goes_on _ _ _ _ _ _ _ c.loop-number.invariant.so _ c.next.new.self.given c.in-Line.line _ _ _
+      c.in-Line.ensures.told c.in-Line.ensures.seen.1.rises c.in-Line.ensures.seen.1.within
+      (answered_as _ _ c.in-Line.line _ _ _ _ _ _ _ c.as_slice.ensures
+      (same_opening g.P.Provider.cloud _ _ c.loop-number.invariant.same) c.answer.ensures.answered) c.in-Ok.is;
   reads = omega (arith, c.loop-number.invariant.reads, c.next.ensures.later);
   writes = omega (arith, c.loop-number.invariant.writes, c.answer.ensures.later);
-  live = c.answer.ensures.live ∙ c.loop-number.invariant.live;
   same = record {
     opening = c.answer.ensures.same.opening ∙ c.loop-number.invariant.same.opening;
     origin = c.answer.ensures.same.origin ∙ c.loop-number.invariant.same.origin;
@@ -31,10 +35,13 @@ loop-number-preserved g c = record {
 }
 
 pub returns-in-End-clause-drove : goal.returns-in-End-clause-drove
-returns-in-End-clause-drove g c = ends_well _ _ _ _ _ _ _ c.loop-number.invariant.so c.next.new.self.held (g.S.Source.left c.next.new.source) c.next.new.self.given c.in-End.ensures.told
+returns-in-End-clause-drove g c = ends_well _ _ _ _ _ _ _ c.loop-number.invariant.so c.next.new.self.held
+    (g.S.Source.left c.next.new.source) c.next.new.self.given c.in-End.ensures.told
 
 pub returns-in-LineTooLong-clause-drove : goal.returns-in-LineTooLong-clause-drove
-returns-in-LineTooLong-clause-drove g c = too_long_of _ _ _ _ _ _ _ c.loop-number.invariant.so (ahead c.next.new.self.held (g.S.Source.left c.next.new.source)) _ c.next.new.self.given c.next.result c.in-LineTooLong.is c.next.ensures.told
+returns-in-LineTooLong-clause-drove g c =
+    too_long_of _ _ _ _ _ _ _ c.loop-number.invariant.so (ahead c.next.new.self.held (g.S.Source.left c.next.new.source))
+    _ c.next.new.self.given c.next.result c.in-LineTooLong.is c.next.ensures.told
 
 pub returns-in-ReadFault-clause-drove : goal.returns-in-ReadFault-clause-drove
 returns-in-ReadFault-clause-drove g c = ends_unread _ _ _ _ _ _ _ c.loop-number.invariant.so _ _ (inl refl)
@@ -43,11 +50,14 @@ pub returns-in-Memory-clause-drove : goal.returns-in-Memory-clause-drove
 returns-in-Memory-clause-drove g c = ends_unread _ _ _ _ _ _ _ c.loop-number.invariant.so _ _ (inr refl)
 
 pub returns-in-Err-clause-drove : goal.returns-in-Err-clause-drove
-returns-in-Err-clause-drove g c = ends_at _ _ _ _ _ _ _ c.loop-number.invariant.so _ c.next.new.self.given c.in-Line.line _ _ _ _ c.in-Err.exit c.in-Line.ensures.told
-    (answered_as _ _ c.in-Line.line _ _ _ _ _ _ _ c.as_slice.ensures c.loop-number.invariant.same.opening c.answer.ensures.answered) c.in-Err.is
+returns-in-Err-clause-drove g c = ends_at _ _ _ _ _ _ _ c.loop-number.invariant.so _ c.next.new.self.given
+    c.in-Line.line _ _ _ _ c.in-Err.exit c.in-Line.ensures.told
+    (answered_as _ _ c.in-Line.line _ _ _ _ _ _ _ c.as_slice.ensures
+    (same_opening g.P.Provider.cloud _ _ c.loop-number.invariant.same) c.answer.ensures.answered) c.in-Err.is
 
 pub returns-in-Err-clause-read : goal.returns-in-Err-clause-read
-returns-in-Err-clause-read g c is = absurd (never_read _ _ _ _ _ _ _ c.answer.result c.in-Err.exit c.answer.ensures.answered c.in-Err.is is)
+returns-in-Err-clause-read g c is =
+    absurd (never_read _ _ _ _ _ _ _ c.answer.result c.in-Err.exit c.answer.ensures.answered c.in-Err.is is)
 
 pub unreachable-requires : goal.unreachable-requires
 unreachable-requires g c =

@@ -1,6 +1,6 @@
 use Rattle.std.proofs.Common.{◌≡◌, ◌≤◌, true}
 use Rattle.heat_io.specs.Streams.{ahead}
-use Rattle.book.specs.Kept.{IsSameBook}
+use Rattle.book.specs.Kept.{IsSameBook, opening_of}
 use Rattle.book.specs.Quiet.{page}
 use Rattle.converge_call.specs.Drives.{streams}
 use Rattle.converge_call.proofs.Driving.{SoFar}
@@ -8,11 +8,12 @@ use Rattle.converge_call.proofs.drive.drive.Given as goal
 
 abbrev pub invariant-loop-number : goal.invariant-loop-number
 invariant-loop-number g l = record {
-  so : SoFar (streams (g.S.Source.left l.initial.source) (g.K.Sink.holds l.initial.sink)) l.initial.book.opening
-      (page l.book.state l.book.entries) (ahead l.reader.held (g.S.Source.left l.source)) (g.K.Sink.holds l.sink) l.reader.given l.number;
+  so : SoFar (streams (g.S.Source.left l.initial.source) (g.K.Sink.holds l.initial.sink))
+      (opening_of g.P.Provider.cloud l.initial.book)
+      (page l.book.state l.book.entries) (ahead l.reader.held (g.S.Source.left l.source))
+      (g.K.Sink.holds l.sink) l.reader.given l.number;
   reads : g.S.Source.faults l.initial.source ≤ g.S.Source.faults l.source;
   writes : g.K.Sink.faults l.initial.sink ≤ g.K.Sink.faults l.sink;
-  live : l.book.state.live ≡ l.initial.book.state.live;
   same : IsSameBook l.initial.book l.book;
   goes_on : l.reader.goes_on ≡ true;
 }

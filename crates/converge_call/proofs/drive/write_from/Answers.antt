@@ -31,5 +31,6 @@ returns-clause-written g c =
 pub returns-then-from-entries-clause-written : goal.returns-then-from-entries-clause-written
 returns-then-from-entries-clause-written g c =
     let count = ap length c.entries-entries.ensures in
-    let nothing = nothing_told c.args.book.now.opening c.args.book.now.entries c.args.from (omega (arith, c.if-from-entries.true, count)) in
+    let nothing = nothing_told c.args.book.now.opening c.args.book.now.entries c.args.from
+    (omega (arith, c.if-from-entries.true, count)) in
     nothing_written _ _ nothing

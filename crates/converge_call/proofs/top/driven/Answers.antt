@@ -9,8 +9,11 @@ returns-clause-status g c = never_usage _ _ _ _ _ _ c.drive-status.ensures.drove
 
 pub returns-clause-driven : goal.returns-clause-driven
 returns-clause-driven g c b is =
-    let old = outside (g.S.Source.left c.args.source.now) (g.S.Source.faults c.args.source.now) (g.K.Sink.holds c.args.sink.now) (g.K.Sink.faults c.args.sink.now) in
-    let new = outside (g.S.Source.left c.drive-status.new.source) (g.S.Source.faults c.drive-status.new.source) (g.K.Sink.holds c.drive-status.new.sink) (g.K.Sink.faults c.drive-status.new.sink) in
+    let old = outside (g.S.Source.left c.args.source.now) (g.S.Source.faults c.args.source.now)
+    (g.K.Sink.holds c.args.sink.now) (g.K.Sink.faults c.args.sink.now) in
+    let new = outside (g.S.Source.left c.drive-status.new.source) (g.S.Source.faults c.drive-status.new.source)
+    (g.K.Sink.holds c.drive-status.new.sink) (g.K.Sink.faults c.drive-status.new.sink) in
     let same : c.drive-status.new.book ≡ b = cc in
-    as_driven g.P.Provider.cloud c.args.book old new c.drive-status.result c.drive-status.new.book b same c.requires.opening c.drive-status.ensures.drove
+    as_driven g.P.Provider.cloud c.args.book old new c.drive-status.result c.drive-status.new.book b same
+    c.drive-status.ensures.same c.drive-status.ensures.drove
     c.drive-status.ensures.read c.drive-status.ensures.write c.promises.ensures.run c.promises.ensures.headline

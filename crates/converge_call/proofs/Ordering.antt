@@ -1,0 +1,94 @@
+-- What a call of the book that makes one step came to, and the note of its refusal.
+use Rattle.std.proofs.Common.{◌≡◌, ℕ, List, Some, None, refl, sym, ap, ◌∙◌, subst, Result, Ok, Err}
+use Rattle.std.specs.Prelude.{Bool}
+use Rattle.heat_plan.specs.Plans.{PlanData}
+use Rattle.heat_plan.specs.Refusals.{code_of}
+use Rattle.heat_plan.specs.declared.refusal.Refusal.{Refusal}
+use Rattle.heat_plan.specs.declared.refusal.Refusal.TheVariants as refusal
+use Rattle.core_state.specs.declared.change.Change.{Change}
+use Rattle.core_state.specs.declared.entry.Entry.{Entry}
+use Rattle.core_state.specs.State.{StateData}
+use Rattle.step_relation.specs.Refusals.{RefusesCancel, RefusesCreate, RefusesDelete, RefusesUpdate}
+use Rattle.command_steps.specs.Answers.{Cancels, Creates, Deletes, Updates}
+use Rattle.plain_templates.specs.Faults.{fault_code}
+use Rattle.plain_templates.specs.declared.fault.PlanFault.{PlanFault}
+use Rattle.plain_templates.specs.declared.fault.PlanFault.TheVariants as fault
+use Rattle.script_lines.specs.Misreads.{misread_code}
+use Rattle.script_lines.specs.declared.misread.Misread.{Misread}
+use Rattle.script_lines.specs.declared.misread.Misread.TheVariants as misread
+use Rattle.book.specs.Commands.{IsOrder, RefusesOrder}
+use Rattle.book.specs.Makings.{Does}
+use Rattle.book.specs.Makings as makings
+use Rattle.book.specs.Quiet.{Page}
+use Rattle.book.specs.declared.commanding.StackCommand.{StackCommand}
+use Rattle.book.specs.declared.commanding.StackCommand.TheVariants as order
+use Rattle.converge_call.specs.declared.exit.Exit.{Exit}
+use Rattle.converge_call.specs.Notes.{IsUndone, HasDone, did}
+use Rattle.converge_call.specs.Commands.{StepDoes, IsRefusedFor, made, not_made}
+use Rattle.converge_call.proofs.Noting.{does_as, done_on}
+
+-- what has a code is no want of memory
+coded : (number : ℕ) (r : Refusal) (old new : StateData) (es : List Entry) → IsRefusedFor number r old new es
+    → r ≡ refusal.Memory → ⊥
+coded number r old new es it same =
+    let none : Some it.code ≡ None = sym it.its_code ∙ ap code_of same in cc
+
+err_is : {A : Type 0} (r s : Refusal) → ◌≡◌ {A = Result A Refusal} (Err r) (Err s) → r ≡ s
+err_is r s same = cc
+
+module _ {A : Type 0} (number : ℕ) (Is : List Change → List Entry → Type 0) (Refuses : Refusal → Type 0) (answer : A)
+    (old mid new : Page)
+    (result : Result (Unit {0}) Exit) where
+  -- what a step that was made, or its refusal, came to, as what a line does
+  abbrev Done : (StateData → StateData → List Entry → Type 0) → Type 0
+  Done D = HasDone D IsUndone old new result
+
+  pub step_done : (D : StateData → StateData → List Entry → Type 0)
+      → ((es : List Entry) → StepDoes number Is Refuses old.state new.state es → D old.state new.state es)
+      → (given : A) → Does Is Refuses answer old new (Ok given) → result ≡ Ok tt → Done D
+  step_done D turns given (makings.done cs es it writes is) went =
+      did es (turns es (made cs it writes.state)) writes.entries went
+  step_done D turns given (makings.refused r cause same is) went = cc
+  step_done D turns given (makings.memory same is) went = cc
+
+  pub step_refused : (D : StateData → StateData → List Entry → Type 0)
+      → ((es : List Entry) → StepDoes number Is Refuses old.state new.state es → D old.state new.state es)
+      → (r : Refusal) → Does Is Refuses answer old mid (Err r)
+      → HasDone (IsRefusedFor number r) IsUndone mid new result → Done D
+  step_refused D turns r (makings.done cs es it writes is) note = cc
+  step_refused D turns r (makings.refused s cause same is) note =
+      let one : s ≡ r = sym (err_is r s is) in
+      does_as (IsRefusedFor number r) D old new result
+      (λ es noted. turns es (not_made r (subst Refuses one cause) noted))
+      (done_on (IsRefusedFor number r) old mid new result same note)
+  step_refused D turns r (makings.memory same is) note =
+      does_as (IsRefusedFor number r) D old new result
+      (λ es noted. absurd (coded number r old.state new.state es noted (err_is r refusal.Memory is)))
+      (done_on (IsRefusedFor number r) old mid new result same note)
+
+-- a call of a command, whichever it is
+pub ordered : (old new : Page) (c : StackCommand) (result : Result ℕ Refusal)
+    → ((name : List ℕ) (plan : PlanData) (rollback : Bool) → c ≡ order.Create name plan rollback
+    → Does (Creates old.state name plan rollback)
+    (RefusesCreate old.state name plan rollback) old.state.next.trav old new result)
+    → ((name : List ℕ) (plan : PlanData) (rollback : Bool) → c ≡ order.Update name plan rollback
+    → Does (Updates old.state name plan rollback)
+    (RefusesUpdate old.state name plan rollback) old.state.next.trav old new result)
+    → ((name : List ℕ) → c ≡ order.Delete name
+    → Does (Deletes old.state name) (RefusesDelete old.state name) old.state.next.trav old new result)
+    → ((name : List ℕ) → c ≡ order.Cancel name
+    → Does (Cancels old.state name) (RefusesCancel old.state name) old.state.next.trav old new result)
+    → Does (IsOrder old.state c) (RefusesOrder old.state c) old.state.next.trav old new result
+ordered old new (order.Create name plan rollback) result created updated deleted cancelled =
+    created name plan rollback refl
+ordered old new (order.Update name plan rollback) result created updated deleted cancelled =
+    updated name plan rollback refl
+ordered old new (order.Delete name) result created updated deleted cancelled = deleted name refl
+ordered old new (order.Cancel name) result created updated deleted cancelled = cancelled name refl
+
+-- a fault with a code is no want of memory
+pub plan_fault_told : (why : PlanFault) (code : List ℕ) → fault_code why ≡ Some code → why ≡ fault.Memory → ⊥
+plan_fault_told why code its same = let none : Some code ≡ None = sym its ∙ ap fault_code same in cc
+
+pub misread_told : (why : Misread) (code : List ℕ) → misread_code why ≡ Some code → why ≡ misread.Memory → ⊥
+misread_told why code its same = let none : Some code ≡ None = sym its ∙ ap misread_code same in cc

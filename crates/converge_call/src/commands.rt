@@ -1,0 +1,138 @@
+//! Lines that make one step by the reader of commands: commands on stacks, and changes of engines.
+ghost use Rattle.book.specs.Kept.{IsSameBook};
+ghost use Rattle.book.specs.Quiet.{page};
+ghost use Rattle.converge_call.specs.Notes.{IsUndone, HasDone};
+ghost use Rattle.converge_call.specs.Commands.{BodyDoes, OrderDoes, StopDoes, StartDoes, IsRefusedFor, IsUnplannedFor};
+
+use crate::exit::Exit;
+use crate::notes::{refuse, refuse_at};
+use book::{Book, StackCommand};
+use heat_plan::{EngineNo, Refusal, StackName};
+use plain_templates::{PlanFault, plain_plan};
+use provider::Provider;
+use script_lines::Body;
+use std::alloc::Global;
+
+/// Creates a stack by the plan of a body.
+pub fn create<P: Provider>(
+    alloc: Global,
+    book: &mut Book<P>,
+    number: u64,
+    name: StackName,
+    body: &Body,
+) -> Result<(), Exit>
+    ensures done { HasDone
+        (BodyDoes number body.now (λ plan. StackCommand.Create name plan body.now.rollback)) IsUndone
+        (page book.old.state book.old.entries) (page book.new.state book.new.entries) result }
+    ensures same { IsSameBook book.old book.new }
+{
+    match plain_plan(alloc, body) {
+        Ok(plan) => {
+            let command = StackCommand::Create(name, plan, body.rollback());
+            order(alloc, book, number, command)
+        }
+        Err(fault) => refuse_plan(alloc, book, number, &fault),
+    }
+}
+
+/// Updates a stack to the plan of a body.
+pub fn update<P: Provider>(
+    alloc: Global,
+    book: &mut Book<P>,
+    number: u64,
+    name: StackName,
+    body: &Body,
+) -> Result<(), Exit>
+    ensures done { HasDone
+        (BodyDoes number body.now (λ plan. StackCommand.Update name plan body.now.rollback)) IsUndone
+        (page book.old.state book.old.entries) (page book.new.state book.new.entries) result }
+    ensures same { IsSameBook book.old book.new }
+{
+    match plain_plan(alloc, body) {
+        Ok(plan) => {
+            let command = StackCommand::Update(name, plan, body.rollback());
+            order(alloc, book, number, command)
+        }
+        Err(fault) => refuse_plan(alloc, book, number, &fault),
+    }
+}
+
+/// Makes a command's step, or notes why not.
+pub fn order<P: Provider>(
+    alloc: Global,
+    book: &mut Book<P>,
+    number: u64,
+    command: StackCommand,
+) -> Result<(), Exit>
+    ensures done { HasDone (OrderDoes number command) IsUndone
+        (page book.old.state book.old.entries) (page book.new.state book.new.entries) result }
+    ensures same { IsSameBook book.old book.new }
+{
+    match book.command(command) {
+        Ok(_) => Ok(()),
+        Err(refusal) => refuse_for(alloc, book, number, refusal),
+    }
+}
+
+/// Stops an engine, or notes that it isn't live.
+pub fn stop<P: Provider>(
+    alloc: Global,
+    book: &mut Book<P>,
+    number: u64,
+    engine: EngineNo,
+) -> Result<(), Exit>
+    ensures done { HasDone (StopDoes number engine) IsUndone
+        (page book.old.state book.old.entries) (page book.new.state book.new.entries) result }
+    ensures same { IsSameBook book.old book.new }
+{
+    match book.stop(engine) {
+        Ok(()) => Ok(()),
+        Err(refusal) => refuse_for(alloc, book, number, refusal),
+    }
+}
+
+/// Enlists an engine, or notes why not.
+pub fn start<P: Provider>(alloc: Global, book: &mut Book<P>, number: u64) -> Result<(), Exit>
+    ensures done { HasDone (StartDoes number) IsUndone
+        (page book.old.state book.old.entries) (page book.new.state book.new.entries) result }
+    ensures same { IsSameBook book.old book.new }
+{
+    match book.enlist() {
+        Ok(_) => Ok(()),
+        Err(refusal) => refuse_for(alloc, book, number, refusal),
+    }
+}
+
+// Notes a refusal that has a code.
+fn refuse_for<P: Provider>(
+    alloc: Global,
+    book: &mut Book<P>,
+    number: u64,
+    refusal: Refusal,
+) -> Result<(), Exit>
+    ensures done { HasDone (IsRefusedFor number refusal) IsUndone
+        (page book.old.state book.old.entries) (page book.new.state book.new.entries) result }
+    ensures same { IsSameBook book.old book.new }
+{
+    match refusal.code() {
+        Some(code) => refuse(alloc, book, number, code),
+        None => Err(Exit::Memory),
+    }
+}
+
+// Notes why a body has no plan.
+fn refuse_plan<P: Provider>(
+    alloc: Global,
+    book: &mut Book<P>,
+    number: u64,
+    fault: &PlanFault,
+) -> Result<(), Exit>
+    ensures done { HasDone (IsUnplannedFor number fault.now) IsUndone
+        (page book.old.state book.old.entries) (page book.new.state book.new.entries) result }
+    ensures same { IsSameBook book.old book.new }
+{
+    match fault.code() {
+        Some(code) => refuse_at(alloc, book, number, code, fault.path()),
+        None => Err(Exit::Memory),
+    }
+}

@@ -1,0 +1,9 @@
+pub mod Ones
+pub mod Listed
+pub mod Keyed
+pub mod Records
+pub mod Stacked
+pub mod Tables
+pub mod Spending
+pub mod Resting
+pub mod Turning

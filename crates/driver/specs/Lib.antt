@@ -1,0 +1,5 @@
+pub mod Rounds
+pub mod Turns
+pub mod Settled
+pub mod Keyed
+pub mod Parts

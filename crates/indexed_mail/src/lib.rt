@@ -1,0 +1,15 @@
+//! The mail between engines, found through indexes: `Mails` is what those above see of it, over the list
+//! of the waiting letters and that of the jobs; `ListMails` reads the lists from end to end, and
+//! `MailTable` finds each letter and job by sorted vectors. Nothing here decides who takes a letter or
+//! what a job does next. It answers to `specs/Mail.antt` and `Holders.antt`.
+#![tactic(auto)]
+
+mod by_row;
+mod job_table;
+mod list_mails;
+mod mails;
+mod table;
+
+pub use list_mails::ListMails;
+pub use mails::Mails;
+pub use table::MailTable;

@@ -1,0 +1,4 @@
+pub mod Rooms
+pub mod Orders
+pub mod Numbers
+pub mod Sortings

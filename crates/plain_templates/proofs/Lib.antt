@@ -1,0 +1,11 @@
+pub mod Flat
+pub mod Boxes
+pub mod Keys
+pub mod ItemLists
+pub mod Places
+pub mod Edges
+pub mod Alike
+pub mod Cycles
+pub mod Rising
+pub mod OneCycle
+pub mod OnePlan

@@ -1,0 +1,4 @@
+pub mod Items
+pub mod Graphs
+pub mod Plans
+pub mod Faults

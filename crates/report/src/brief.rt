@@ -1,0 +1,120 @@
+//! What a report keeps of a row and of a stack.
+ghost use Rattle.std.specs.Prelude.{◌≡◌, IfOk, option_map};
+ghost use Rattle.report.specs.Seen.{row_seen, stack_seen};
+
+use core_state::{Row, Stack};
+use heat_plan::{Act, Facts, ResName, RowNo, StackName, Status, TravNo};
+use heat_value::{Text, TryCopy};
+use sorted_list::Ordered;
+use std::alloc::AllocError;
+use std::cmp::Ordering;
+
+/// What is shown of a row.
+#[derive(Debug, Drop)]
+pub(crate) struct SeenRow {
+    pub(crate) stack: StackName,
+    pub(crate) name: ResName,
+    pub(crate) no: RowNo,
+    pub(crate) kind: Text,
+    pub(crate) act: Act,
+    pub(crate) status: Status,
+    pub(crate) id: Option<Text>,
+    pub(crate) replaces: Option<RowNo>,
+    pub(crate) replaced_by: Option<RowNo>,
+}
+
+/// What is shown of a stack: its newest traversal, and how it stands.
+#[derive(Debug, Drop)]
+pub(crate) struct SeenStack {
+    pub(crate) name: StackName,
+    pub(crate) trav: TravNo,
+    pub(crate) act: Act,
+    pub(crate) status: Status,
+}
+
+impl SeenRow {
+    /// A row in brief.
+    pub(crate) fn of(row: &Row) -> Result<SeenRow, AllocError>
+        ensures { IfOk result (λ s. s ≡ row_seen row.now) }
+    {
+        Ok(SeenRow {
+            stack: row.stack.copy()?,
+            name: row.name.copy()?,
+            no: row.no,
+            kind: row.kind.name.copy()?,
+            act: row.act,
+            status: row.status,
+            id: id_of(&row.facts)?,
+            replaces: row.replaces,
+            replaced_by: row.replaced_by,
+        })
+    }
+}
+
+// The id among facts, if there are any.
+fn id_of(facts: &Option<Facts>) -> Result<Option<Text>, AllocError>
+    ensures { IfOk result (λ id. id ≡ option_map (λ f. f.id) facts.now) }
+{
+    match facts {
+        Some(facts) => Ok(Some(facts.id.copy()?)),
+        None => Ok(None),
+    }
+}
+
+impl SeenStack {
+    /// A stack in brief.
+    pub(crate) fn of(stack: &Stack) -> Result<SeenStack, AllocError>
+        ensures { IfOk result (λ s. s ≡ stack_seen stack.now) }
+    {
+        Ok(SeenStack {
+            name: stack.name.copy()?,
+            trav: stack.trav,
+            act: stack.act,
+            status: stack.status,
+        })
+    }
+}
+
+impl Ordered for SeenRow {
+    type Key = RowNo;
+
+    ghost use Rattle.std.specs.Ordering.{nat_cmp};
+    ghost use Rattle.std.specs.Cmp.{nat_cmp_total};
+    ghost use Rattle.report.specs.Seen.{row_key};
+
+    ghost key_of = { row_key };
+
+    ghost order = { nat_cmp };
+
+    ghost total = { nat_cmp_total };
+
+    fn key(&self) -> &RowNo {
+        &self.no
+    }
+
+    fn compare(&self, key: &RowNo) -> Ordering {
+        self.no.get().cmp(&key.get())
+    }
+}
+
+impl Ordered for SeenStack {
+    type Key = StackName;
+
+    ghost use Rattle.std.specs.Ordering.{nat_cmp};
+    ghost use Rattle.std.specs.Cmp.Lexicographic.{slice_cmp, nat_list_cmp_total};
+    ghost use Rattle.report.specs.Seen.{stack_key};
+
+    ghost key_of = { stack_key };
+
+    ghost order = { slice_cmp nat_cmp };
+
+    ghost total = { nat_list_cmp_total };
+
+    fn key(&self) -> &StackName {
+        &self.name
+    }
+
+    fn compare(&self, key: &StackName) -> Ordering {
+        self.name.cmp(key)
+    }
+}
