@@ -1,7 +1,8 @@
 //! Reads a script line by line, does each, and writes what it added to the text.
-ghost use Rattle.std.specs.Prelude.{◌≡◌, ◌≤◌, [], length, IsErrOf};
+ghost use Rattle.std.specs.Prelude.{◌≡◌, ◌≤◌, [], OnOk, take, length, IsErrOf};
 ghost use Rattle.heat_value.specs.Counts.{Rose};
-ghost use Rattle.report.specs.Text.{text_after};
+ghost use Rattle.report.specs.Seen.{seen_of};
+ghost use Rattle.report.specs.Text.{seen_after, text_after};
 ghost use Rattle.book.specs.Kept.{IsSameBook, opening_of};
 ghost use Rattle.book.specs.Quiet.{page};
 ghost use Rattle.converge_call.specs.Drives.{streams, Drove, LineAnswered, Written};
@@ -11,7 +12,7 @@ use crate::line::do_line;
 use book::Book;
 use heat_io::{LineReader, Next, PutFault, SCRIPT_LIMIT, Sink, Source, put_all};
 use provider::Provider;
-use report::lines_of;
+use report::Reporter;
 use std::alloc::Global;
 
 /// Drives the book by the lines of the source. No script has more lines than bytes, and one more read
@@ -30,6 +31,9 @@ pub fn drive<S: Source, K: Sink, P: Provider>(
     ensures write { result ≡ Exit.WriteFault → Rose (K.faults sink.old) (K.faults sink.new) }
     ensures same { IsSameBook book.old book.new }
 {
+    let Ok(mut reporter) = Reporter::new(alloc, book.opening()) else {
+        return Exit::Memory;
+    };
     let mut reader = LineReader::new(alloc);
     for number in 1..=SCRIPT_LIMIT + 1 {
         let line = match reader.next(source) {
@@ -39,7 +43,7 @@ pub fn drive<S: Source, K: Sink, P: Provider>(
             Next::ReadFault => return Exit::ReadFault,
             Next::Memory => return Exit::Memory,
         };
-        match answer(alloc, sink, book, number, line.as_slice()) {
+        match answer(alloc, sink, &mut reporter, book, number, line.as_slice()) {
             Ok(()) => {}
             Err(exit) => return exit,
         }
@@ -47,38 +51,43 @@ pub fn drive<S: Source, K: Sink, P: Provider>(
     unreachable!()
 }
 
-// Does a line and writes what it added to the text.
+// Does a line and writes what it added to the text. The reporter has seen the history.
 fn answer<K: Sink, P: Provider>(
     alloc: Global,
     sink: &mut K,
+    reporter: &mut Reporter,
     book: &mut Book<P>,
     number: u64,
     line: &[u8],
 ) -> Result<(), Exit>
+    requires { reporter.old ≡ seen_after (seen_of book.old.opening) book.old.entries }
     ensures answered { LineAnswered (opening_of P.cloud book.old) number line.now
         (page book.old.state book.old.entries) (page book.new.state book.new.entries)
         (K.holds sink.old) (K.holds sink.new) result }
+    ensures seen { OnOk result (reporter.new ≡ seen_after (seen_of book.new.opening) book.new.entries) }
     ensures later { K.faults sink.old ≤ K.faults sink.new }
     ensures write { IsErrOf result Exit.WriteFault → Rose (K.faults sink.old) (K.faults sink.new) }
     ensures same { IsSameBook book.old book.new }
 {
     let from = book.entries().len();
     match do_line(alloc, book, number, line) {
-        Ok(()) => write_from(alloc, sink, book, from),
+        Ok(()) => write_from(sink, reporter, book, from),
         Err(exit) => Err(exit),
     }
 }
 
-// Writes what the entries from a place on add to the text. Where there are none, no entry is looked at.
+// Writes what the entries from a place on add to the text. The reporter has seen those before the place.
 fn write_from<K: Sink, P: Provider>(
-    alloc: Global,
     sink: &mut K,
+    reporter: &mut Reporter,
     book: &Book<P>,
     from: usize,
 ) -> Result<(), Exit>
-    requires { from ≤ length book.now.entries }
+    requires from { from ≤ length book.now.entries }
+    requires seen { reporter.old ≡ seen_after (seen_of book.now.opening) (take from book.now.entries) }
     ensures written { Written (K.holds sink.old) (K.holds sink.new)
         (text_after book.now.opening book.now.entries from) result }
+    ensures seen { OnOk result (reporter.new ≡ seen_after (seen_of book.now.opening) book.now.entries) }
     ensures later { K.faults sink.old ≤ K.faults sink.new }
     ensures write { IsErrOf result Exit.WriteFault → Rose (K.faults sink.old) (K.faults sink.new) }
 {
@@ -86,7 +95,7 @@ fn write_from<K: Sink, P: Provider>(
     if from == entries.len() {
         return Ok(());
     }
-    let Ok(text) = lines_of(alloc, book.opening(), entries, from) else {
+    let Ok(text) = reporter.add(&entries[from..]) else {
         return Err(Exit::Memory);
     };
     match put_all(sink, text.as_str().as_bytes()) {
