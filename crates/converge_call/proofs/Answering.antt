@@ -56,7 +56,7 @@ module _ (o : Opening) (number : ℕ) (line : List ℕ) (old new : Page) (holds 
   done_answered holds_new done answered opened from (notes.broke es cause breaks is ended) went same at written = cc
 
 -- the two causes for which a line is broken off
-abbrev IsBreak : Exit → Type 0
+abbrev pub IsBreak : Exit → Type 0
 IsBreak why = (why ≡ exit.Memory) ⊎ (why ≡ exit.Worn)
 
 break_is : (ended : Ran) → IsBreak (break_of ended)
@@ -97,7 +97,7 @@ asked_broken_for form.Start old new es why it = undone_is old new es why it
 asked_broken_for form.Restart old new es why it = undone_is old new es why it
 
 -- why a line is broken off
-broken_for : (text : List ℕ) (old new : StateData) (es : List Entry) (why : Exit) → LineBreaks text old new es why
+pub broken_for : (text : List ℕ) (old new : StateData) (es : List Entry) (why : Exit) → LineBreaks text old new es why
     → IsBreak why
 broken_for text old new es why (lines.unread un) = inl un.memory
 broken_for text old new es why (lines.asked said reads breaks) = asked_broken_for said old new es why breaks

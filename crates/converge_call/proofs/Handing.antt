@@ -8,6 +8,7 @@ use Rattle.converge_call.specs.declared.exit.Exit.{Exit}
 use Rattle.converge_call.specs.declared.exit.Exit.TheVariants as exit
 use Rattle.converge_call.specs.Drives.{Drove}
 use Rattle.converge_call.specs.Ends.{Outside, streams_of, HasDriven}
+use Rattle.converge_call.proofs.Completing.{calm_end}
 
 -- a book opens as it did
 pub same_opening : {P : Type 0} (cloud_of : P → Cloud) (old new : Shown P) → IsSameBook old new
@@ -28,6 +29,7 @@ as_driven {P} cloud_of first old new status last b same kept drove read write ru
           (sym (same_opening cloud_of first last kept)) drove;
       read = read;
       write = write;
+      calm = calm_end _ old new _ _ status drove read write;
       run = run;
       headline = headline;
     })

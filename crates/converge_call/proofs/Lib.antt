@@ -7,4 +7,6 @@ pub mod Lining
 pub mod Wording
 pub mod Answering
 pub mod Driving
+pub mod Reporting
+pub mod Completing
 pub mod Handing

@@ -53,6 +53,13 @@ abbrev pub FirstRead : Option (List ℕ) → List (List ℕ) → Type 0
 FirstRead left lines = (bytes : List ℕ) → left ≡ Some bytes
     → (rest : List ℕ) × (given : ℕ) × AreRead bytes lines rest given
 
+-- the source tells its bytes, and none of its lines passes a limit
+pub record StaysWithin (left : Option (List ℕ)) : Type 0 where
+  pub bytes : List ℕ
+  pub told : left ≡ Some bytes
+  pub within : (lines : List (List ℕ)) (rest : List ℕ) (given : ℕ) → AreRead bytes lines rest given
+      → ¬ PassesLimit rest given
+
 -- where the source tells its bytes, these are its first lines, and the next one passes a limit
 abbrev pub LimitRead : Option (List ℕ) → List (List ℕ) → Type 0
 LimitRead left lines = (bytes : List ℕ) → left ≡ Some bytes

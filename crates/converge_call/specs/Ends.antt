@@ -1,5 +1,5 @@
 -- What the top call comes to: of a book that was opened, and where none was.
-use Rattle.std.specs.Prelude.{◌≡◌, ℕ, List, Option}
+use Rattle.std.specs.Prelude.{◌≡◌, ◌⊎◌, ℕ, List, Option}
 use Rattle.heat_value.specs.Counts.{Rose}
 use Rattle.heat_plan.specs.declared.token.Token.{Token}
 use Rattle.core_state.specs.State.{StateData}
@@ -8,11 +8,12 @@ use Rattle.provider.specs.Changes.{IsAsBefore}
 use Rattle.provider.specs.Cloud.{Cloud}
 use Rattle.book.specs.Kept.{Shown, HasRun, HasHeadline, opened, opening_of}
 use Rattle.book.specs.Openings.{HasStranger}
+use Rattle.book.specs.Turned.{IsWornBy}
 use Rattle.converge_call.specs.declared.exit.Exit.{Exit}
 use Rattle.converge_call.specs.declared.exit.Exit.TheVariants as exit
 use Rattle.converge_call.specs.declared.exit.Finding.TheVariants.{Stranger}
 use Rattle.converge_call.specs.Words.{Drives}
-use Rattle.converge_call.specs.Drives.{Streams, streams, Drove}
+use Rattle.converge_call.specs.Drives.{Streams, streams, StaysWithin, Drove}
 
 -- what a source and a sink show at one moment: what is left and held, and how often they have failed
 pub record Outside : Type 0 where
@@ -34,15 +35,26 @@ pub record OpensFor (words : List (List ℕ)) (opening : StateData) : Type 0 whe
   pub form : Drives words workers
   pub opens : opening ≡ opened workers
 
+-- nothing came in the way: no count of faults rose, no line passed a limit, and no engine's next step is worn out
+pub record IsCalm (old new : Outside) (last : StateData) : Type 0 where
+  pub read : ¬ Rose old.read_faults new.read_faults
+  pub write : ¬ Rose old.write_faults new.write_faults
+  pub within : StaysWithin old.left
+  pub unworn : (e : ℕ) → ¬ IsWornBy last e
+
+-- the script was read to its end and all is written, or memory was wanted
+abbrev pub EndsCalmly : Exit → Type 0
+EndsCalmly status = (status ≡ exit.Done) ⊎ (status ≡ exit.Memory)
+
 -- A book that was opened was driven by the lines: the history is that of the lines read and what is written its text;
 -- it is a run's, its calls are the cloud's trace, and the main theorem holds of it. Faults of the outside come only
--- where
--- a count rose.
+-- where a count rose. Where nothing came in the way, all was done but for want of memory.
 pub record HasDriven {P : Type 0} (cloud_of : P → Cloud) (old new : Outside) (status : Exit)
     (b : Shown P) : Type 0 where
   pub drove : Drove (opening_of cloud_of b) (streams_of old) (streams_of new) b.state b.entries status
   pub read : status ≡ exit.ReadFault → Rose old.read_faults new.read_faults
   pub write : status ≡ exit.WriteFault → Rose old.write_faults new.write_faults
+  pub calm : IsCalm old new b.state → EndsCalmly status
   pub run : HasRun cloud_of b
   pub headline : HasHeadline cloud_of b
 
