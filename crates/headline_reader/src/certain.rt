@@ -6,7 +6,7 @@ ghost use Rattle.headline_reader.specs.Items.{IsReady, sole};
 use crate::living::Living;
 use crate::possible::Possible;
 
-/// Whether there is one state.
+// Whether there is one state.
 #[tactic(auto, using(crate::proofs::OneState::certain))]
 pub(crate) fn is_certain(possible: &Possible) -> bool
     ensures { IsTrue result ↔ IsCertain possible.now.states }
@@ -14,7 +14,7 @@ pub(crate) fn is_certain(possible: &Possible) -> bool
     possible.states.len() == 1
 }
 
-/// Whether one of the states is alive.
+// Whether one of the states is alive.
 pub(crate) fn may_live(possible: &Possible) -> bool
     ensures { IsTrue result ↔ MayLive possible.now.states }
 {
@@ -25,7 +25,7 @@ pub(crate) fn may_live(possible: &Possible) -> bool
         .any(|state| state.is_some())
 }
 
-/// The resource, where the token is certainly alive.
+// The resource, where the token is certainly alive.
 pub(crate) fn sole(possible: &Possible) -> Option<&Living>
     ensures { option_map (λ l. l.now) result ≡ sole possible.now.states }
 {
@@ -35,7 +35,7 @@ pub(crate) fn sole(possible: &Possible) -> Option<&Living>
     }
 }
 
-/// Whether the token is certainly alive and ready.
+// Whether the token is certainly alive and ready.
 pub(crate) fn is_ready(possible: &Possible) -> bool
     ensures { IsTrue result ↔ IsSomeAnd (sole possible.now.states) IsReady }
 {

@@ -1,6 +1,7 @@
 //! What an item of a plan asks for, among the tokens that calls name.
 ghost use Rattle.std.specs.Prelude.{◌↔◌, IsTrue};
-ghost use Rattle.headline_reader.specs.Items.{IsAs, IsOfItem, IsNeed, IsSame, IsOnly, HasOne, HasNeed, HasNeeds, HasItem, HasName, IsPlanned};
+ghost use Rattle.headline_reader.specs.Items.{IsAs, IsOfItem, IsNeed, IsSame, IsOnly, HasOne, HasNeed, HasNeeds};
+ghost use Rattle.headline_reader.specs.Items.{HasItem, HasName, IsPlanned};
 
 use crate::certain::{is_ready, may_live, sole};
 use crate::living::Living;
@@ -8,7 +9,7 @@ use crate::possible::Possible;
 use heat_plan::{Item, ResName};
 use heat_value::Equals;
 
-/// Whether the item's one resource is there as it asks, and what it needs is there too.
+// Whether the item's one resource is there as it asks, and what it needs is there too.
 #[tactic(auto, unfolding(crate::specs::Items::HasItem))]
 pub(crate) fn has_item(all: &[Possible], item: &Item) -> bool
     ensures { IsTrue result ↔ HasItem all.now item.now }
@@ -81,7 +82,7 @@ fn is_need(need: &ResName, it: &Possible) -> bool
     it.token.name == *need && is_ready(it)
 }
 
-/// Whether it is an item's, where it may be alive.
+// Whether it is an item's, where it may be alive.
 #[tactic(auto, unfolding(crate::specs::Items::IsPlanned))]
 pub(crate) fn is_planned(items: &[Item], it: &Possible) -> bool
     ensures { IsTrue result ↔ IsPlanned items.now it.now }

@@ -31,7 +31,7 @@ impl Mark {
     }
 }
 
-/// A traversal and its mark.
+// A traversal and its mark.
 #[derive(Debug, Drop)]
 struct Marked {
     trav: TravNo,

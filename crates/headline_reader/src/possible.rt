@@ -11,15 +11,15 @@ use heat_plan::{StackName, Token};
 use heat_value::{Seq, TryCopy};
 use std::alloc::{AllocError, Global};
 
-/// A token and its states.
+// A token and its states.
 #[derive(Debug, Drop)]
 pub(crate) struct Possible {
     pub(crate) token: Token,
     pub(crate) states: Seq<Option<Living>>,
 }
 
-/// For each call on the stack, its token with the states in which that may be at the end, where it was
-/// never given up.
+// For each call on the stack, its token with the states in which that may be at the end, where it was
+// never given up.
 pub(crate) fn called(
     alloc: Global,
     entries: &[Entry],

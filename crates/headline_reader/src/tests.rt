@@ -14,7 +14,7 @@ use std::test::Fail;
 const CREATE: &[u8] =
     b"create s {\"template\":{\"heat_template_version\":\"2018-08-31\",\"resources\":{\"a\":{\"type\":\"Test::Box\",\"properties\":{\"size\":1}}}}}";
 
-/// In which states a token may be.
+// In which states a token may be.
 #[derive(Clone, Copy, Debug, PartialEq, Eq)]
 enum Seen {
     Absent,
@@ -23,7 +23,7 @@ enum Seen {
     Unsure,
 }
 
-/// What the program reads of the stack and its resource.
+// What the program reads of the stack and its resource.
 #[derive(Clone, Copy, Debug, PartialEq, Eq)]
 struct Reading {
     newest: Option<u64>,
@@ -33,7 +33,7 @@ struct Reading {
     fits: bool,
 }
 
-/// So many creates of one stack, then so many turns.
+// So many creates of one stack, then so many turns.
 #[derive(Drop)]
 struct Case<'a> {
     name: &'a str,
@@ -46,7 +46,7 @@ fn empty_cloud(alloc: Global) -> Result<SimCloud, AllocError> {
     SimCloud::new(Settings::empty(alloc))
 }
 
-/// A plan of nothing.
+// A plan of nothing.
 fn no_plan(alloc: Global) -> Plan {
     Plan::new(
         Seq::new(alloc),
@@ -58,7 +58,7 @@ fn no_plan(alloc: Global) -> Plan {
     )
 }
 
-/// Makes the create that the line says, or notes that it is refused.
+// Makes the create that the line says, or notes that it is refused.
 fn create(alloc: Global, book: &mut Book<SimCloud>) {
     let Ok(Line::Create(name, body)) = Line::read(alloc, CREATE) else {
         return;
@@ -82,7 +82,7 @@ fn refuse(alloc: Global, book: &mut Book<SimCloud>, code: &str) {
     }
 }
 
-/// One turn of the live engine.
+// One turn of the live engine.
 fn turn(book: &mut Book<SimCloud>) -> Option<Turn> {
     let e = *book.live().first()?;
     if e.get() < book.state().next().engine.get() {
@@ -115,7 +115,7 @@ fn seen_of(states: &[Option<Living>]) -> Seen {
     }
 }
 
-/// Whether the stack fits its newest plan, or nothing where it has none.
+// Whether the stack fits its newest plan, or nothing where it has none.
 fn fits_newest(alloc: Global, entries: &[Entry], token: &Token) -> Result<bool, AllocError> {
     match newest(entries, &token.stack)? {
         Some(latest) => match latest.plan {
@@ -149,7 +149,7 @@ fn read_all(alloc: Global, entries: &[Entry], token: &Token) -> Result<Reading, 
     })
 }
 
-/// What is read behind so many creates and turns; none where there was no memory.
+// What is read behind so many creates and turns; none where there was no memory.
 fn read_after(alloc: Global, creates: u8, turns: u8, token: &Token) -> Option<Reading> {
     let Ok(cloud) = empty_cloud(alloc) else {
         return None;

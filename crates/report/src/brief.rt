@@ -9,7 +9,7 @@ use sorted_list::Ordered;
 use std::alloc::AllocError;
 use std::cmp::Ordering;
 
-/// What is shown of a row.
+// What is shown of a row.
 #[derive(Debug, Drop)]
 pub(crate) struct SeenRow {
     pub(crate) stack: StackName,
@@ -23,7 +23,7 @@ pub(crate) struct SeenRow {
     pub(crate) replaced_by: Option<RowNo>,
 }
 
-/// What is shown of a stack: its newest traversal, and how it stands.
+// What is shown of a stack: its newest traversal, and how it stands.
 #[derive(Debug, Drop)]
 pub(crate) struct SeenStack {
     pub(crate) name: StackName,
@@ -33,7 +33,7 @@ pub(crate) struct SeenStack {
 }
 
 impl SeenRow {
-    /// A row in brief.
+    // A row in brief.
     pub(crate) fn of(row: &Row) -> Result<SeenRow, AllocError>
         ensures { IfOk result (λ s. s ≡ row_seen row.now) }
     {
@@ -62,7 +62,7 @@ fn id_of(facts: &Option<Facts>) -> Result<Option<Text>, AllocError>
 }
 
 impl SeenStack {
-    /// A stack in brief.
+    // A stack in brief.
     pub(crate) fn of(stack: &Stack) -> Result<SeenStack, AllocError>
         ensures { IfOk result (λ s. s ≡ stack_seen stack.now) }
     {

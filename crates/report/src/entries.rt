@@ -1,7 +1,9 @@
 //! The lines of the entries that write no row.
 ghost use Rattle.std.specs.Prelude.{◌≡◌, ℕ, List, IfOk, Option, option_map, string_bytes};
 ghost use Rattle.report.specs.Words.{why_text};
-ghost use Rattle.report.specs.Entries.{stack_words, stack_line, command_line, failed_line, cause_line, mark_line, released_line, engine_line, ran_line, turned_line, note_line, status_text, show_text, line_of};
+ghost use Rattle.report.specs.Entries.{stack_words, stack_line, command_line, failed_line, cause_line, mark_line};
+ghost use Rattle.report.specs.Entries.{released_line, engine_line, ran_line, turned_line, note_line, status_text};
+ghost use Rattle.report.specs.Entries.{show_text, line_of};
 ghost use Rattle.report.specs.Undone.{shown as shown_of};
 
 use crate::brief::SeenStack;
@@ -176,7 +178,7 @@ fn show_text(
     }
 }
 
-/// The line of an entry that writes no row.
+// The line of an entry that writes no row.
 pub(crate) fn entry_line(alloc: Global, seen: &Seen, what: &What) -> Result<String, AllocError>
     ensures { IfOk result (λ s. string_bytes s ≡ line_of (shown_of seen.now) what.now) }
 {

@@ -1,7 +1,8 @@
 //! The lines of row writes, and of a stack's rows.
 ghost use Rattle.std.specs.Prelude.{◌≡◌, IfOk, option_map, string_bytes};
 ghost use Rattle.report.specs.Words.{or_dash};
-ghost use Rattle.report.specs.Rows.{row_line, is_init, stands_alike, is_told, set_text, purge_text, shown_head, shown_tail, shown_line, shown_lines};
+ghost use Rattle.report.specs.Rows.{row_line, is_init, stands_alike, is_told, set_text, purge_text, shown_head};
+ghost use Rattle.report.specs.Rows.{shown_tail, shown_line, shown_lines};
 
 use crate::brief::SeenRow;
 use crate::words::{act_word, number_word, status_word};
@@ -44,7 +45,7 @@ fn is_told(old: Option<&SeenRow>, row: &SeenRow) -> bool
     }
 }
 
-/// The line of a row that was set, given what was seen of it before.
+// The line of a row that was set, given what was seen of it before.
 pub(crate) fn set_text(
     alloc: Global,
     old: Option<&SeenRow>,
@@ -59,7 +60,7 @@ pub(crate) fn set_text(
     }
 }
 
-/// The line of a row that is gone, given what was seen of it before.
+// The line of a row that is gone, given what was seen of it before.
 pub(crate) fn purge_text(alloc: Global, old: Option<&SeenRow>) -> Result<String, AllocError>
     ensures { IfOk result (λ s. string_bytes s ≡ purge_text (option_map (λ r. r.now) old.entry)) }
 {
@@ -112,7 +113,7 @@ fn shown_line(alloc: Global, row: &SeenRow) -> Result<String, AllocError>
     format!(in alloc; "{} {}", head.as_str(), tail.as_str())
 }
 
-/// A line for each row of a stack.
+// A line for each row of a stack.
 pub(crate) fn shown_lines(
     alloc: Global,
     stack: &StackName,

@@ -2,7 +2,8 @@
 ghost use Rattle.std.specs.Prelude.{◌≡◌, ◌++◌, IfOk, OnOk, string_bytes};
 ghost use Rattle.report.specs.Seen.{after_write, after_writes, with_stacks};
 ghost use Rattle.report.specs.Rows.{write_text, writes_text};
-ghost use Rattle.report.specs.Entries.{stands_at, after_mark, what_text, after_what, is_gone as gone, marked as the_status};
+ghost use Rattle.report.specs.Entries.{stands_at, after_mark, what_text, after_what, is_gone as gone};
+ghost use Rattle.report.specs.Entries.{marked as the_status};
 ghost use Rattle.report.specs.Text.{seen_after, told};
 ghost use Rattle.report.specs.Undone.{shown, unwound, CanUnwind};
 
@@ -16,7 +17,7 @@ use heat_plan::{Act, RowNo, StackName, Status, TravNo};
 use heat_value::TryCopy;
 use std::alloc::{AllocError, Global};
 
-/// The text of entries.
+// The text of entries.
 pub(crate) fn tell(
     alloc: Global,
     seen: &mut Seen,
