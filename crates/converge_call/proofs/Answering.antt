@@ -1,5 +1,6 @@
 -- What a line is answered, from what it did and what was written then.
-use Rattle.std.proofs.Common.{◌≡◌, ◌⊎◌, inl, inr, ℕ, List, Option, length, refl, sym, ◌∙◌, subst, Result, Ok, Err}
+use Rattle.std.proofs.Common.{◌≡◌, ◌⊎◌, inl, inr, ℕ, List, ◌++◌, Option, length, take, refl, sym, ap, ◌∙◌, subst}
+use Rattle.std.proofs.Common.{Result, Ok, Err}
 use Rattle.core_state.specs.declared.entry.Entry.{Entry}
 use Rattle.core_state.specs.State.{StateData}
 use Rattle.history.specs.Opening.{Opening}
@@ -7,7 +8,8 @@ use Rattle.script_lines.specs.declared.line.Line.{Line}
 use Rattle.script_lines.specs.declared.line.Line.TheVariants as form
 use Rattle.driver.specs.declared.ran.Ran.{Ran}
 use Rattle.driver.specs.declared.ran.Ran.TheVariants as ran
-use Rattle.report.specs.Text.{text_after}
+use Rattle.report.specs.Seen.{SeenData, seen_of}
+use Rattle.report.specs.Text.{seen_after, text_after}
 use Rattle.book.specs.Quiet.{Page}
 use Rattle.converge_call.specs.declared.exit.Exit.{Exit}
 use Rattle.converge_call.specs.declared.exit.Exit.TheVariants as exit
@@ -19,6 +21,7 @@ use Rattle.converge_call.specs.Lines.{AskedBreaks, LineDoes, LineBreaks}
 use Rattle.converge_call.specs.Lines as lines
 use Rattle.converge_call.specs.Drives.{Streams, Written, LineAnswered, Drove}
 use Rattle.converge_call.specs.Drives as drives
+use Rattle.converge_call.proofs.Reporting.{seen_before}
 
 -- the same answer over the drive's own opening and the line that was read
 pub answered_as : (number : ℕ) (line read : List ℕ) (p o : Opening) (old new : Page) (holds holds_new : Option (List ℕ))
@@ -54,6 +57,20 @@ module _ (o : Opening) (number : ℕ) (line : List ℕ) (old new : Page) (holds 
       (text_after s new.entries (length old.entries)) answered) same
       (subst (λ (n : ℕ). Written holds holds_new (text_after opened new.entries n) answered) at written))
   done_answered holds_new done answered opened from (notes.broke es cause breaks is ended) went same at written = cc
+
+  grows_by : (done : Result (Unit {0}) Exit) → LineDone done → (es : List Entry) × (new.entries ≡ old.entries ++ es)
+  grows_by done (notes.did es does is ended) = (es, is)
+  grows_by done (notes.broke es why breaks is ended) = (es, is)
+
+  -- who has seen all before a line has seen all before what it adds
+  pub seen_then : (done : Result (Unit {0}) Exit) (seen : SeenData) (first last : StateData) (from : ℕ) → LineDone done
+      → last ≡ first → from ≡ length old.entries → seen ≡ seen_after (seen_of first) old.entries
+      → seen ≡ seen_after (seen_of last) (take from new.entries)
+  seen_then done seen first last from did same at was =
+      let (es, is) = grows_by done did in
+      was ∙ sym (seen_before (seen_of first) old.entries new.entries es is)
+      ∙ ap (λ (s : StateData). seen_after (seen_of s) (take (length old.entries) new.entries)) (sym same)
+      ∙ ap (λ (n : ℕ). seen_after (seen_of last) (take n new.entries)) (sym at)
 
 -- the two causes for which a line is broken off
 abbrev pub IsBreak : Exit → Type 0

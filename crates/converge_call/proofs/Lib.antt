@@ -5,8 +5,8 @@ pub mod Running
 pub mod Turning
 pub mod Lining
 pub mod Wording
+pub mod Reporting
 pub mod Answering
 pub mod Driving
-pub mod Reporting
 pub mod Completing
 pub mod Handing

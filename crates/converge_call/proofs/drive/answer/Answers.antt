@@ -1,6 +1,6 @@
 -- A line that was broken off, or done and then written.
 use Rattle.std.proofs.Common.{ap, refl, length}
-use Rattle.converge_call.proofs.Answering.{broken_answered, done_answered}
+use Rattle.converge_call.proofs.Answering.{broken_answered, done_answered, seen_then}
 use Rattle.converge_call.proofs.drive.answer.Goals as goal
 
 pub returns-in-Err-clause-answered : goal.returns-in-Err-clause-answered
@@ -11,3 +11,7 @@ pub returns-in-Ok-clause-answered : goal.returns-in-Ok-clause-answered
 returns-in-Ok-clause-answered g c = done_answered _ _ _ _ _ _ _ c.do_line.result _ _
     (length c.entries-from.result.now) c.do_line.ensures.done c.in-Ok.is c.do_line.ensures.same.opening
     (ap length c.entries-from.ensures) c.write_from.ensures.written
+
+pub write_from-requires-clause-seen : goal.write_from-requires-clause-seen
+write_from-requires-clause-seen g c = seen_then _ _ _ _ _ c.do_line.result _ _ _ (length c.entries-from.result.now)
+    c.do_line.ensures.done c.do_line.ensures.same.opening (ap length c.entries-from.ensures) c.requires

@@ -1,8 +1,13 @@
 -- The lines so far, and the next one.
-use Rattle.std.proofs.Common.{◌∙◌, ◌≤◌, inl, inr, refl, ap, arith}
+use Rattle.std.proofs.Common.{◌∙◌, ◌≤◌, List, [], inl, inr, refl, sym, ap, arith}
+use Rattle.core_state.specs.declared.entry.Entry.{Entry}
+use Rattle.core_state.specs.State.{StateData}
 use Rattle.heat_io.specs.Reading.{Reader}
 use Rattle.heat_io.specs.Streams.{ahead}
+use Rattle.report.specs.Seen.{seen_of}
+use Rattle.report.specs.Text.{seen_after}
 use Rattle.book.specs.Kept.{opening_of}
+use Rattle.book.specs.Quiet.{page}
 use Rattle.converge_call.proofs.Handing.{same_opening}
 use Rattle.converge_call.proofs.Driving.{starts, goes_on, ends_at, ends_well, ends_unread, too_long_of}
 use Rattle.converge_call.proofs.Answering.{answered_as, never_read}
@@ -17,6 +22,8 @@ loop-number-init g c = record {
   writes = omega arith;
   same = record { opening = refl; origin = refl };
   goes_on = ap (λ (r : Reader). r.goes_on) c.new-reader.ensures;
+  seen = c.in-Ok.ensures ∙ ap (λ (s : StateData). seen_of s) c.opening.ensures
+      ∙ ap (λ (h : List Entry). seen_after (seen_of c.args.book.now.opening) h) (sym c.requires.fresh);
 }
 
 pub loop-number-preserved : goal.loop-number-preserved
@@ -24,7 +31,7 @@ loop-number-preserved g c = record {
   so = goes_on _ _ _ _ _ _ _ c.loop-number.invariant.so _ c.next.new.self.given c.in-Line.line _ _ _
       c.in-Line.ensures.told c.in-Line.ensures.seen.1.rises c.in-Line.ensures.seen.1.within
       (answered_as _ _ c.in-Line.line _ _ _ _ _ _ _ c.as_slice.ensures
-      (same_opening g.P.Provider.cloud _ _ c.loop-number.invariant.same) c.answer.ensures.answered) c.in-Ok.is;
+      (same_opening g.P.Provider.cloud _ _ c.loop-number.invariant.same) c.answer.ensures.answered) c.in-Ok-answer.is;
   reads = omega (arith, c.loop-number.invariant.reads, c.next.ensures.later);
   writes = omega (arith, c.loop-number.invariant.writes, c.answer.ensures.later);
   same = record {
@@ -32,7 +39,16 @@ loop-number-preserved g c = record {
     origin = c.answer.ensures.same.origin ∙ c.loop-number.invariant.same.origin;
   };
   goes_on = c.in-Line.ensures.goes_on;
+  seen = c.in-Ok-answer.ensures.seen;
 }
+
+pub answer-requires : goal.answer-requires
+answer-requires g c = c.loop-number.invariant.seen
+
+pub returns-in_default-clause-drove : goal.returns-in_default-clause-drove
+returns-in_default-clause-drove g c =
+    ends_unread _ _ _ _ _ _ _ (starts _ (opening_of g.P.Provider.cloud c.args.book.now)
+    (page c.args.book.now.state c.args.book.now.entries) [] 0 c.requires.opened c.requires.fresh refl refl) _ _ (inr refl)
 
 pub returns-in-End-clause-drove : goal.returns-in-End-clause-drove
 returns-in-End-clause-drove g c = ends_well _ _ _ _ _ _ _ c.loop-number.invariant.so c.next.new.self.held

@@ -1,5 +1,7 @@
 use Rattle.std.proofs.Common.{◌≡◌, ◌≤◌, true}
 use Rattle.heat_io.specs.Streams.{ahead}
+use Rattle.report.specs.Seen.{seen_of}
+use Rattle.report.specs.Text.{seen_after}
 use Rattle.book.specs.Kept.{IsSameBook, opening_of}
 use Rattle.book.specs.Quiet.{page}
 use Rattle.converge_call.specs.Drives.{streams}
@@ -16,4 +18,5 @@ invariant-loop-number g l = record {
   writes : g.K.Sink.faults l.initial.sink ≤ g.K.Sink.faults l.sink;
   same : IsSameBook l.initial.book l.book;
   goes_on : l.reader.goes_on ≡ true;
+  seen : l.reporter ≡ seen_after (seen_of l.book.opening) l.book.entries;
 }
