@@ -58,16 +58,20 @@ module _ (o : Opening) (number : ℕ) (line : List ℕ) (old new : Page) (holds 
       (subst (λ (n : ℕ). Written holds holds_new (text_after opened new.entries n) answered) at written))
   done_answered holds_new done answered opened from (notes.broke es cause breaks is ended) went same at written = cc
 
-  grows_by : (done : Result (Unit {0}) Exit) → LineDone done → (es : List Entry) × (new.entries ≡ old.entries ++ es)
-  grows_by done (notes.did es does is ended) = (es, is)
-  grows_by done (notes.broke es why breaks is ended) = (es, is)
+-- what a line added
+grows_by : (o : Opening) (number : ℕ) (line : List ℕ) (old new : Page) (done : Result (Unit {0}) Exit)
+    → HasDone (LineDoes o old.entries number line) (LineBreaks line) old new done
+    → (es : List Entry) × (new.entries ≡ old.entries ++ es)
+grows_by o number line old new done (notes.did es does is went) = (es, is)
+grows_by o number line old new done (notes.broke es why breaks is failed) = (es, is)
 
+module _ (o : Opening) (number : ℕ) (line : List ℕ) (old new : Page) (done : Result (Unit {0}) Exit)
+    (ended : HasDone (LineDoes o old.entries number line) (LineBreaks line) old new done) where
   -- who has seen all before a line has seen all before what it adds
-  pub seen_then : (done : Result (Unit {0}) Exit) (seen : SeenData) (first last : StateData) (from : ℕ) → LineDone done
-      → last ≡ first → from ≡ length old.entries → seen ≡ seen_after (seen_of first) old.entries
-      → seen ≡ seen_after (seen_of last) (take from new.entries)
-  seen_then done seen first last from did same at was =
-      let (es, is) = grows_by done did in
+  pub seen_then : (seen : SeenData) (first last : StateData) (from : ℕ) → last ≡ first → from ≡ length old.entries
+      → seen ≡ seen_after (seen_of first) old.entries → seen ≡ seen_after (seen_of last) (take from new.entries)
+  seen_then seen first last from same at was =
+      let (es, is) = grows_by o number line old new done ended in
       was ∙ sym (seen_before (seen_of first) old.entries new.entries es is)
       ∙ ap (λ (s : StateData). seen_after (seen_of s) (take (length old.entries) new.entries)) (sym same)
       ∙ ap (λ (n : ℕ). seen_after (seen_of last) (take n new.entries)) (sym at)

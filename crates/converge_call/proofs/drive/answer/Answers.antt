@@ -13,5 +13,5 @@ returns-in-Ok-clause-answered g c = done_answered _ _ _ _ _ _ _ c.do_line.result
     (ap length c.entries-from.ensures) c.write_from.ensures.written
 
 pub write_from-requires-clause-seen : goal.write_from-requires-clause-seen
-write_from-requires-clause-seen g c = seen_then _ _ _ _ _ c.do_line.result _ _ _ (length c.entries-from.result.now)
-    c.do_line.ensures.done c.do_line.ensures.same.opening (ap length c.entries-from.ensures) c.requires
+write_from-requires-clause-seen g c = seen_then _ _ _ _ _ c.do_line.result c.do_line.ensures.done _ _ _
+    (length c.entries-from.result.now) c.do_line.ensures.same.opening (ap length c.entries-from.ensures) c.requires
