@@ -9,6 +9,7 @@ use Rattle.journal_form.specs.declared.version.Version.TheVariants.{One, Two}
 use Rattle.journal_form.specs.Forms.{snapshot_mark, journal_mark, AreRecords}
 use Rattle.journal_form.specs.Images.{ImageData, IsBorn, HasHeader, IsPlain, Gives, live, IsImage}
 use Rattle.journal_form.specs.Shown.{image_of, Exactly}
+use Rattle.journal_form.proofs.Spelled.{one_reading}
 
 -- another word for the same images
 pub exactly_same : {E : Type 0} (P Q : ImageData → Type 0) (result : Result (Option Image) E) → ((i : ImageData) → P i → Q i) → ((i : ImageData) → Q i → P i) → Exactly P result → Exactly Q result
@@ -66,3 +67,29 @@ pub none_plain : (bytes : List ℕ) (version : Version) → 9 < length bytes →
 none_plain bytes version long mark none v payloads (IsPlain.fresh short _ _) = absurd (omega (arith, short, long))
 none_plain bytes version long mark none v payloads (IsPlain.marked _ is_mark records) =
     none payloads (subst (λ (w : Version). AreRecords w 1 (drop 8 bytes) payloads) (journal_version_same v version (sym is_mark ∙ mark)) records)
+
+-- a half that isn't born is read in one way
+plain_same : (bytes : List ℕ) (a b : Version) (ps qs : List (List ℕ)) → IsPlain bytes a ps → IsPlain bytes b qs → (a ≡ b) × (ps ≡ qs)
+plain_same bytes a b ps qs (IsPlain.fresh _ two none) (IsPlain.fresh _ two' none') = (two ∙ sym two', none ∙ sym none')
+plain_same bytes a b ps qs (IsPlain.fresh short _ _) (IsPlain.marked long _ _) = absurd (omega (arith, short, long))
+plain_same bytes a b ps qs (IsPlain.marked long _ _) (IsPlain.fresh short _ _) = absurd (omega (arith, short, long))
+plain_same bytes a b ps qs (IsPlain.marked _ mark records) (IsPlain.marked _ mark' records') =
+    let versions = journal_version_same a b (sym mark ∙ mark') in
+    (versions, one_reading b (drop 8 bytes) ps qs (subst (λ (v : Version). AreRecords v 1 (drop 8 bytes) ps) versions records) records')
+
+fields_same : (i j : ImageData) → i.half ≡ j.half → i.version ≡ j.version → i.epoch ≡ j.epoch → i.start ≡ j.start → i.payloads ≡ j.payloads → i ≡ j
+fields_same i j half version epoch start payloads = rw half (rw version (rw epoch (rw start (rw payloads refl))))
+
+-- a half gives one image
+gives_same : (half : Half) (bytes : List ℕ) (header : Option Header) (i j : ImageData) → Gives half bytes header i → Gives half bytes header j → i ≡ j
+gives_same half bytes None i j (is_half, gives) (is_half', gives') =
+    let both = plain_same bytes i.version j.version i.payloads j.payloads gives.plain gives'.plain in
+    fields_same i j (is_half ∙ sym is_half') both.0 (gives.epoch ∙ sym gives'.epoch) (gives.start ∙ sym gives'.start) both.1
+gives_same half bytes (Some header) i j (is_half, gives) (is_half', gives') =
+    fields_same i j (is_half ∙ sym is_half') (gives.version ∙ sym gives'.version) (gives.epoch ∙ sym gives'.epoch) (gives.start ∙ sym gives'.start)
+    (one_reading header.version (drop 16 bytes) i.payloads j.payloads gives.born gives'.born)
+
+pub image_same : (halves : Pair) (i j : ImageData) → IsImage halves i → IsImage halves j → i ≡ j
+image_same halves i j first second =
+    let half = live second.headers.0 second.headers.1 in
+    gives_same half (part half halves) (part half second.headers) i j (image_gives halves second.headers second.first second.second i first) second.gives

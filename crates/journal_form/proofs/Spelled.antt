@@ -70,6 +70,24 @@ no_records version n k (d ∷ ds) (p ∷ ps) rest tail place broken small_done s
     let both = body-same version n d p (spelled version (n + 1) ds ++ 1 ∷ rest) (spelled version (n + 1) ps ++ tail) (sized_first d ds small_done) (sized_first p ps small) bodies in
     no_records version (n + 1) k ds ps rest tail (omega (arith, place)) broken (sized_rest d ds small_done) (sized_rest p ps small) ends both.1
 
+-- the records up to an end are read in one way
+pub same_records : (version : Version) (n : ℕ) (ps qs : List (List ℕ)) (s t : List ℕ) → All IsSized ps → All IsSized qs → IsEnd s → IsEnd t
+    → spelled version n ps ++ s ≡ spelled version n qs ++ t → ps ≡ qs
+same_records version n [] [] s t small_p small_q end_s end_t same = refl
+same_records version n [] (q ∷ qs) s t small_p small_q end_s end_t same =
+    absurd (open_is_no_end (body version n q ++ spelled version (n + 1) qs ++ t) s (sym same) end_s)
+same_records version n (p ∷ ps) [] s t small_p small_q end_s end_t same =
+    absurd (open_is_no_end (body version n p ++ spelled version (n + 1) ps ++ s) t same end_t)
+same_records version n (p ∷ ps) (q ∷ qs) s t small_p small_q end_s end_t same =
+    let bodies = sym (append_assoc (body version n p) (spelled version (n + 1) ps) s) ∙ ap (drop 1) same ∙ append_assoc (body version n q) (spelled version (n + 1) qs) t in
+    let both = body-same version n p q (spelled version (n + 1) ps ++ s) (spelled version (n + 1) qs ++ t) (sized_first p ps small_p) (sized_first q qs small_q) bodies in
+    let rest = same_records version (n + 1) ps qs s t (sized_rest p ps small_p) (sized_rest q qs small_q) end_s end_t both.1 in
+    ap (λ (x : List ℕ). x ∷ ps) both.0 ∙ ap (λ (l : List (List ℕ)). q ∷ l) rest
+
+pub one_reading : (version : Version) (bytes : List ℕ) (ps qs : List (List ℕ)) → AreRecords version 1 bytes ps → AreRecords version 1 bytes qs → ps ≡ qs
+one_reading version bytes ps qs first second =
+    same_records version 1 ps qs first.tail second.tail first.sized second.sized first.ends second.ends (sym first.parts ∙ second.parts)
+
 -- the same of what was read
 pub are_none : (version : Version) (k : ℕ) (bytes rest : List ℕ) (done payloads : List (List ℕ)) → 1 + length done ≡ k
     → ((payload later : List ℕ) → IsSized payload → rest ≢ body version k payload ++ later)

@@ -5,6 +5,7 @@
 
 mod headers;
 mod images;
+mod laws;
 mod records;
 #[cfg(test)]
 mod tests;
@@ -13,5 +14,6 @@ mod word;
 
 pub use headers::{Header, read_header};
 pub use images::{Image, read_image};
+pub use laws::one_image;
 pub use records::{Payload, Records, read_records};
 pub use version::Version;
