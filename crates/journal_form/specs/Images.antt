@@ -1,10 +1,10 @@
 -- What two halves stand for: which one is live, and the payloads of its records.
-use Rattle.std.specs.Prelude.{◌≡◌, ◌⊎◌, ◌<◌, ◌≤◌, ℕ, List, [], length, take, drop, get_or, Option, Some, None, if◌then◌else◌, nat_lt}
+use Rattle.std.specs.Prelude.{◌≡◌, ◌<◌, ◌≤◌, ℕ, List, [], length, take, drop, get_or, Option, Some, None, if◌then◌else◌, nat_lt}
 use Rattle.heat_disk.specs.declared.half.Half.{Half}
 use Rattle.heat_disk.specs.declared.half.Half.TheVariants.{First, Second}
 use Rattle.heat_disk.specs.Halves.{Pair, part}
 use Rattle.journal_form.specs.declared.version.Version.{Version}
-use Rattle.journal_form.specs.declared.version.Version.TheVariants.{One, Two}
+use Rattle.journal_form.specs.declared.version.Version.TheVariants.{Two}
 use Rattle.journal_form.specs.declared.headers.Header.{Header}
 use Rattle.journal_form.specs.Forms.{number, journal_mark, snapshot_mark, AreRecords}
 
@@ -41,18 +41,20 @@ pub data IsPlain (bytes : List ℕ) (version : Version) (payloads : List (List �
   marked : 9 < length bytes → take 8 bytes ≡ journal_mark version
       → AreRecords version 1 (drop 8 bytes) payloads → IsPlain bytes version payloads
 
--- a live half's bytes give this image: behind a header from place 16 on, else from place 8 on
+-- the bytes of a live half that isn't born give this image
 pub record GivesPlain (bytes : List ℕ) (image : ImageData) : Type 0 where
   pub start : image.start ≡ 8
   pub epoch : image.epoch ≡ 0
   pub plain : IsPlain bytes image.version image.payloads
 
+-- those of a live half that is born with this header, whose records stand from place 16 on
 pub record GivesBorn (bytes : List ℕ) (header : Header) (image : ImageData) : Type 0 where
   pub start : image.start ≡ 16
   pub epoch : image.epoch ≡ header.epoch
   pub version : image.version ≡ header.version
   pub born : AreRecords header.version 1 (drop 16 bytes) image.payloads
 
+-- the live half's bytes give this image
 abbrev pub Gives : Half → List ℕ → Option Header → ImageData → Type 0
 Gives half bytes None image = (image.half ≡ half) × GivesPlain bytes image
 Gives half bytes (Some header) image = (image.half ≡ half) × GivesBorn bytes header image
@@ -62,4 +64,5 @@ pub record IsImage (halves : Pair) (image : ImageData) : Type 0 where
   pub headers : Option Header × Option Header
   pub first : HasHeader halves.0 headers.0
   pub second : HasHeader halves.1 headers.1
-  pub gives : Gives (live headers.0 headers.1) (part (live headers.0 headers.1) halves) (part (live headers.0 headers.1) headers) image
+  pub gives : Gives (live headers.0 headers.1) (part (live headers.0 headers.1) halves)
+      (part (live headers.0 headers.1) headers) image
