@@ -36,15 +36,14 @@ pub(crate) fn opened(alloc: Global) -> Result<Option<Book<ScriptedCloud>>, Fail>
     }
 }
 
-// How many of twenty turns of an engine are steps.
+// How many steps an engine makes until none is made, twenty at most.
 fn steps<P: Provider>(book: &mut Book<P>, e: EngineNo) -> usize {
-    let mut made = 0;
-    for _ in 0..20 {
-        if turn(book, e) == Some(Turn::Stepped) {
-            made += 1;
+    for made in 0..20 {
+        if turn(book, e) != Some(Turn::Stepped) {
+            return made;
         }
     }
-    made
+    20
 }
 
 // The first engine makes so many turns and is stopped; how many the second then makes, and whether the
