@@ -17,6 +17,8 @@ mod opening;
 mod poll;
 mod requests;
 #[cfg(test)]
+mod takeover_tests;
+#[cfg(test)]
 mod tests;
 mod turning;
 

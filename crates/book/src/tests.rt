@@ -13,10 +13,10 @@ use sim_cloud::KindQuota;
 use std::alloc::{AllocError, Global};
 use std::test::Fail;
 
-/// The kind of the one resource.
+// The kind of the one resource.
 const KIND: &str = "Test::Box";
 
-/// An item that needs nothing.
+// An item that needs nothing.
 fn item(alloc: Global) -> Result<Item, Fail>
     ensures { IfOk result (λ i. i.needs ≡ []) }
 {
@@ -34,7 +34,7 @@ fn item(alloc: Global) -> Result<Item, Fail>
     })
 }
 
-/// The plan of one item.
+// The plan of one item.
 fn plan_of(alloc: Global, item: Item) -> Result<Plan, AllocError>
     requires { item.needs ≡ [] }
 {
@@ -52,7 +52,7 @@ fn plan_of(alloc: Global, item: Item) -> Result<Plan, AllocError>
 
 /// The command of a letter: `c` creates a stack with one resource, `u` updates it to the same, `d`
 /// deletes it, `x` cancels.
-fn command(alloc: Global, letter: u8) -> Result<StackCommand, Fail> {
+pub(crate) fn command(alloc: Global, letter: u8) -> Result<StackCommand, Fail> {
     let name = StackName::read(alloc, b"s")?.ok_or("a name")?;
     match letter {
         b'c' => Ok(StackCommand::Create(name, plan_of(alloc, item(alloc)?)?, false)),
@@ -62,7 +62,7 @@ fn command(alloc: Global, letter: u8) -> Result<StackCommand, Fail> {
     }
 }
 
-/// A scripted answer: a digit works with so many polls left, `f` fails, `b` breaks.
+// A scripted answer: a digit works with so many polls left, `f` fails, `b` breaks.
 fn scripted(alloc: Global, letter: u8) -> Result<ScriptedAnswer, AllocError> {
     match letter {
         b'f' => Ok(ScriptedAnswer::Fails),
@@ -73,7 +73,7 @@ fn scripted(alloc: Global, letter: u8) -> Result<ScriptedAnswer, AllocError> {
 }
 
 /// A cloud that takes at most so many resources of the kind, and answers so.
-fn cloud(alloc: Global, most: u32, letters: &[u8]) -> Result<ScriptedCloud, AllocError> {
+pub(crate) fn cloud(alloc: Global, most: u32, letters: &[u8]) -> Result<ScriptedCloud, AllocError> {
     let mut answers = Seq::new(alloc);
     for letter in letters {
         answers.push(scripted(alloc, *letter)?)?;
@@ -86,7 +86,7 @@ fn cloud(alloc: Global, most: u32, letters: &[u8]) -> Result<ScriptedCloud, Allo
     Ok(ScriptedCloud::new(alloc, quotas, answers))
 }
 
-/// One turn of the first live engine; none where no engine is live.
+// One turn of the first live engine; none where no engine is live.
 fn turn_first<P: Provider>(book: &mut Book<P>) -> Option<Turn> {
     let e = *book.live().first()?;
     if e.get() < book.state().next().engine.get() {
@@ -96,7 +96,7 @@ fn turn_first<P: Provider>(book: &mut Book<P>) -> Option<Turn> {
     }
 }
 
-/// How many turns are made until none is.
+// How many turns are made until none is.
 fn turns<P: Provider>(book: &mut Book<P>) -> usize {
     for made in 0..20 {
         if turn_first(book) != Some(Turn::Stepped) {
@@ -106,7 +106,7 @@ fn turns<P: Provider>(book: &mut Book<P>) -> usize {
     20
 }
 
-/// The letter of an entry; that of a mark with a cause says the cause.
+// The letter of an entry; that of a mark with a cause says the cause.
 fn letter(entry: &Entry) -> u8 {
     match &entry.what {
         What::Command { .. } => b'c',
@@ -124,7 +124,7 @@ fn letter(entry: &Entry) -> u8 {
     }
 }
 
-/// The letter of a cause.
+// The letter of a cause.
 fn cause_letter(why: &Why) -> u8 {
     match why {
         Why::Quota => b'q',
@@ -134,7 +134,7 @@ fn cause_letter(why: &Why) -> u8 {
     }
 }
 
-/// The letters of a history.
+// The letters of a history.
 fn letters(alloc: Global, entries: &[Entry]) -> Result<Vec<u8>, AllocError> {
     let mut text = Vec::new(alloc);
     for entry in entries {
@@ -143,7 +143,7 @@ fn letters(alloc: Global, entries: &[Entry]) -> Result<Vec<u8>, AllocError> {
     Ok(text)
 }
 
-/// What a case comes to.
+// What a case comes to.
 #[derive(Drop)]
 struct Case {
     turns: usize,
@@ -151,7 +151,7 @@ struct Case {
     idle: bool,
 }
 
-/// What is seen of commands with all turns behind each; none where there is no memory.
+// What is seen of commands with all turns behind each; none where there is no memory.
 fn seen(alloc: Global, book: Book<ScriptedCloud>, commands: Vec<StackCommand>) -> Option<Case> {
     let mut book = book;
     let mut made = 0_usize;
@@ -173,7 +173,7 @@ fn seen(alloc: Global, book: Book<ScriptedCloud>, commands: Vec<StackCommand>) -
     }
 }
 
-/// The same over a cloud.
+// The same over a cloud.
 fn seen_over(alloc: Global, cloud: ScriptedCloud, commands: Vec<StackCommand>) -> Option<Case> {
     match Book::recover(alloc, cloud, 1) {
         Opened::Book(book) => seen(alloc, book, commands),
@@ -183,8 +183,8 @@ fn seen_over(alloc: Global, cloud: ScriptedCloud, commands: Vec<StackCommand>) -
     }
 }
 
-/// A name, the commands, the quota, the cloud's answers behind that to its list; how many turns are
-/// made, and what they tell.
+// A name, the commands, the quota, the cloud's answers behind that to its list; how many turns are
+// made, and what they tell.
 const CASES: &[(&str, &[u8], u32, &[u8], usize, &[u8])] = &[
     ("begun, ready", b"c", 1, b"000", 5, b"crmrmrm?m?rmrm+"),
     (
@@ -231,6 +231,23 @@ const CASES: &[(&str, &[u8], u32, &[u8], usize, &[u8])] = &[
         8,
         b"crmrmrm?m?rmrm+cmrmrm?rmf",
     ),
+    (
+        "delete, gone, failed",
+        b"cd",
+        1,
+        b"0000f",
+        9,
+        b"crmrmrm?m?rmrm+cmrmrm?m?rmf",
+    ),
+    (
+        "delete, not yet, failed",
+        b"cd",
+        1,
+        b"00010f",
+        10,
+        b"crmrmrm?m?rmrm+cmrmrm?m??rmf",
+    ),
+    ("not yet, failed", b"c", 1, b"010f", 5, b"crmrmrm?m??rmf"),
 ];
 
 #[test]
@@ -249,7 +266,7 @@ fn each_answer_is_told(rt: HostRuntime) -> Result<(), Fail> {
     Ok(())
 }
 
-/// Whether a note stands in an empty book, and its number is that of the first stack.
+// Whether a note stands in an empty book, and its number is that of the first stack.
 fn noted(book: Book<ScriptedCloud>, stack: StackName) -> bool {
     let mut book = book;
     let first = book.stack_no(&stack).get() == 1;
@@ -277,7 +294,7 @@ fn a_note_stands_in_the_history(rt: HostRuntime) -> Result<(), Fail> {
     Ok(())
 }
 
-/// Whether the first of two engines is stopped, but not once more, and a third is enlisted.
+// Whether the first of two engines is stopped, but not once more, and a third is enlisted.
 fn engines(book: Book<ScriptedCloud>) -> bool {
     let mut book = book;
     let two = book.live().len() == 2;
