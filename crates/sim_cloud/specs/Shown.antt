@@ -1,5 +1,5 @@
 -- What a cloud in memory shows, and what its calls say beyond the trait.
-use Rattle.std.specs.Prelude.{◌≡◌, ◌≢◌, ◌⊎◌, ℕ, List, Bool, true, false, Option, Some, None, option_map, find, bytes_eq}
+use Rattle.std.specs.Prelude.{◌≡◌, ◌≢◌, ◌⊎◌, ◌+◌, ◌-◌, ◌^◌, min, ℕ, List, Bool, true, false, Option, Some, None, option_map, find, bytes_eq}
 use Rattle.heat_value.specs.Data.{Members}
 use Rattle.heat_plan.specs.declared.facts.Facts.{Facts}
 use Rattle.heat_plan.specs.declared.kind.Kind.{Kind}
@@ -41,6 +41,11 @@ shown held beside = record {
 -- the first quota of that kind
 abbrev pub quota_in : List KindQuota → List ℕ → Option ℕ
 quota_in quotas kind = option_map (λ (q : KindQuota). q.most) (find (λ (q : KindQuota). bytes_eq q.kind kind) quotas)
+
+-- the count of faults rises by one exactly where the call failed; at its last value it stands still
+pub record CountsFault {A : Type 0} (failed result : A) (before now : ℕ) : Type 0 where
+  pub raised : result ≡ failed → now ≡ min (before + 1) (2 ^ 64 - 1)
+  pub same : result ≢ failed → now ≡ before
 
 -- create, begun: a token that wasn't alive has its id and attributes by the rule, and so many polls left; else nothing changes
 pub record IsMade (token : Token) (kind : Kind) (props : Members) (polls : ℕ) (old new : Cloud) : Type 0 where

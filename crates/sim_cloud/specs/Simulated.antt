@@ -7,7 +7,7 @@ use Rattle.sim_cloud.specs.declared.course.Course.{Course}
 use Rattle.sim_cloud.specs.declared.inventory.Inventory.{Inventory}
 use Rattle.sim_cloud.specs.declared.sim_cloud.SimCloud.{SimCloud}
 use Rattle.sim_cloud.specs.Conduct.{course_in, delay_in, code_in}
-use Rattle.sim_cloud.specs.Shown.{Beside, shown, quota_in}
+use Rattle.sim_cloud.specs.Shown.{Beside, shown, quota_in, CountsFault}
 
 abbrev pub beside_of : Inventory → Beside
 beside_of i = record { trace = i.trace; quota = quota_in i.quotas; faults = i.faults }
@@ -43,8 +43,9 @@ delay_at c token = delay_for c (entry_of (cloud_of c) token)
 abbrev pub code_at : SimCloud → Token → Option (List ℕ)
 code_at c token = code_in c.conduct.broken token.name
 
--- a call that had memory fails exactly where its number is listed, and the settings stay
+-- a call that had memory fails exactly where its number is listed; this is counted, and the settings stay
 pub record Follows {A : Type 0} (failed memory : A) (result : A) (old new : SimCloud) : Type 0 where
   pub works : course_of old ≡ Course.Works → result ≢ failed
   pub fails : course_of old ≢ Course.Works → (result ≡ failed) ⊎ (result ≡ memory)
   pub conduct : new.conduct ≡ old.conduct
+  pub count : CountsFault failed result old.all.faults new.all.faults

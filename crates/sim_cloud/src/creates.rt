@@ -1,5 +1,5 @@
 //! Creates of an inventory.
-ghost use Rattle.std.specs.Prelude.{◌≡◌, ◌-◌, ◌++◌, ◌∷◌, [], ◌<◌, ◌≤◌, ◌≢◌, false, None, Some, IfOk, OnOk, OnErr, length, take};
+ghost use Rattle.std.specs.Prelude.{◌≡◌, ◌-◌, ◌++◌, ◌∷◌, [], ◌<◌, ◌≤◌, ◌≢◌, false, None, Some, IfOk, OnOk, OnErr, length, take, ◌+◌, ◌^◌, min};
 ghost use Rattle.heat_plan.specs.declared.calls.Request.TheVariants as ask;
 ghost use Rattle.provider.specs.declared.traced.Traced.TheVariants.{Called};
 ghost use Rattle.provider.specs.Cloud.{IsFull, entry_of};
@@ -7,7 +7,7 @@ ghost use Rattle.provider.specs.Changes.{Notes, Stays, Takes, IsAsBefore};
 ghost use Rattle.provider.specs.Calls.{HasBegun, HasFailed, IsRefused};
 ghost use Rattle.sim_cloud.specs.Holding.{place_of};
 ghost use Rattle.sim_cloud.specs.Rule.{fresh};
-ghost use Rattle.sim_cloud.specs.Shown.{IsMade, IsMadeLate};
+ghost use Rattle.sim_cloud.specs.Shown.{CountsFault, IsMade, IsMadeLate};
 ghost use Rattle.sim_cloud.specs.Simulated.{shown_by};
 
 use crate::course::Course;
@@ -46,6 +46,7 @@ impl Inventory {
         ensures late { course ≡ Course.FailsLate → result ≡ Answer.Failed → IsMadeLate token.now
             kind.now props.now left (shown_by self.old) (shown_by self.new) }
         ensures memory { result ≡ Answer.Memory → IsAsBefore (shown_by self.old) (shown_by self.new) }
+        ensures count { CountsFault Answer.Failed result self.old.faults self.new.faults }
     {
         match course {
             Course::Works => self.create_now(token, kind, props, left),
@@ -68,6 +69,7 @@ impl Inventory {
             (shown_by self.old) (shown_by self.new) }
         ensures works { result ≢ Answer.Failed }
         ensures memory { result ≡ Answer.Memory → IsAsBefore (shown_by self.old) (shown_by self.new) }
+        ensures faults { self.new.faults ≡ self.old.faults }
     {
         if self.refuses(token, &kind.name) {
             answer_or_memory(Answer::Quota, self.refuse(token, kind, props))
@@ -86,6 +88,7 @@ impl Inventory {
         ensures ok { OnOk result (IsRefused token.now kind.now.name props.now
             (shown_by self.old) (shown_by self.new)) }
         ensures memory { OnErr result (IsAsBefore (shown_by self.old) (shown_by self.new)) }
+        ensures faults { self.new.faults ≡ self.old.faults }
     {
         let request = Request::Create(kind.name.copy()?, props.copy()?);
         note(&mut self.trace, token, request, Answered::Quota)
@@ -102,6 +105,7 @@ impl Inventory {
             (shown_by self.old) (shown_by self.new)) }
         ensures idle { OnOk result (Stays (shown_by self.old) (shown_by self.new)) }
         ensures memory { OnErr result (IsAsBefore (shown_by self.old) (shown_by self.new)) }
+        ensures faults { OnOk result (self.new.faults ≡ min (self.old.faults + 1) (2 ^ 64 - 1)) }
     {
         let request = Request::Create(kind.name.copy()?, props.copy()?);
         self.fail(token, request)
@@ -121,6 +125,7 @@ impl Inventory {
         ensures late { OnOk result (IsMadeLate token.now kind.now props.now left
             (shown_by self.old) (shown_by self.new)) }
         ensures memory { OnErr result (IsAsBefore (shown_by self.old) (shown_by self.new)) }
+        ensures faults { OnOk result (self.new.faults ≡ min (self.old.faults + 1) (2 ^ 64 - 1)) }
     {
         if self.refuses(token, &kind.name) {
             return self.fail_create(token, kind, props);

@@ -1,10 +1,10 @@
 //! Deletes of an inventory.
-ghost use Rattle.std.specs.Prelude.{◌≡◌, ◌≤◌, ◌≢◌, OnOk, OnErr};
+ghost use Rattle.std.specs.Prelude.{◌≡◌, ◌≤◌, ◌≢◌, OnOk, OnErr, ◌+◌, ◌-◌, ◌^◌, min};
 ghost use Rattle.heat_plan.specs.declared.calls.Request.TheVariants as ask;
 ghost use Rattle.provider.specs.declared.traced.Traced.TheVariants.{Called};
 ghost use Rattle.provider.specs.Changes.{Notes, Stays, Takes, IsAsBefore};
 ghost use Rattle.provider.specs.Calls.{HasBegun, HasFailed};
-ghost use Rattle.sim_cloud.specs.Shown.{IsSentAway, IsSentAwayLate};
+ghost use Rattle.sim_cloud.specs.Shown.{CountsFault, IsSentAway, IsSentAwayLate};
 ghost use Rattle.sim_cloud.specs.Simulated.{shown_by};
 
 use crate::course::Course;
@@ -31,6 +31,7 @@ impl Inventory {
         ensures late { course ≡ Course.FailsLate → result ≡ Answer.Failed →
             IsSentAwayLate token.now left (shown_by self.old) (shown_by self.new) }
         ensures memory { result ≡ Answer.Memory → IsAsBefore (shown_by self.old) (shown_by self.new) }
+        ensures count { CountsFault Answer.Failed result self.old.faults self.new.faults }
     {
         match course {
             Course::Works => answer_or_memory(
@@ -50,6 +51,7 @@ impl Inventory {
         ensures late { OnOk result
             (IsSentAwayLate token.now left (shown_by self.old) (shown_by self.new)) }
         ensures memory { OnErr result (IsAsBefore (shown_by self.old) (shown_by self.new)) }
+        ensures faults { OnOk result (self.new.faults ≡ min (self.old.faults + 1) (2 ^ 64 - 1)) }
     {
         self.begin_delete(Answered::Failed, token, left)?;
         self.count_fault();

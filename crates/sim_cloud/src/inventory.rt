@@ -80,6 +80,7 @@ impl Inventory {
         ensures ok { OnOk result (HasFailed token.now request (shown_by self.old) (shown_by self.new)) }
         ensures idle { OnOk result (Stays (shown_by self.old) (shown_by self.new)) }
         ensures memory { OnErr result (IsAsBefore (shown_by self.old) (shown_by self.new)) }
+        ensures faults { OnOk result (self.new.faults ≡ min (self.old.faults + 1) (2 ^ 64 - 1)) }
     {
         note(&mut self.trace, token, request, Answered::Failed)?;
         self.count_fault();

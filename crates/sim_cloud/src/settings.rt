@@ -37,11 +37,12 @@ pub struct Settings {
 }
 
 impl Settings {
-    ghost use Rattle.sim_cloud.specs.Settings.{HasNothingSet};
+    ghost use Rattle.sim_cloud.specs.Settings.{HasNothingSet, IsFit};
 
     /// Nothing is set.
     pub fn empty(alloc: Global) -> Settings
-        ensures { HasNothingSet result }
+        ensures nothing { HasNothingSet result }
+        ensures fit { IsFit result }
     {
         Settings {
             alive: Seq::new(alloc),

@@ -1,5 +1,5 @@
 //! Updates of an inventory.
-ghost use Rattle.std.specs.Prelude.{◌≡◌, ◌<◌, ◌≤◌, ◌≢◌, Some, IfOk, OnOk, OnErr, length, slice_get};
+ghost use Rattle.std.specs.Prelude.{◌≡◌, ◌<◌, ◌≤◌, ◌≢◌, Some, IfOk, OnOk, OnErr, length, slice_get, ◌+◌, ◌-◌, ◌^◌, min};
 ghost use Rattle.heat_plan.specs.declared.calls.Request.TheVariants as ask;
 ghost use Rattle.provider.specs.declared.traced.Traced.TheVariants.{Called};
 ghost use Rattle.provider.specs.Cloud.{IsAlive};
@@ -7,7 +7,7 @@ ghost use Rattle.provider.specs.Changes.{Notes, Stays, Takes, IsAsBefore};
 ghost use Rattle.provider.specs.Calls.{HasBegun, HasFailed};
 ghost use Rattle.sim_cloud.specs.Holding.{place_of};
 ghost use Rattle.sim_cloud.specs.Rule.{facts_again};
-ghost use Rattle.sim_cloud.specs.Shown.{IsMadeAnew, IsMadeAnewLate};
+ghost use Rattle.sim_cloud.specs.Shown.{CountsFault, IsMadeAnew, IsMadeAnewLate};
 ghost use Rattle.sim_cloud.specs.Simulated.{shown_by};
 ghost use Rattle.sim_cloud.specs.declared.held.Held.{Held as held_type};
 
@@ -40,6 +40,7 @@ impl Inventory {
         ensures late { course ≡ Course.FailsLate → result ≡ Answer.Failed → IsMadeAnewLate token.now
             props.now left (shown_by self.old) (shown_by self.new) }
         ensures memory { result ≡ Answer.Memory → IsAsBefore (shown_by self.old) (shown_by self.new) }
+        ensures count { CountsFault Answer.Failed result self.old.faults self.new.faults }
     {
         match course {
             Course::Works => answer_or_memory(
@@ -60,6 +61,7 @@ impl Inventory {
             (shown_by self.old) (shown_by self.new)) }
         ensures idle { OnOk result (Stays (shown_by self.old) (shown_by self.new)) }
         ensures memory { OnErr result (IsAsBefore (shown_by self.old) (shown_by self.new)) }
+        ensures faults { OnOk result (self.new.faults ≡ min (self.old.faults + 1) (2 ^ 64 - 1)) }
     {
         let request = Request::Update(props.copy()?);
         self.fail(token, request)
@@ -74,6 +76,7 @@ impl Inventory {
         ensures late { OnOk result (IsMadeAnewLate token.now props.now left
             (shown_by self.old) (shown_by self.new)) }
         ensures memory { OnErr result (IsAsBefore (shown_by self.old) (shown_by self.new)) }
+        ensures faults { OnOk result (self.new.faults ≡ min (self.old.faults + 1) (2 ^ 64 - 1)) }
     {
         self.begin_update(Answered::Failed, token, props, left)?;
         self.count_fault();
