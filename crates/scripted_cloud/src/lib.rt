@@ -7,6 +7,8 @@ mod cloud;
 mod scripted_answer;
 mod scripted_cloud;
 #[cfg(test)]
+mod setting_tests;
+#[cfg(test)]
 mod tests;
 
 pub use asks::{change, look, make, send, wait};

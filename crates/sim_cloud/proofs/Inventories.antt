@@ -1,5 +1,5 @@
 -- Calls of an inventory that failed.
-use Rattle.std.proofs.Common.{◌≡◌, ◌⊎◌, ◌≤◌, ◌+◌, ◌-◌, ◌^◌, min, List, [], ◌∷◌, ◌++◌, refl, arith, inl, inr}
+use Rattle.std.proofs.Common.{◌≡◌, ◌⊎◌, ◌≤◌, ◌+◌, ◌-◌, ◌^◌, ℕ, min, List, [], ◌∷◌, ◌++◌, refl, arith, inl, inr}
 use Rattle.heat_plan.specs.declared.token.Token.{Token}
 use Rattle.heat_plan.specs.declared.calls.Request.{Request}
 use Rattle.heat_plan.specs.declared.calls.Request.TheVariants.{Create, Update, Delete, Poll, Gone}
@@ -8,11 +8,13 @@ use Rattle.provider.specs.declared.traced.Traced.{Traced}
 use Rattle.provider.specs.declared.traced.Traced.TheVariants.{Called, Listed}
 use Rattle.provider.specs.declared.traced.Listing.TheVariants as listing
 use Rattle.provider.specs.Cloud.{Cloud}
-use Rattle.provider.specs.Changes.{Notes, Stays, Renews, KeepsOthers, Takes}
+use Rattle.provider.specs.Changes.{Notes, Stays, Renews, KeepsOthers, Takes, HasProps}
 use Rattle.provider.specs.Calls.{HasFailed, ListsNone}
 use Rattle.sim_cloud.specs.declared.held.Held.{Held}
 use Rattle.sim_cloud.specs.declared.inventory.Inventory.{Inventory}
-use Rattle.sim_cloud.specs.Shown.{Beside, shown, quota_in}
+use Rattle.heat_value.specs.Data.{Members}
+use Rattle.heat_plan.specs.declared.kind.Kind.{Kind}
+use Rattle.sim_cloud.specs.Shown.{Beside, shown, quota_in, IsMade, IsMadeAnew, IsSentAway, IsMadeLate, IsMadeAnewLate, IsSentAwayLate}
 use Rattle.sim_cloud.specs.Simulated.{beside_of, shown_by}
 
 -- the inventory's quotas and count, with another trace
@@ -22,14 +24,14 @@ with_trace i trace = record { trace = trace; quota = quota_in i.quotas; faults =
 others_on : (token : Token) (old : Cloud) (ys : List Held) (v w : Beside) → KeepsOthers token old (shown ys v) → KeepsOthers token old (shown ys w)
 others_on token old ys v w k t ne = let o = k t ne in record { entry = o.entry; leaving = o.leaving; left = o.left }
 
-stays_on : (old : Cloud) (ys : List Held) (v w : Beside) → Stays old (shown ys v) → Stays old (shown ys w)
+pub stays_on : (old : Cloud) (ys : List Held) (v w : Beside) → Stays old (shown ys v) → Stays old (shown ys w)
 stays_on old ys v w s = record { alive = s.alive; leaving = s.leaving; left = s.left }
 
 renews_on : (token : Token) (old : Cloud) (ys : List Held) (v w : Beside) → Renews token old (shown ys v) → Renews token old (shown ys w)
 renews_on token old ys v w s = record { alive = s.alive; leaving = s.leaving; others = s.others }
 
 -- an effect is one of the resources alone
-takes_on : (token : Token) (request : Request) (old : Cloud) (ys : List Held) (v w : Beside) → Takes token request old (shown ys v) → Takes token request old (shown ys w)
+pub takes_on : (token : Token) (request : Request) (old : Cloud) (ys : List Held) (v w : Beside) → Takes token request old (shown ys v) → Takes token request old (shown ys w)
 takes_on token (Create kind props) old ys v w (inl a) =
     inl (record { absent = a.absent; room = a.room; facts = a.facts; entry = a.entry; young = a.young; others = others_on token old ys v w a.others })
 takes_on token (Create kind props) old ys v w (inr s) = inr (s.0, renews_on token old ys v w s.1)
@@ -73,3 +75,32 @@ lists_none i n trace c e =
       cause = omega (arith, c.faults);
       stays = rw moved (record { alive = refl; leaving = λ t. refl; left = λ t. refl });
     }
+
+-- ---- what was made is still so when the fault is counted
+
+made_on : (token : Token) (kind : Kind) (props : Members) (polls : ℕ) (old : Cloud) (ys : List Held) (v w : Beside) → IsMade token kind props polls old (shown ys v) → IsMade token kind props polls old (shown ys w)
+made_on token kind props polls old ys v w m = record { entry = m.entry; left = m.left; again = λ there. stays_on old ys v w (m.again there) }
+
+pub made_late : (i m n : Inventory) (token : Token) (kind : Kind) (props : Members) (polls : ℕ) → Counts m n
+    → Takes token (Create kind.name props) (shown_by i) (shown_by m) → IsMade token kind props polls (shown_by i) (shown_by m) → IsMadeLate token kind props polls (shown_by i) (shown_by n)
+made_late i m n token kind props polls c takes made =
+    let moved : shown_by n ≡ shown m.held.all (beside_of n) = rw c.held refl in
+    rw moved (inl (takes_on token (Create kind.name props) (shown_by i) m.held.all (beside_of m) (beside_of n) takes, made_on token kind props polls (shown_by i) m.held.all (beside_of m) (beside_of n) made))
+
+pub anew_late : (i m n : Inventory) (token : Token) (props : Members) (polls : ℕ) → Counts m n
+    → Takes token (Update props) (shown_by i) (shown_by m) → IsMadeAnew token props polls (shown_by i) (shown_by m) → IsMadeAnewLate token props polls (shown_by i) (shown_by n)
+anew_late i m n token props polls c takes made =
+    let moved : shown_by n ≡ shown m.held.all (beside_of n) = rw c.held refl in
+    rw moved (
+      takes_on token (Update props) (shown_by i) m.held.all (beside_of m) (beside_of n) takes,
+      record { entry = made.entry; left = made.left; again = λ has. stays_on (shown_by i) m.held.all (beside_of m) (beside_of n) (made.again has) },
+    )
+
+pub sent_late : (i m n : Inventory) (token : Token) (polls : ℕ) → Counts m n
+    → Takes token Delete (shown_by i) (shown_by m) → IsSentAway token polls (shown_by i) (shown_by m) → IsSentAwayLate token polls (shown_by i) (shown_by n)
+sent_late i m n token polls c takes made =
+    let moved : shown_by n ≡ shown m.held.all (beside_of n) = rw c.held refl in
+    rw moved (
+      takes_on token Delete (shown_by i) m.held.all (beside_of m) (beside_of n) takes,
+      record { left = made.left; again = λ gone. stays_on (shown_by i) m.held.all (beside_of m) (beside_of n) (made.again gone) },
+    )

@@ -27,6 +27,14 @@ impl Holdings {
         }
     }
 
+    /// These resources.
+    pub fn of(all: Seq<Held>) -> Holdings
+        requires { IsHolding all }
+        ensures { result.all ≡ all }
+    {
+        Holdings { all }
+    }
+
     /// Where the token's resource stands.
     pub fn place_of(&self, token: &Token) -> Option<usize>
         ensures { result ≡ place_of self.now.all token.now }

@@ -7,7 +7,7 @@ use crate::holdings::Holdings;
 use crate::settings::KindQuota;
 use heat_plan::{Answered, Request, Token};
 use heat_value::{Seq, Text, TryCopy};
-use provider::Traced;
+use provider::{Answer, Traced};
 use std::alloc::{AllocError, Global};
 
 /// The resources, quotas, trace and count of faults of a cloud in memory.
@@ -27,8 +27,18 @@ impl Inventory {
         ensures trace { result.trace ≡ [] }
         ensures faults { result.faults ≡ 0 }
     {
+        Inventory::holding(alloc, Holdings::new(alloc), quotas)
+    }
+
+    /// These resources, with these quotas.
+    pub fn holding(alloc: Global, held: Holdings, quotas: Seq<KindQuota>) -> Inventory
+        ensures held { result.held ≡ held }
+        ensures quotas { result.quotas ≡ quotas }
+        ensures trace { result.trace ≡ [] }
+        ensures faults { result.faults ≡ 0 }
+    {
         Inventory {
-            held: Holdings::new(alloc),
+            held,
             quotas,
             trace: Seq::new(alloc),
             faults: 0,
@@ -39,7 +49,7 @@ impl Inventory {
 impl Inventory {
     ghost use Rattle.provider.specs.declared.alive.Alive.{Alive as alive_type};
     ghost use Rattle.provider.specs.Cloud.{IsFull, entry_of};
-    ghost use Rattle.provider.specs.Changes.{IsAsBefore};
+    ghost use Rattle.provider.specs.Changes.{IsAsBefore, Stays};
     ghost use Rattle.provider.specs.Calls.{HasFailed};
     ghost use Rattle.sim_cloud.specs.Shown.{quota_in};
     ghost use Rattle.sim_cloud.specs.Simulated.{shown_by};
@@ -68,7 +78,9 @@ impl Inventory {
     /// A call fails with nothing done.
     pub(crate) fn fail(&mut self, token: &Token, request: Request) -> Result<(), AllocError>
         ensures ok { OnOk result (HasFailed token.now request (shown_by self.old) (shown_by self.new)) }
+        ensures idle { OnOk result (Stays (shown_by self.old) (shown_by self.new)) }
         ensures memory { OnErr result (IsAsBefore (shown_by self.old) (shown_by self.new)) }
+        ensures faults { OnOk result (self.new.faults ≡ min (self.old.faults + 1) (2 ^ 64 - 1)) }
     {
         note(&mut self.trace, token, request, Answered::Failed)?;
         self.count_fault();
@@ -133,4 +145,15 @@ pub(crate) fn note(
 {
     let token = token.copy()?;
     trace.push(Traced::Called(token, request, answered))
+}
+
+/// The answer of what was done, or Memory.
+pub(crate) fn answer_or_memory(answer: Answer, done: Result<(), AllocError>) -> Answer
+    ensures ok { OnOk done (result ≡ answer) }
+    ensures memory { OnErr done (result ≡ Answer.Memory) }
+{
+    match done {
+        Ok(()) => answer,
+        Err(_) => Answer::Memory,
+    }
 }

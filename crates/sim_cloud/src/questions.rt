@@ -1,6 +1,6 @@
 //! Polls, questions whether a resource is gone, and listings of an inventory. They have no effect that
 //! could be late: each course but Works fails with nothing done.
-ghost use Rattle.std.specs.Prelude.{◌≡◌, ◌≢◌, ◌⊎◌, ◌<◌, ℕ, List, option_map, true, None, Some, IfOk, OnOk, OnErr, IsTrue, IsFalse, slice_get};
+ghost use Rattle.std.specs.Prelude.{◌≡◌, ◌≢◌, ◌⊎◌, ◌<◌, ℕ, List, option_map, true, None, Some, IfOk, OnOk, OnErr, IsTrue, IsFalse, slice_get, ◌+◌, ◌-◌, ◌^◌, min};
 ghost use Rattle.heat_plan.specs.declared.facts.Facts.{Facts as facts_type};
 ghost use Rattle.heat_plan.specs.declared.calls.Request.TheVariants as ask;
 ghost use Rattle.provider.specs.declared.alive.Alive.{Alive as alive_type};
@@ -8,7 +8,7 @@ ghost use Rattle.provider.specs.Cloud.{IsAlive};
 ghost use Rattle.provider.specs.Changes.{IsAsBefore};
 ghost use Rattle.provider.specs.Calls.{MayGo, HasFailed, Waits, IsReady, IsBroken, IsGone, Lingers, Lists, ListsNone};
 ghost use Rattle.sim_cloud.specs.Holding.{place_of, whats};
-ghost use Rattle.sim_cloud.specs.Shown.{HasFacts, IsUnready};
+ghost use Rattle.sim_cloud.specs.Shown.{CountsFault, HasFacts, IsUnready};
 ghost use Rattle.sim_cloud.specs.Simulated.{shown_by};
 ghost use Rattle.sim_cloud.specs.declared.held.Held.{Held as held_type};
 
@@ -42,6 +42,7 @@ impl Inventory {
         ensures works { course ≡ Course.Works → result ≢ Poll.Failed }
         ensures fails { course ≢ Course.Works → (result ≡ Poll.Failed) ⊎ (result ≡ Poll.Memory) }
         ensures memory { result ≡ Poll.Memory → IsAsBefore (shown_by self.old) (shown_by self.new) }
+        ensures count { CountsFault Poll.Failed result self.old.faults self.new.faults }
     {
         match course {
             Course::Works => self.poll_now(token, code),
@@ -70,6 +71,7 @@ impl Inventory {
         ensures whole { (facts : facts_type) → result ≡ Poll.Ready facts → code.entry ≡ None }
         ensures works { result ≢ Poll.Failed }
         ensures memory { result ≡ Poll.Memory → IsAsBefore (shown_by self.old) (shown_by self.new) }
+        ensures faults { self.new.faults ≡ self.old.faults }
     {
         match self.held.place_of(token) {
             None => unreachable!(),
@@ -101,6 +103,7 @@ impl Inventory {
         ensures whole { (facts : facts_type) → result ≡ Poll.Ready facts → code.entry ≡ None }
         ensures works { result ≢ Poll.Failed }
         ensures memory { result ≡ Poll.Memory → IsAsBefore (shown_by self.old) (shown_by self.new) }
+        ensures faults { self.new.faults ≡ self.old.faults }
     {
         match code {
             None => match self.ready_at(at, token) {
@@ -120,6 +123,7 @@ impl Inventory {
         ensures ok { (h : held_type) → slice_get self.old.held.all at ≡ Some h → 0 < h.left →
             OnOk result (Waits token.now (shown_by self.old) (shown_by self.new)) }
         ensures memory { OnErr result (IsAsBefore (shown_by self.old) (shown_by self.new)) }
+        ensures faults { self.new.faults ≡ self.old.faults }
     {
         note(&mut self.trace, token, Request::Poll, Answered::NotYet)?;
         self.held.lower(at);
@@ -133,6 +137,7 @@ impl Inventory {
             IsReady token.now f (shown_by self.old) (shown_by self.new)) }
         ensures had { IfOk result (λ f. HasFacts (shown_by self.old) token.now f) }
         ensures memory { OnErr result (IsAsBefore (shown_by self.old) (shown_by self.new)) }
+        ensures faults { self.new.faults ≡ self.old.faults }
     {
         let facts = self.held.get(at).what.facts.copy()?;
         self.tell_at(at, token, facts)
@@ -146,6 +151,7 @@ impl Inventory {
         ensures ok { OnOk result (IsReady token.now facts (shown_by self.old) (shown_by self.new)) }
         ensures same { IfOk result (λ f. f ≡ facts) }
         ensures memory { OnErr result (IsAsBefore (shown_by self.old) (shown_by self.new)) }
+        ensures faults { self.new.faults ≡ self.old.faults }
     {
         let kept = facts.copy()?;
         note(
@@ -181,6 +187,7 @@ impl Inventory {
         ensures code { IfOk result (λ c. c ≡ code.now) }
         ensures ok { OnOk result (IsBroken token.now code.now (shown_by self.old) (shown_by self.new)) }
         ensures memory { OnErr result (IsAsBefore (shown_by self.old) (shown_by self.new)) }
+        ensures faults { self.new.faults ≡ self.old.faults }
     {
         let told = code.copy()?;
         note(
@@ -204,6 +211,7 @@ impl Inventory {
         ensures works { course ≡ Course.Works → result ≢ Gone.Failed }
         ensures fails { course ≢ Course.Works → (result ≡ Gone.Failed) ⊎ (result ≡ Gone.Memory) }
         ensures memory { result ≡ Gone.Memory → IsAsBefore (shown_by self.old) (shown_by self.new) }
+        ensures count { CountsFault Gone.Failed result self.old.faults self.new.faults }
     {
         match course {
             Course::Works => match self.gone_now(token) {
@@ -227,6 +235,7 @@ impl Inventory {
         ensures not_yet { IfOk result (λ b. IsFalse b →
             Lingers token.now (shown_by self.old) (shown_by self.new)) }
         ensures memory { OnErr result (IsAsBefore (shown_by self.old) (shown_by self.new)) }
+        ensures faults { self.new.faults ≡ self.old.faults }
     {
         match self.held.place_of(token) {
             None => {
@@ -252,6 +261,7 @@ impl Inventory {
             h.leaving ≡ true →
             OnOk result (Lingers token.now (shown_by self.old) (shown_by self.new)) }
         ensures memory { OnErr result (IsAsBefore (shown_by self.old) (shown_by self.new)) }
+        ensures faults { self.new.faults ≡ self.old.faults }
     {
         note(&mut self.trace, token, Request::Gone, Answered::NotYet)?;
         self.held.lower(at);
@@ -264,6 +274,7 @@ impl Inventory {
         ensures ok { (h : held_type) → slice_get self.old.held.all at ≡ Some h → h.leaving ≡ true →
             OnOk result (IsGone token.now (shown_by self.old) (shown_by self.new)) }
         ensures memory { OnErr result (IsAsBefore (shown_by self.old) (shown_by self.new)) }
+        ensures faults { self.new.faults ≡ self.old.faults }
     {
         note(&mut self.trace, token, Request::Gone, Answered::Gone)?;
         self.held.let_go(at);
@@ -279,6 +290,7 @@ impl Inventory {
         ensures fails { course ≢ Course.Works →
             (result ≡ Listed.Failed) ⊎ (result ≡ Listed.Memory) }
         ensures memory { result ≡ Listed.Memory → IsAsBefore (shown_by self.old) (shown_by self.new) }
+        ensures count { CountsFault Listed.Failed result self.old.faults self.new.faults }
     {
         match course {
             Course::Works => match self.list_now() {
@@ -295,6 +307,7 @@ impl Inventory {
     fn list_now(&mut self) -> Result<Seq<Alive>, AllocError>
         ensures ok { IfOk result (λ all. Lists all (shown_by self.old) (shown_by self.new)) }
         ensures memory { OnErr result (IsAsBefore (shown_by self.old) (shown_by self.new)) }
+        ensures faults { self.new.faults ≡ self.old.faults }
     {
         let all = copies(self.trace.allocator(), self.held.all.as_slice())?;
         self.trace.push(Traced::Listed(Listing::Got))?;
@@ -304,6 +317,7 @@ impl Inventory {
     fn fail_list(&mut self) -> Result<(), AllocError>
         ensures ok { OnOk result (ListsNone (shown_by self.old) (shown_by self.new)) }
         ensures memory { OnErr result (IsAsBefore (shown_by self.old) (shown_by self.new)) }
+        ensures faults { OnOk result (self.new.faults ≡ min (self.old.faults + 1) (2 ^ 64 - 1)) }
     {
         self.trace.push(Traced::Listed(Listing::Failed))?;
         self.count_fault();

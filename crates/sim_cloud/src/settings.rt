@@ -1,15 +1,7 @@
 //! What a simulated cloud is made with.
+use crate::held::Held;
 use heat_value::{Seq, Text};
-use provider::Alive;
 use std::alloc::Global;
-
-/// A resource that is there from the start; polls left are at most 64.
-#[derive(Debug, Drop)]
-pub struct CloudAlive {
-    pub what: Alive,
-    pub leaving: bool,
-    pub left: u8,
-}
 
 /// How many resources of a kind may be alive, at most 1,000,000.
 #[derive(Debug, Drop)]
@@ -33,10 +25,10 @@ pub struct NameCode {
 }
 
 /// The resources from the start, the quotas and delays of kinds, the broken names, and the numbers of
-/// the calls that fail with nothing done and with their effect done. All are empty for now.
+/// the calls, from 1, that fail with nothing done and with their effect done.
 #[derive(Debug, Drop)]
 pub struct Settings {
-    pub alive: Seq<CloudAlive>,
+    pub alive: Seq<Held>,
     pub quotas: Seq<KindQuota>,
     pub delays: Seq<KindDelay>,
     pub broken: Seq<NameCode>,
@@ -45,11 +37,12 @@ pub struct Settings {
 }
 
 impl Settings {
-    ghost use Rattle.sim_cloud.specs.Settings.{HasNothingSet};
+    ghost use Rattle.sim_cloud.specs.Settings.{HasNothingSet, IsFit};
 
     /// Nothing is set.
     pub fn empty(alloc: Global) -> Settings
-        ensures { HasNothingSet result }
+        ensures nothing { HasNothingSet result }
+        ensures fit { IsFit result }
     {
         Settings {
             alive: Seq::new(alloc),
