@@ -9,7 +9,7 @@ use Rattle.hot_functions.specs.Forms.{lone, count_of}
 
 pub count_length : (vs : List Value) → length vs ≡ count_of (nodes_of vs)
 count_length [] = refl
-count_length (v ∷ vs) = ap suc (count_length vs)
+count_length (v ∷ vs) = omega (arith, count_length vs)
 
 pub no_values : (vs : List Value) → length vs < 1 → nodes_of vs ≡ no_nodes
 no_values [] below = refl

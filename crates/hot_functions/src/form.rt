@@ -42,8 +42,9 @@ pub fn lone(members: &[Member]) -> Option<&Member>
     ensures { option_map (λ m. (m.now.key, data_of m.now.value)) result ≡ the_lone (members_of members.now) }
 {
     match members {
+        [] => None,
         [member] => Some(member),
-        _ => None,
+        [_, _, ..] => None,
     }
 }
 

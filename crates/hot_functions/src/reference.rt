@@ -31,6 +31,7 @@ pub fn reference_in(alloc: Global, value: &Value) -> Result<Option<Flaw>, AllocE
 
 // The first in a list.
 #[cycle(references)]
+#[tactic(auto, using(crate::proofs::Weights::for_walks))]
 fn reference_among(alloc: Global, values: &[Value]) -> Result<Option<Flaw>, AllocError>
     ensures { IfOk result (λ o. o ≡ the_reference_among 0 (nodes_of values.now)) }
 {
@@ -45,6 +46,7 @@ fn reference_among(alloc: Global, values: &[Value]) -> Result<Option<Flaw>, Allo
 
 // The first under an object's keys.
 #[cycle(references)]
+#[tactic(auto, using(crate::proofs::Weights::for_walks))]
 fn reference_under(alloc: Global, members: &[Member]) -> Result<Option<Flaw>, AllocError>
     ensures { IfOk result (λ o. o ≡ the_reference_under (members_of members.now)) }
 {

@@ -43,6 +43,7 @@ pub fn value_flaw(
 
 // The first in a list.
 #[cycle(walk)]
+#[tactic(auto, using(crate::proofs::Weights::for_walks))]
 fn items_flaw(
     alloc: Global,
     params: &Props,
@@ -91,6 +92,7 @@ fn fields_flaw(
 
 /// The first under an object's keys, of which each value is read so; the object itself is no function.
 #[cycle(walk)]
+#[tactic(auto, using(crate::proofs::Weights::for_walks))]
 pub fn members_flaw(
     alloc: Global,
     params: &Props,

@@ -1,6 +1,5 @@
-use Rattle.std.proofs.Common.{◌∙◌}
 use Rattle.hot_functions.proofs.Lengths.{count_length}
 use Rattle.hot_functions.proofs.argument.count_of.Goals as goal
 
 pub returns : goal.returns
-returns c = c.len.ensures ∙ count_length c.args.values.now
+returns c = count_length c.args.values.now

@@ -16,5 +16,5 @@ returns-in-len1 c =
 
 pub returns-in-len2-up : goal.returns-in-len2-up
 returns-in-len2-up c =
-    rw (two_values c.args.values.now _ _ c.name-item-in-len2-up.is c.attribute-item.is c.in-len2-up.len_at_least)
+    rw (two_values c.args.values.now _ _ c.name-item-2.is c.attribute-item.is c.in-len2-up.len_at_least)
     c.are_texts.ensures
