@@ -18,9 +18,13 @@ pub struct Template {
 
 impl Model for Template {
     ghost use Rattle.heat_value.specs.Data.{Members};
-    ghost use Rattle.hot_tree.specs.Template.{IsRight};
+    ghost use Rattle.heat_value.specs.Code.{members_code};
 
     ghost Value = { Members };
+
+    ghost coded = { members_code };
+
+    ghost use Rattle.hot_tree.specs.Template.{IsRight};
 
     ghost view = { λ t. t.fields };
 
