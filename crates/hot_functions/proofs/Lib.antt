@@ -1,0 +1,3 @@
+pub mod Stops
+pub mod Lengths
+pub mod Weights

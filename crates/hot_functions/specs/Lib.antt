@@ -1,0 +1,4 @@
+pub mod Forms
+pub mod References
+pub mod Places
+pub mod Walk

@@ -1,0 +1,18 @@
+//! The functions that stand in a template's values and conditions: the form of each argument, the
+//! names in them, and references where none may stand. Each check answers one definition of specs/,
+//! which gives the first flaw in reading order. Nothing is evaluated here.
+#![tactic(auto)]
+
+mod argument;
+mod condition;
+mod form;
+mod place;
+mod reference;
+#[cfg(test)]
+mod tests;
+mod walk;
+
+pub use condition::is_condition;
+pub use place::Place;
+pub use reference::reference_in;
+pub use walk::{members_flaw, value_flaw};

@@ -1,0 +1,69 @@
+//! A right template.
+ghost use Rattle.std.specs.Prelude.{◌≡◌, IfOk, IfErr, None};
+ghost use Rattle.heat_value.specs.Meaning.{data_of};
+ghost use Rattle.hot_tree.specs.Template.{IsRight, IsTemplateOf, IsFaultOf};
+ghost use Rattle.hot_tree.specs.Whole.{template_flaw as the_template_flaw};
+
+use crate::HotFault;
+use crate::whole::template_flaw;
+use heat_value::{Props, TryCopy, Value};
+use std::alloc::Global;
+use std::marker::Model;
+
+/// A template that holds none of the flaws H01 to H24, seen as its object.
+#[derive(Debug, Drop)]
+pub struct Template {
+    fields: Props,
+}
+
+impl Model for Template {
+    ghost use Rattle.heat_value.specs.Data.{Members};
+    ghost use Rattle.heat_value.specs.Code.{members_code};
+
+    ghost Value = { Members };
+
+    ghost coded = { members_code };
+
+    ghost use Rattle.hot_tree.specs.Template.{IsRight};
+
+    ghost view = { λ t. t.fields };
+
+    ghost invariant = { λ t. IsRight t.fields };
+}
+
+impl Template {
+    /// The template that a value is, or the first of its flaws.
+    pub fn from_value(alloc: Global, value: &Value) -> Result<Template, HotFault>
+        ensures ok { IfOk result (λ t. IsTemplateOf (data_of value.now) t) }
+        ensures fault { IfErr result (λ e. IsFaultOf (data_of value.now) e) }
+    {
+        match template_flaw(alloc, value)? {
+            Some(flaw) => Err(HotFault::Wrong(flaw)),
+            None => kept(value),
+        }
+    }
+
+    /// The template's object, which is right.
+    pub fn fields(&self) -> &Props
+        ensures value { result.now ≡ self.now }
+        ensures right { IsRight self.now }
+    {
+        &self.fields
+    }
+}
+
+// A copy of a right value, as a template.
+fn kept(value: &Value) -> Result<Template, HotFault>
+    requires { the_template_flaw (data_of value.now) ≡ None }
+    ensures ok { IfOk result (λ t. IsTemplateOf (data_of value.now) t) }
+    ensures fault { IfErr result (λ e. e ≡ HotFault.Memory) }
+{
+    match value {
+        Value::Fields(fields) => Ok(Template {
+            fields: fields.copy()?,
+        }),
+        Value::Null | Value::Flag(_) | Value::Whole(_) | Value::Words(_) | Value::Items(_) => {
+            unreachable!()
+        }
+    }
+}
