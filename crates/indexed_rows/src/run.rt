@@ -23,7 +23,8 @@ pub fn run_rows<R: Rows>(
 {
     let mut answers = Seq::new(alloc);
     for op in ops {
-        answers.push(answer_of(alloc, rows, op)?)?;
+        let answer = answer_of(alloc, rows, op)?;
+        answers.push(answer)?;
     }
     Ok(answers)
 }

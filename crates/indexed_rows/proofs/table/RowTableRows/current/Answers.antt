@@ -1,4 +1,4 @@
-use Rattle.std.proofs.Common.{◌≡◌, ◌<◌, ◌≤◌, ◌-◌, ◌∙◌, length, map, get_or, sym, ap, subst, subst₂, arith}
+use Rattle.std.proofs.Common.{◌≡◌, ◌<◌, ◌≤◌, ◌-◌, ◌∙◌, length, map, get_or, Some, None, true≢false, sym, ap, subst, subst₂, arith}
 use Rattle.std.specs.Prelude.{not}
 use Rattle.std.specs.Ordering.{is_gt}
 use Rattle.std.proofs.lemmas.List.{length-map}
@@ -20,13 +20,13 @@ loop-i-preserved c =
     none_more c.as_slice-rows.result.now c.as_slice-entries.result.now c.loop-i.i (c.loop-i.i - 1) c.end_of_name-end.result c.index-rows-entries.result
     (omega (arith, c.loop-i-test.true))
     (omega (arith, (o.within (c.loop-i.i - 1) (omega (arith, few, c.loop-i.auto.i, c.loop-i-test.true))).0, length-map c.as_slice-rows.result.now name_key))
-    c.index-rows-entries.is (λ is. absurd (Prim.search (c.is_current.ensures, c.if-is_current.false, is))) c.loop-i.invariant
+    c.index-rows-entries.is (λ is. true≢false (sym (c.is_current.ensures.1 is) ∙ c.if-is_current.false)) c.loop-i.invariant
 
 pub returns-then-is_current : goal.returns-then-is_current
 returns-then-is_current c =
     let e : c.self.inside.rows.items ≡ c.args.self.now.items = ap (λ v. v.items) c.self.view_is in
     let few : c.end_of_name-end.result ≤ length c.as_slice-entries.result.now = omega (arith, c.end_of_name-end.ensures.few, ap (λ qs. length qs) c.as_slice-entries.ensures) in
-    subst (λ ys. IsCurrentOf ys c.args.stack.now c.args.name.now _) (c.as_slice-rows.ensures.items ∙ e)
+    subst (λ ys. IsCurrentOf ys c.args.stack.now c.args.name.now (Some c.index-rows-entries.result.no)) (c.as_slice-rows.ensures.items ∙ e)
     (current_there c.as_slice-rows.result.now
     (subst (λ ys. AreApart (map row_key ys)) (sym c.as_slice-rows.ensures.items) c.as_slice-rows.ensures.apart)
     c.as_slice-entries.result.now
@@ -40,7 +40,7 @@ returns-then-is_current c =
 pub returns : goal.returns
 returns c =
     let e : c.self.inside.rows.items ≡ c.args.self.now.items = ap (λ v. v.items) c.self.view_is in
-    subst (λ ys. IsCurrentOf ys c.args.stack.now c.args.name.now _) (c.as_slice-rows.ensures.items ∙ e)
+    subst (λ ys. IsCurrentOf ys c.args.stack.now c.args.name.now None) (c.as_slice-rows.ensures.items ∙ e)
     (none_current c.as_slice-rows.result.now
     (subst (λ ys. AreApart (map row_key ys)) (sym c.as_slice-rows.ensures.items) c.as_slice-rows.ensures.apart)
     c.as_slice-entries.result.now

@@ -1,7 +1,7 @@
 use Rattle.std.proofs.Common.{◌≡◌, ◌<◌, ◌≤◌, ◌∙◌, length, map, get_or, sym, ap, subst, subst₂, arith}
 use Rattle.std.specs.Prelude.{not}
 use Rattle.std.specs.Ordering.{is_gt}
-use Rattle.std.proofs.lemmas.List.{length-map}
+use Rattle.std.proofs.lemmas.List.{length-map, get_or_default}
 use Rattle.row_table.specs.Rows.{row_key}
 use Rattle.keyed_table.specs.Orders.{AreApart, IsOrder, IsStart}
 use Rattle.keyed_table.specs.Sortings.{text_cmp}
@@ -19,10 +19,12 @@ loop-i-preserved c =
     let o : IsOrder stack_below (map stack_key c.as_slice-rows.result.now) c.as_slice-entries.result.now =
     subst₂ (λ ys qs. IsOrder stack_below (map stack_key ys) qs) (sym c.as_slice-rows.ensures.items) (sym c.as_slice-entries.ensures) c.self.invariant.1 in
     let few : c.end_of_stack-end.result ≤ length c.as_slice-entries.result.now = omega (arith, c.end_of_stack-end.ensures.few, ap (λ qs. length qs) c.as_slice-entries.ensures) in
+    let w : get_or c.as_slice-entries.result.now c.loop-i.i 0 < length c.as_slice-rows.result.now =
+    omega (arith, (o.within c.loop-i.i (omega (arith, few, c.loop-i-test.true))).0, length-map c.as_slice-rows.result.now stack_key) in
+    let x = get_or c.as_slice-rows.result.now (get_or c.as_slice-entries.result.now c.loop-i.i 0) c.index-rows-entries.result in
     rw c.in_ok-push.ensures.ok
-    (nos_more c.as_slice-rows.result.now c.as_slice-entries.result.now c.start_of_stack-start.result c.end_of_stack-end.result c.loop-i.i c.loop-i.nos c.index-rows-entries.result c.loop-i-test.true
-    (omega (arith, (o.within c.loop-i.i (omega (arith, few, c.loop-i-test.true))).0, length-map c.as_slice-rows.result.now stack_key))
-    c.index-rows-entries.is c.loop-i.invariant)
+    (nos_more c.as_slice-rows.result.now c.as_slice-entries.result.now c.start_of_stack-start.result c.end_of_stack-end.result c.loop-i.i c.loop-i.nos x c.loop-i-test.true w
+    (get_or_default c.as_slice-rows.result.now (get_or c.as_slice-entries.result.now c.loop-i.i 0) c.index-rows-entries.result x w) c.loop-i.invariant)
 
 pub returns : goal.returns
 returns c =
