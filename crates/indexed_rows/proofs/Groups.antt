@@ -1,5 +1,5 @@
 -- The entries of one group in an index of groups and numbers.
-use Rattle.std.proofs.Common.{◌≡◌, ◌≢◌, ◌<◌, ◌≤◌, ◌+◌, ◌∙◌, ℕ, Bool, true, false, true≢false, List, length, map, get_or, refl, sym, ap, subst, ⊎_elim, arith, ◌⊎◌}
+use Rattle.std.proofs.Common.{◌≡◌, ◌<◌, ◌≤◌, ◌∙◌, ℕ, true, false, true≢false, List, length, map, get_or, refl, sym, ap, subst, ⊎_elim, arith, ◌⊎◌}
 use Rattle.std.specs.Prelude.{not}
 use Rattle.std.specs.Ordering.{nat_cmp, ordering_then, is_lt, is_gt, MatchOrdering}
 use Rattle.std.specs.Cmp.{IsTotalOrder, tied_itself, ranks}

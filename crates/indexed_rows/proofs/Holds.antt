@@ -1,5 +1,5 @@
 -- A row that is locked or unlocked in its place.
-use Rattle.std.proofs.Common.{◌≡◌, ◌<◌, ◌≤◌, ◌+◌, ◌∙◌, ℕ, List, Option, Some, None, length, get_or, nat_eq, set, slice_get, refl, sym, ap, subst}
+use Rattle.std.proofs.Common.{◌≡◌, ◌<◌, ◌+◌, ◌∙◌, ℕ, List, Option, Some, None, length, get_or, nat_eq, set, slice_get, sym, ap, subst}
 use Rattle.std.specs.Prelude.{◌^◌}
 use Rattle.std.specs.List.{position_from}
 use Rattle.std.proofs.lemmas.Option.{slice_get-get_or}

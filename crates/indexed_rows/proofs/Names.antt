@@ -1,14 +1,14 @@
 -- The current row of a name, as its rows are read from the greatest number down.
-use Rattle.std.proofs.Common.{◌≡◌, ◌<◌, ◌≤◌, ◌+◌, ◌⊎◌, ◌∙◌, ℕ, List, Some, None, length, map, get_or, nat_eq, nat_lt, refl, sym, ap, subst, ⊎_elim, arith}
+use Rattle.std.proofs.Common.{◌≡◌, ◌<◌, ◌≤◌, ◌+◌, ◌∙◌, ℕ, List, Some, None, length, map, get_or, nat_eq, nat_lt, sym, ap, subst, ⊎_elim, arith}
 use Rattle.std.specs.Prelude.{not}
-use Rattle.std.specs.Ordering.{nat_cmp, is_gt}
+use Rattle.std.specs.Ordering.{is_gt}
 use Rattle.std.proofs.lemmas.List.{length-map, get_or_default}
 use Rattle.keyed_table.specs.Orders.{AreApart, IsOrder, IsStart}
 use Rattle.keyed_table.proofs.Numbers.{compared}
 use Rattle.keyed_table.proofs.Sortings.{number_sorting}
 use Rattle.keyed_table.proofs.Tables.{at-own}
 use Rattle.row_table.specs.declared.row.Row.{Row}
-use Rattle.row_table.specs.Rows.{row_at, row_key}
+use Rattle.row_table.specs.Rows.{row_key}
 use Rattle.row_table.specs.Chains.{IsCurrent}
 use Rattle.indexed_rows.specs.Found.{IsCurrentNo, IsCurrentOf}
 use Rattle.indexed_rows.specs.Keys.{name_of, name_key, name_cmp, name_below}

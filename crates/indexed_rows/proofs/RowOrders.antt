@@ -1,5 +1,5 @@
 -- How an index of groups and numbers follows the rows.
-use Rattle.std.proofs.Common.{◌≡◌, ◌≢◌, ◌<◌, ◌≤◌, ◌+◌, ◌∙◌, ℕ, Bool, List, [], ◌∷◌, ◌++◌, length, map, get_or, set, insert, remove, refl, sym, ap, subst, arith}
+use Rattle.std.proofs.Common.{◌≡◌, ◌≢◌, ◌<◌, ◌∙◌, ℕ, List, [], ◌∷◌, ◌++◌, length, map, get_or, set, insert, remove, refl, sym, ap, subst, arith}
 use Rattle.std.specs.Ordering.{nat_cmp}
 use Rattle.std.specs.Cmp.{IsTotalOrder, nat_cmp_total}
 use Rattle.std.specs.declared.cmp.Ordering.{Ordering}
@@ -10,7 +10,7 @@ use Rattle.keyed_table.specs.Orders.{AreApart, IsSorting, IsOrder, IsOrderBut, I
 use Rattle.keyed_table.specs.Sortings.{text_cmp, pair_same, pair_below}
 use Rattle.keyed_table.proofs.Orders.{left_out, written, pushed, dropped, entered}
 use Rattle.keyed_table.proofs.Sortings.{pair_sorting, pair_total}
-use Rattle.keyed_table.proofs.Tables.{map-push, map-remove, entry_there, rewrite_keeps}
+use Rattle.keyed_table.proofs.Tables.{map-push, map-remove, entry_there}
 use Rattle.row_table.specs.declared.row.Row.{Row}
 use Rattle.row_table.specs.Rows.{row_key}
 use Rattle.indexed_rows.specs.Keys.{name_cmp}

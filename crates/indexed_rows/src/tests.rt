@@ -70,7 +70,7 @@ fn put(rt: &impl AllocGlobal, ops: &mut Vec<RowOp>, number: u64, of: (u8, u8)) -
 
 // Writes over a row: it is replaced by the one of the next number, or is to go.
 fn set(rt: &impl AllocGlobal, ops: &mut Vec<RowOp>, number: u64, act: Act) -> Result<(), Fail> {
-    let behind = no(number + 1)?;
+    let behind = no(number.saturating_add(1))?;
     let row = row(rt, number, (b's', b'a'), act, Some(behind))?;
     ops.push(RowOp::Set(row))?;
     Ok(())
@@ -92,7 +92,7 @@ fn each(ops: &mut Vec<RowOp>, calls: &[u8], number: u64) -> Result<(), Fail> {
     for call in calls {
         ops.push(match *call {
             b'g' => RowOp::Get(no),
-            b'l' => RowOp::Lock(no, engine(number + 1)?),
+            b'l' => RowOp::Lock(no, engine(number.saturating_add(1))?),
             b'u' => RowOp::Unlock(no),
             _ => RowOp::Purge(no),
         })?;

@@ -1,4 +1,4 @@
-use Rattle.std.proofs.Common.{length, rules, of_calls}
+use Rattle.std.proofs.Common.{rules, of_calls}
 use Rattle.std.specs.Prelude.{not}
 use Rattle.std.specs.Ordering.{nat_cmp, is_gt}
 use Rattle.std.proofs.lemmas.Fn.{always_returns_same}
@@ -6,7 +6,7 @@ use Rattle.keyed_table.specs.Orders.{passes_at}
 use Rattle.keyed_table.proofs.Searches.{searched}
 use Rattle.keyed_table.proofs.Sortings.{group_end}
 use Rattle.indexed_rows.specs.Keys.{name_of, name_cmp, name_key, name_below}
-use Rattle.indexed_rows.proofs.RowOrders.{name_total, name_exact}
+use Rattle.indexed_rows.proofs.RowOrders.{name_total}
 use Rattle.indexed_rows.proofs.by_name.end_of_name.Goals as goal
 
 pub returns : goal.returns

@@ -1,4 +1,4 @@
-use Rattle.std.proofs.Common.{length, rules, of_calls}
+use Rattle.std.proofs.Common.{rules, of_calls}
 use Rattle.std.specs.Prelude.{not}
 use Rattle.std.specs.Ordering.{nat_cmp, is_gt}
 use Rattle.std.proofs.lemmas.Fn.{always_returns_same}
@@ -6,7 +6,6 @@ use Rattle.keyed_table.specs.Orders.{passes_at}
 use Rattle.keyed_table.proofs.Searches.{searched}
 use Rattle.keyed_table.proofs.Sortings.{group_end}
 use Rattle.std.specs.Cmp.Lexicographic.{nat_list_cmp_total}
-use Rattle.std.proofs.lemmas.Map.Lookups.{exact_bytes}
 use Rattle.keyed_table.specs.Sortings.{text_cmp}
 use Rattle.indexed_rows.specs.Keys.{stack_of, stack_key, stack_below}
 use Rattle.indexed_rows.proofs.by_stack.end_of_stack.Goals as goal

@@ -1,7 +1,7 @@
 use Rattle.std.proofs.Common.{◌∙◌, map, subst}
 use Rattle.std.specs.Cmp.Lexicographic.{nat_list_cmp_total}
 use Rattle.std.proofs.lemmas.Map.Lookups.{exact_bytes}
-use Rattle.keyed_table.specs.Orders.{IsOrder, IsOrderBut}
+use Rattle.keyed_table.specs.Orders.{IsOrderBut}
 use Rattle.keyed_table.specs.Sortings.{text_cmp}
 use Rattle.indexed_rows.specs.Keys.{name_of, name_cmp, name_key, name_below, stack_of, stack_key, stack_below}
 use Rattle.indexed_rows.proofs.RowOrders.{name_total, name_exact, row_written}
