@@ -1,0 +1,5 @@
+pub mod Keys
+pub mod Found
+pub mod Locks
+pub mod Folds
+pub mod Runs

@@ -1,0 +1,30 @@
+//! What may be asked of a table of rows, and what it answers.
+
+use heat_plan::{EngineNo, ResName, RowNo, StackName};
+use heat_value::Seq;
+use row_table::Row;
+
+/// One call of a table of rows.
+#[derive(Debug, Drop)]
+pub enum RowOp {
+    Get(RowNo),
+    Current(StackName, ResName),
+    OfStack(StackName),
+    Put(Row),
+    Set(Row),
+    Purge(RowNo),
+    Lock(RowNo, EngineNo),
+    Unlock(RowNo),
+    Reserve(usize),
+}
+
+/// What a call gives, copied; `Done` where it gives nothing, and `Barred` where its condition doesn't hold
+/// and it isn't made.
+#[derive(Debug, Drop)]
+pub enum RowAnswer {
+    Got(Option<Row>),
+    Current(Option<RowNo>),
+    Rows(Seq<RowNo>),
+    Done,
+    Barred,
+}
