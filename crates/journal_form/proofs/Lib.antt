@@ -1,2 +1,2 @@
-mod Spelled
-mod Found
+pub mod Spelled
+pub mod Found

@@ -1,0 +1,9 @@
+pub mod Cuts
+pub mod Laid
+pub mod Torn
+pub mod Runs
+pub mod Records
+pub mod Next
+pub mod Settled
+pub mod Restart
+pub mod Taken

@@ -1,0 +1,18 @@
+use Rattle.std.proofs.Common.{◌++◌, [], ◌∷◌, List, ℕ, ◌∙◌, ap, arith}
+use Rattle.journal_form.specs.Forms.{IsSized}
+use Rattle.row_journal.proofs.Next.{body_at}
+use Rattle.row_journal.proofs.journal.Journal.append.Goals as goal
+
+pub returns-in_err-add_record-clause-any_moment : goal.returns-in_err-add_record-clause-any_moment
+returns-in_err-add_record-clause-any_moment g c =
+    let two = rw (← c.self.view_is) at c.requires.version in
+    let small : IsSized c.args.bytes.now = omega (arith, c.requires.reserved.end) in
+    rw (← c.self.view_is) (λ tells image is ready. c.add_record.ensures.any_moment tells image c.args.bytes.now is ready small
+    (c.as_slice.ensures ∙ c.fill.ensures.bytes ∙ ap (λ (l : List ℕ). l ++ 0 ∷ []) (body_at c.self.inside.place image c.args.bytes.now is two)))
+
+pub returns-clause-any_moment : goal.returns-clause-any_moment
+returns-clause-any_moment g c =
+    let two = rw (← c.self.view_is) at c.requires.version in
+    let small : IsSized c.args.bytes.now = omega (arith, c.requires.reserved.end) in
+    rw (← c.self.view_is) (λ tells image is ready. c.add_record.ensures.any_moment tells image c.args.bytes.now is ready small
+    (c.as_slice.ensures ∙ c.fill.ensures.bytes ∙ ap (λ (l : List ℕ). l ++ 0 ∷ []) (body_at c.self.inside.place image c.args.bytes.now is two)))

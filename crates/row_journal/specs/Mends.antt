@@ -1,0 +1,38 @@
+-- What a recovery mends, and what a crash inside it may leave.
+use Rattle.std.specs.Prelude.{◌≡◌, ◌≢◌, ◌⊎◌, ℕ, List}
+use Rattle.heat_disk.specs.declared.half.Half.{Half}
+use Rattle.heat_disk.specs.declared.half.Half.TheVariants.{First, Second}
+use Rattle.heat_disk.specs.Halves.{Pair, part}
+use Rattle.heat_disk.specs.Shown.{ShownDisk, IsDurable}
+use Rattle.journal_form.specs.Images.{ImageData, IsImage}
+use Rattle.row_journal.specs.declared.looking.Ending.{Ending}
+use Rattle.row_journal.specs.declared.place.Place.{Place}
+use Rattle.row_journal.specs.Ends.{end_of, behind, with_next, HasNext, Leaves}
+use Rattle.row_journal.specs.Found.{EndsBy}
+use Rattle.row_journal.specs.Places.{place_of}
+
+-- the half that isn't this one
+abbrev pub other : Half → Half
+other First = Second
+other Second = First
+
+-- both halves have the image and its ending, and all of it is on the disk
+pub record IsSettled (image : ImageData) (ending : Ending) (disk : ShownDisk) : Type 0 where
+  pub is_image : IsImage disk.seen image
+  pub ends : EndsBy image.half (part image.half disk.seen) (end_of image) ending
+  pub durable : IsDurable disk
+
+-- a journal's numbers are those of such an image
+pub record SettlesAt (place : Place) (ending : Ending) (disk : ShownDisk) : Type 0 where
+  pub image : ImageData
+  pub numbers : place ≡ place_of image
+  pub settled : IsSettled image ending disk
+
+-- the image; or, where a gate other than 00 with a whole record behind it ended the image before, with that record
+pub data Mended (image : ImageData) (before halves : Pair) : Type 0 where
+  same : Leaves image halves → Mended image before halves
+  grown : (gate : ℕ) (payload : List ℕ) → gate ≢ 0 → HasNext image gate payload (behind before image) → Leaves (with_next image payload) halves → Mended image before halves
+
+-- Inside a recovery a crash leaves what it might have left before, or what the mending may leave.
+abbrev pub Recovering : ShownDisk → ImageData → Pair → Type 0
+Recovering old image halves = old.may_leave halves ⊎ Mended image old.seen halves

@@ -1,0 +1,32 @@
+-- What an opening gives, and what a crash inside it leaves.
+use Rattle.std.specs.Prelude.{◌≡◌, ◌≤◌, List, ℕ}
+use Rattle.heat_disk.specs.Calls.{ReadsAlike}
+use Rattle.heat_disk.specs.Shown.{ShownDisk, LeavesOnly}
+use Rattle.journal_form.specs.Images.{ImageData, IsImage}
+use Rattle.row_journal.specs.declared.place.Place.{Place}
+use Rattle.row_journal.specs.Ends.{IsTidy}
+use Rattle.row_journal.specs.Mends.{Recovering}
+use Rattle.row_journal.specs.Places.{place_of}
+use Rattle.row_journal.specs.Ready.{IsReady}
+
+-- The payloads are those of the image that the disk read as, and the journal is ready to go on from there.
+pub record HasOpened (old new : ShownDisk) (place : Place) (payloads : List (List ℕ)) : Type 0 where
+  pub image : ImageData
+  pub is_image : IsImage old.seen image
+  pub payloads_are : payloads ≡ image.payloads
+  pub numbers : place ≡ place_of image
+  pub ready : IsReady image new
+
+-- where the halves were tidy, a crash at any moment since leaves one of the images that a recovery may leave
+abbrev pub Survives : ShownDisk → ShownDisk → Type 0
+Survives old new = (image : ImageData) → IsImage old.seen image → IsTidy old.seen image → LeavesOnly old new (Recovering old image)
+
+-- there is no image, and nothing was written
+pub record IsForeign (old new : ShownDisk) : Type 0 where
+  pub none : (image : ImageData) → ¬ IsImage old.seen image
+  pub alike : ReadsAlike old new
+
+-- it is a disk of the same kind, whose count of faults hasn't fallen
+pub record GoesOn (old new : ShownDisk) (before now : ℕ) : Type 0 where
+  pub tells : new.tells ≡ old.tells
+  pub later : before ≤ now

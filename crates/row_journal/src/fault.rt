@@ -1,0 +1,29 @@
+//! Why no image was read.
+ghost use Rattle.std.specs.Prelude.{◌≡◌};
+ghost use Rattle.row_journal.specs.declared.fault.ReadFault.TheVariants.{Memory, Disk};
+
+use heat_disk::DiskFailed;
+use std::alloc::AllocError;
+
+#[derive(Clone, Copy, Debug, PartialEq, Eq)]
+pub(crate) enum ReadFault {
+    Foreign,
+    Disk,
+    Memory,
+}
+
+impl From<AllocError> for ReadFault {
+    ghost from_gives = { λ _ fault. fault ≡ Memory };
+
+    fn from(_: AllocError) -> Self {
+        ReadFault::Memory
+    }
+}
+
+impl From<DiskFailed> for ReadFault {
+    ghost from_gives = { λ _ fault. fault ≡ Disk };
+
+    fn from(_: DiskFailed) -> Self {
+        ReadFault::Disk
+    }
+}

@@ -1,0 +1,180 @@
+//! The journal.
+ghost use Rattle.std.specs.Prelude.{◌≡◌, ◌⊎◌, ◌↔◌, ◌≤◌, IsTrue, OnOk, length};
+ghost use Rattle.heat_disk.specs.Shown.{SameContent, LeavesOnly};
+ghost use Rattle.heat_disk.specs.Calls.{ReadsAlike};
+ghost use Rattle.heat_disk.specs.Causes.{HasCause};
+ghost use Rattle.heat_value.specs.Counts.{Rose};
+ghost use Rattle.journal_form.specs.declared.version.Version.TheVariants.{Two};
+ghost use Rattle.journal_form.specs.Images.{ImageData, IsImage};
+ghost use Rattle.row_journal.specs.Openings.{HasOpened, Survives, IsForeign, GoesOn};
+ghost use Rattle.row_journal.specs.Shown.{JournalData};
+ghost use Rattle.row_journal.specs.Ends.{with_next, LeavesEither};
+ghost use Rattle.row_journal.specs.Places.{place_of, digit, IsLong};
+ghost use Rattle.row_journal.specs.Ready.{IsReady, StandsAt, HasReserved};
+
+use crate::adding::add_record;
+use crate::buffer::Buffer;
+use crate::fault::ReadFault;
+use crate::opening::{Imaged, Recovered};
+use crate::place::Place;
+use crate::reading::find;
+use crate::taking::take_up;
+use heat_disk::{Disk, DiskFailed};
+use journal_form::Version;
+use std::alloc::{AllocError, Global};
+use std::marker::Model;
+
+/// A journal on its disk.
+#[derive(Drop)]
+pub struct Journal<D: Disk> {
+    disk: D,
+    place: Place,
+    buffer: Buffer,
+}
+
+impl<D: Disk> Model for Journal<D> {
+    ghost use Rattle.row_journal.specs.Shown.{JournalData};
+
+    ghost Value = { JournalData D };
+
+    ghost view = { λ j. record { disk = j.disk; place = j.place; room = j.buffer.room } };
+}
+
+impl<D: Disk> Journal<D> {
+    /// Takes a journal up from its disk, which is then made to end at a closed gate.
+    pub fn recover(alloc: Global, disk: D) -> Recovered<D>
+        ensures opened { (j : JournalData D) (v : _) → result ≡ Recovered.Opened j v →
+            IsTrue (D.shown disk).tells →
+            HasOpened (D.shown disk) (D.shown j.disk) j.place v.items
+            × Survives (D.shown disk) (D.shown j.disk) }
+        ensures foreign { (d : D) → result ≡ Recovered.Foreign d → IsTrue (D.shown disk).tells →
+            IsForeign (D.shown disk) (D.shown d) }
+        ensures failed { (d : D) → result ≡ Recovered.DiskFault d → IsTrue (D.shown disk).tells →
+            Survives (D.shown disk) (D.shown d) }
+        ensures cause { (d : D) → result ≡ Recovered.DiskFault d →
+            Rose (D.faults disk) (D.faults d) }
+        ensures memory { (d : D) → result ≡ Recovered.Memory d → IsTrue (D.shown disk).tells →
+            ReadsAlike (D.shown disk) (D.shown d) }
+
+        ensures journal { (j : JournalData D) (v : _) → result ≡ Recovered.Opened j v →
+            GoesOn (D.shown disk) (D.shown j.disk) (D.faults disk) (D.faults j.disk) }
+        ensures disk { (d : D) → (result ≡ Recovered.Foreign d)
+            ⊎ ((result ≡ Recovered.DiskFault d) ⊎ (result ≡ Recovered.Memory d)) →
+            GoesOn (D.shown disk) (D.shown d) (D.faults disk) (D.faults d) }
+    {
+        let mut disk = disk;
+        match take_up(alloc, &mut disk) {
+            Ok(found) => {
+                let journal = Journal {
+                    disk,
+                    place: found.place,
+                    buffer: Buffer::new(alloc),
+                };
+                Recovered::Opened(journal, found.payloads)
+            }
+            Err(ReadFault::Foreign) => Recovered::Foreign(disk),
+            Err(ReadFault::Disk) => Recovered::DiskFault(disk),
+            Err(ReadFault::Memory) => Recovered::Memory(disk),
+        }
+    }
+
+    /// What a disk reads as. It never writes.
+    pub fn image(alloc: Global, disk: &mut D) -> Imaged
+        ensures payloads { IsTrue (D.shown disk.old).tells → (v : _) →
+            result ≡ Imaged.Payloads v →
+            (image : ImageData) × IsImage (D.shown disk.old).seen image
+            × (v.items ≡ image.payloads) }
+        ensures foreign { IsTrue (D.shown disk.old).tells → result ≡ Imaged.Foreign →
+            (image : ImageData) → ¬ IsImage (D.shown disk.old).seen image }
+        ensures cause { result ≡ Imaged.DiskFault → Rose (D.faults disk.old) (D.faults disk.new) }
+        ensures alike { IsTrue (D.shown disk.old).tells →
+            ReadsAlike (D.shown disk.old) (D.shown disk.new) }
+        ensures same { GoesOn (D.shown disk.old) (D.shown disk.new)
+            (D.faults disk.old) (D.faults disk.new) }
+    {
+        match find(alloc, disk) {
+            Ok(found) => Imaged::Payloads(found.payloads),
+            Err(ReadFault::Foreign) => Imaged::Foreign,
+            Err(ReadFault::Disk) => Imaged::DiskFault,
+            Err(ReadFault::Memory) => Imaged::Memory,
+        }
+    }
+
+    /// Gives the disk back.
+    pub fn inner(self) -> D
+        ensures { result ≡ self.disk }
+    {
+        let Journal {
+            disk,
+            place: _,
+            buffer: _,
+        } = self;
+        disk
+    }
+
+    /// 1 or 2.
+    pub fn version(&self) -> u8
+        ensures { result ≡ digit self.now.place.version }
+    {
+        match self.place.version {
+            Version::One => 1,
+            Version::Two => 2,
+        }
+    }
+
+    /// Whether a snapshot would make it shorter by much.
+    pub fn is_long(&self) -> bool
+        ensures { IsTrue result ↔ IsLong self.now.place }
+    {
+        self.place.is_long()
+    }
+
+    /// Takes the memory for the append of a record of n bytes, the disk's room among it.
+    pub fn reserve(&mut self, n: usize) -> Result<(), AllocError>
+        ensures reserved { OnOk result
+            (HasReserved n self.new.place self.new.room (D.shown self.new.disk)) }
+        ensures place { self.new.place ≡ self.old.place }
+        ensures room { self.old.room ≤ self.new.room }
+        ensures content { IsTrue (D.shown self.old.disk).tells →
+            SameContent (D.shown self.old.disk) (D.shown self.new.disk) }
+        ensures tells { (D.shown self.new.disk).tells ≡ (D.shown self.old.disk).tells }
+        ensures faults { D.faults self.new.disk ≡ D.faults self.old.disk }
+    {
+        if !self.place.has_next(n as u64) {
+            return Err(AllocError);
+        }
+        self.buffer.reserve(n + 17)?;
+        let n = n as u64;
+        self.disk
+            .room(self.place.half, self.place.end + n + 18, n + 18, 4)
+    }
+
+    /// Adds a record. At Ok it is acknowledged: it stays through each crash from then on. It takes no
+    /// memory.
+    pub fn append(&mut self, bytes: &[u8]) -> Result<(), DiskFailed>
+        requires version { self.old.place.version ≡ Two }
+        requires reserved { HasReserved (length bytes.now) self.old.place self.old.room
+            (D.shown self.old.disk) }
+        requires ready { IsTrue (D.shown self.old.disk).tells →
+            StandsAt self.old.place (D.shown self.old.disk) }
+
+        // A crash at any moment of the call leaves the image with the record or without it.
+        ensures any_moment { IsTrue (D.shown self.old.disk).tells → (image : ImageData) →
+            self.old.place ≡ place_of image → IsReady image (D.shown self.old.disk) →
+            LeavesOnly (D.shown self.old.disk) (D.shown self.new.disk)
+            (LeavesEither image bytes.now) }
+        ensures acknowledged { IsTrue (D.shown self.old.disk).tells → (image : ImageData) →
+            self.old.place ≡ place_of image → IsReady image (D.shown self.old.disk) → OnOk result
+            ((self.new.place ≡ place_of (with_next image bytes.now))
+            × IsReady (with_next image bytes.now) (D.shown self.new.disk)) }
+
+        ensures version { self.new.place.version ≡ Two }
+        ensures tells { (D.shown self.new.disk).tells ≡ (D.shown self.old.disk).tells }
+        ensures cause { HasCause (D.faults self.old.disk) (D.faults self.new.disk) result }
+    {
+        self.buffer.fill(self.place.count + 1, bytes);
+        add_record(&mut self.disk, self.place, self.buffer.as_slice())?;
+        self.place = self.place.next(bytes.len() as u64);
+        Ok(())
+    }
+}
