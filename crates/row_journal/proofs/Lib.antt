@@ -7,3 +7,7 @@ pub mod Next
 pub mod Settled
 pub mod Restart
 pub mod Taken
+pub mod Shut
+pub mod Staged
+pub mod Sides
+pub mod Turning

@@ -8,7 +8,9 @@ use Rattle.journal_form.specs.Images.{ImageData}
 use Rattle.journal_form.proofs.Spelled.{spelled-push}
 use Rattle.row_journal.specs.declared.place.Place.{Place}
 use Rattle.row_journal.specs.Ends.{end_of, with_next}
+use Rattle.row_journal.specs.Mends.{other}
 use Rattle.row_journal.specs.Places.{first_end_of, place_of}
+use Rattle.row_journal.specs.Snapshots.{fresh_snapshot}
 
 long_record : (n : ℕ) (payload : List ℕ) → length (record_of Two n payload) ≡ length payload + 17
 long_record n payload = omega arith
@@ -57,3 +59,16 @@ module _ (image : ImageData) (payload : List ℕ) (two : image.version ≡ Two) 
 pub body_at : (place : Place) (image : ImageData) (payload : List ℕ) → place ≡ place_of image → place.version ≡ Two → body Two (place.count + 1) payload ≡ body image.version (length image.payloads + 1) payload
 body_at place image payload is two =
     ap (λ (v : Version). body v (place.count + 1) payload) (sym two) ∙ ap (λ (p : Place). body p.version (p.count + 1) payload) is
+
+pub snapshot_place : (place now : Place) (image : ImageData) (payload : List ℕ) (len : ℕ) → place ≡ place_of image → len ≡ length payload → now.half ≡ other place.half → now.version ≡ Two
+    → now.epoch ≡ place.epoch + 1 → now.start ≡ 16 → now.count ≡ 1 → now.first_end ≡ len + 33 → now.end ≡ len + 33 → now ≡ place_of (fresh_snapshot image payload)
+snapshot_place place now image payload len is long half version epoch start count first_end end =
+    let one : 16 + length (spelled Two 1 (payload ∷ [])) ≡ length payload + 33 = omega (arith, length-append (record_of Two 1 payload) [], long_record 1 payload) in
+    place_same now (place_of (fresh_snapshot image payload))
+    (half ∙ ap (λ (p : Place). other p.half) is)
+    version
+    (epoch ∙ ap (λ (p : Place). p.epoch + 1) is)
+    start
+    count
+    (omega (arith, first_end, long, one))
+    (omega (arith, end, long, one))

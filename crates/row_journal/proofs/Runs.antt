@@ -1,11 +1,15 @@
 -- A run of disk calls: what a crash has left so far, what it may leave now, and what is on the disk.
-use Rattle.std.proofs.Common.{◌≡◌, ℕ, List, Result, sym, ◌∙◌, ap}
+use Rattle.std.proofs.Common.{◌≡◌, ℕ, List, Result, sym, ◌∙◌, ap, subst, take, ⊎_elim, inl, inr, arith}
 use Rattle.heat_disk.specs.declared.half.Half.{Half}
 use Rattle.heat_disk.specs.declared.half.Half.TheVariants.{First, Second}
 use Rattle.heat_disk.specs.Halves.{Pair, part, beside, changed}
 use Rattle.heat_disk.specs.Images.{overwritten, Only}
-use Rattle.heat_disk.specs.Shown.{ShownDisk, Elapses, IsLawful, IsDurable, LeavesOnly}
-use Rattle.heat_disk.specs.Calls.{Writes, Syncs}
+use Rattle.heat_disk.specs.Shown.{ShownDisk, Elapses, SameContent, IsLawful, IsDurable, LeavesOnly}
+use Rattle.heat_disk.specs.Calls.{ReadsAlike, Writes, Syncs}
+use Rattle.journal_form.specs.Forms.{journal_mark}
+use Rattle.journal_form.specs.Images.{ImageData, IsImage}
+use Rattle.row_journal.specs.Ends.{behind, IsClosed}
+use Rattle.row_journal.specs.Ready.{IsReady}
 use Rattle.heat_disk.proofs.Moments.{started, goes_on}
 use Rattle.heat_disk.proofs.Parts.{beside-changed}
 
@@ -43,3 +47,25 @@ written_beside half at bytes result mid new other writes is = λ c now.
 pub synced_durable : {T E : Type 0} (half : Half) (result : Result T E) (mid new : ShownDisk) → IsBeside half mid → Syncs half result mid new → Only half (part half mid.seen) new.may_leave → IsDurable new
 synced_durable half result mid new other syncs only = λ c now.
     pair_same half c new.seen (only c now ∙ sym (ap (part half) syncs.alike.seen)) (other c (syncs.alike.crash c now) ∙ sym (ap (beside half) syncs.alike.seen))
+
+-- more room changes nothing
+pub ready_same : (image : ImageData) (old new : ShownDisk) → IsReady image old → SameContent old new → IsReady image new
+ready_same image old new ready same = record {
+  is_image = subst (λ (p : Pair). IsImage p image) (sym same.seen) ready.is_image;
+  marked = subst (λ (p : Pair). image.start ≡ 8 → take 8 (part image.half p) ≡ journal_mark image.version) (sym same.seen) ready.marked;
+  closed = subst (λ (p : Pair). IsClosed (behind p image)) (sym same.seen) ready.closed;
+  durable = λ c now. ready.durable c ((same.crash c).0 now) ∙ sym same.seen;
+}
+
+-- a call that leaves all as it was, behind another
+pub reads_on : (old mid new : ShownDisk) → IsLawful old → ReadsAlike old mid → ReadsAlike mid new → ReadsAlike old new
+reads_on old mid new law first second = record {
+  seen = second.seen ∙ first.seen;
+  crash = λ c now. first.crash c (second.crash c now);
+  time = record {
+    later = omega (arith, first.time.later, second.time.later);
+    nothing_else = λ t c le left. ⊎_elim (λ was. ⊎_elim inl (λ now. inl (law.counts_now t c le (first.crash c now))) (first.time.nothing_else t c le was)) inr
+        (second.time.nothing_else t c (omega (arith, le, first.time.later)) left);
+    keeps = λ t c le left. second.time.keeps t c (omega (arith, le, first.time.later)) (first.time.keeps t c le left);
+  };
+}

@@ -5,3 +5,4 @@ pub mod Mends
 pub mod Ready
 pub mod Openings
 pub mod Shown
+pub mod Snapshots

@@ -1,5 +1,5 @@
 //! The journal.
-ghost use Rattle.std.specs.Prelude.{◌≡◌, ◌⊎◌, ◌↔◌, ◌≤◌, IsTrue, OnOk, length};
+ghost use Rattle.std.specs.Prelude.{◌≡◌, ◌⊎◌, ◌↔◌, ◌<◌, ◌≤◌, ◌-◌, ◌^◌, IsTrue, OnOk, length};
 ghost use Rattle.heat_disk.specs.Shown.{SameContent, LeavesOnly};
 ghost use Rattle.heat_disk.specs.Calls.{ReadsAlike};
 ghost use Rattle.heat_disk.specs.Causes.{HasCause};
@@ -8,6 +8,7 @@ ghost use Rattle.journal_form.specs.declared.version.Version.TheVariants.{Two};
 ghost use Rattle.journal_form.specs.Images.{ImageData, IsImage};
 ghost use Rattle.row_journal.specs.Openings.{HasOpened, Survives, IsForeign, GoesOn};
 ghost use Rattle.row_journal.specs.Shown.{JournalData};
+ghost use Rattle.row_journal.specs.Snapshots.{HasSnapshotRoom, fresh_snapshot, LeavesSnapshot};
 ghost use Rattle.row_journal.specs.Ends.{with_next, LeavesEither};
 ghost use Rattle.row_journal.specs.Places.{place_of, digit, IsLong};
 ghost use Rattle.row_journal.specs.Ready.{IsReady, StandsAt, HasReserved};
@@ -15,9 +16,11 @@ ghost use Rattle.row_journal.specs.Ready.{IsReady, StandsAt, HasReserved};
 use crate::adding::add_record;
 use crate::buffer::Buffer;
 use crate::fault::ReadFault;
+use crate::mending::other;
 use crate::opening::{Imaged, Recovered};
 use crate::place::Place;
 use crate::reading::find;
+use crate::snapshots::write_snapshot;
 use crate::taking::take_up;
 use heat_disk::{Disk, DiskFailed};
 use journal_form::Version;
@@ -34,6 +37,7 @@ pub struct Journal<D: Disk> {
 
 impl<D: Disk> Model for Journal<D> {
     ghost use Rattle.row_journal.specs.Shown.{JournalData};
+    ghost use Rattle.row_journal.specs.Snapshots.{HasSnapshotRoom, fresh_snapshot, LeavesSnapshot};
 
     ghost Value = { JournalData D };
 
@@ -130,9 +134,12 @@ impl<D: Disk> Journal<D> {
     }
 
     /// Takes the memory for the append of a record of n bytes, the disk's room among it.
+    #[tactic(auto, using(crate::proofs::Runs::ready_same))]
     pub fn reserve(&mut self, n: usize) -> Result<(), AllocError>
         ensures reserved { OnOk result
             (HasReserved n self.new.place self.new.room (D.shown self.new.disk)) }
+        ensures ready { IsTrue (D.shown self.old.disk).tells → (image : ImageData) →
+            IsReady image (D.shown self.old.disk) → IsReady image (D.shown self.new.disk) }
         ensures place { self.new.place ≡ self.old.place }
         ensures room { self.old.room ≤ self.new.room }
         ensures content { IsTrue (D.shown self.old.disk).tells →
@@ -175,6 +182,65 @@ impl<D: Disk> Journal<D> {
         self.buffer.fill(self.place.count + 1, bytes);
         add_record(&mut self.disk, self.place, self.buffer.as_slice())?;
         self.place = self.place.next(bytes.len() as u64);
+        Ok(())
+    }
+
+    /// Whether the epoch can still rise by a snapshot.
+    pub fn can_snapshot(&self) -> bool
+        ensures { IsTrue result ↔ (self.now.place.epoch < 2 ^ 62 - 1) }
+    {
+        self.place.epoch < (1 << 62) - 1
+    }
+
+    /// Takes the memory for a snapshot of n bytes, the disk's room on the half that isn't live among it.
+    #[tactic(auto, using(crate::proofs::Runs::ready_same))]
+    pub fn reserve_snapshot(&mut self, n: usize) -> Result<(), AllocError>
+        ensures reserved { OnOk result
+            (HasSnapshotRoom n self.new.place self.new.room (D.shown self.new.disk)) }
+        ensures ready { IsTrue (D.shown self.old.disk).tells → (image : ImageData) →
+            IsReady image (D.shown self.old.disk) → IsReady image (D.shown self.new.disk) }
+        ensures place { self.new.place ≡ self.old.place }
+        ensures room { self.old.room ≤ self.new.room }
+        ensures content { IsTrue (D.shown self.old.disk).tells →
+            SameContent (D.shown self.old.disk) (D.shown self.new.disk) }
+        ensures tells { (D.shown self.new.disk).tells ≡ (D.shown self.old.disk).tells }
+        ensures faults { D.faults self.new.disk ≡ D.faults self.old.disk }
+    {
+        if n as u64 > u64::MAX - 51 {
+            return Err(AllocError);
+        }
+        self.buffer.reserve(n + 17)?;
+        let n = n as u64;
+        let half = other(self.place.half);
+        self.disk.room(half, n + 34, n + 51, 7)
+    }
+
+    /// Puts a snapshot into the half that isn't live, which is then live, in version 2 and the next
+    /// epoch, with this one record. It takes no memory.
+    pub fn snapshot(&mut self, bytes: &[u8]) -> Result<(), DiskFailed>
+        requires young { self.old.place.epoch < 2 ^ 62 - 1 }
+        requires reserved { HasSnapshotRoom (length bytes.now) self.old.place self.old.room
+            (D.shown self.old.disk) }
+        requires ready { IsTrue (D.shown self.old.disk).tells →
+            StandsAt self.old.place (D.shown self.old.disk) }
+
+        // A crash at any moment of the call leaves the image from before it or the snapshot's.
+        ensures any_moment { IsTrue (D.shown self.old.disk).tells → (image : ImageData) →
+            self.old.place ≡ place_of image → IsReady image (D.shown self.old.disk) →
+            LeavesOnly (D.shown self.old.disk) (D.shown self.new.disk)
+            (LeavesSnapshot image bytes.now) }
+        ensures taken { IsTrue (D.shown self.old.disk).tells → (image : ImageData) →
+            self.old.place ≡ place_of image → IsReady image (D.shown self.old.disk) → OnOk result
+            ((self.new.place ≡ place_of (fresh_snapshot image bytes.now))
+            × IsReady (fresh_snapshot image bytes.now) (D.shown self.new.disk)) }
+
+        ensures version { OnOk result (self.new.place.version ≡ Two) }
+        ensures tells { (D.shown self.new.disk).tells ≡ (D.shown self.old.disk).tells }
+        ensures cause { HasCause (D.faults self.old.disk) (D.faults self.new.disk) result }
+    {
+        self.buffer.fill(1, bytes);
+        write_snapshot(&mut self.disk, self.place, self.buffer.as_slice())?;
+        self.place = self.place.after_snapshot(bytes.len() as u64);
         Ok(())
     }
 }

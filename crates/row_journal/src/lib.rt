@@ -13,6 +13,7 @@ mod mending;
 mod opening;
 mod place;
 mod reading;
+mod snapshots;
 mod taking;
 #[cfg(test)]
 mod tests;

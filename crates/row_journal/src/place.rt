@@ -1,10 +1,12 @@
 //! Where the next record goes.
-ghost use Rattle.std.specs.Prelude.{◌≡◌, ◌↔◌, ◌+◌, ◌<◌, ◌≤◌, ◌^◌, ◌==◌, if◌then◌else◌, List, ℕ, length, IsTrue};
+ghost use Rattle.std.specs.Prelude.{◌≡◌, ◌↔◌, ◌+◌, ◌<◌, ◌-◌, ◌^◌, ◌==◌, if◌then◌else◌, List, ℕ, length, IsTrue};
 ghost use Rattle.journal_form.specs.declared.version.Version.TheVariants.{Two};
 ghost use Rattle.journal_form.specs.Images.{ImageData};
 ghost use Rattle.row_journal.specs.Ends.{with_next};
 ghost use Rattle.row_journal.specs.Places.{place_of, IsLong};
+ghost use Rattle.row_journal.specs.Snapshots.{fresh_snapshot};
 
+use crate::mending::other;
 use heat_disk::Half;
 use journal_form::Version;
 
@@ -58,6 +60,25 @@ impl Place {
         ensures { result ≡ (if self.count == 0 then end else self.first_end) }
     {
         if self.count == 0 { end } else { self.first_end }
+    }
+
+    // Behind the one record, of so many bytes, of a snapshot on the other half.
+    pub(crate) fn after_snapshot(self, len: u64) -> Place
+        requires young { self.epoch < 2 ^ 62 - 1 }
+        requires end { len + 33 < 2 ^ 64 }
+        ensures version { result.version ≡ Two }
+        ensures next { (image : ImageData) (payload : List ℕ) → self ≡ place_of image →
+            len ≡ length payload → result ≡ place_of (fresh_snapshot image payload) }
+    {
+        Place {
+            half: other(self.half),
+            version: Version::Two,
+            epoch: self.epoch + 1,
+            start: 16,
+            count: 1,
+            first_end: len + 33,
+            end: len + 33,
+        }
     }
 
     pub(crate) fn is_long(self) -> bool

@@ -1,0 +1,21 @@
+use Rattle.std.proofs.Common.{rules, length, ◌∙◌, arith}
+use Rattle.journal_form.specs.Forms.{IsSized}
+use Rattle.row_journal.proofs.journal.Journal.snapshot.Goals as goal
+
+pub returns-in_err-write_snapshot-clause-any_moment : goal.returns-in_err-write_snapshot-clause-any_moment
+returns-in_err-write_snapshot-clause-any_moment g c =
+    let small : IsSized c.args.bytes.now = omega (arith, c.requires.reserved.small) in
+    rw (← c.self.view_is) (λ tells image is ready. c.write_snapshot.ensures.any_moment tells image c.args.bytes.now is ready small (c.as_slice.ensures ∙ c.fill.ensures.bytes))
+
+pub returns-clause-any_moment : goal.returns-clause-any_moment
+returns-clause-any_moment g c =
+    let small : IsSized c.args.bytes.now = omega (arith, c.requires.reserved.small) in
+    rw (← c.self.view_is) (λ tells image is ready. c.write_snapshot.ensures.any_moment tells image c.args.bytes.now is ready small (c.as_slice.ensures ∙ c.fill.ensures.bytes))
+
+pub returns-clause-taken : goal.returns-clause-taken
+returns-clause-taken g c =
+    let small : IsSized c.args.bytes.now = omega (arith, c.requires.reserved.small) in
+    rw (← c.self.view_is) (λ tells image is ready. (
+      c.after_snapshot-self-inside.ensures.next image c.args.bytes.now is (search rules),
+      c.in_ok-write_snapshot.ensures.ready tells image c.args.bytes.now is ready small (c.as_slice.ensures ∙ c.fill.ensures.bytes),
+    ))
