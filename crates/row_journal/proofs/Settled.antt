@@ -24,10 +24,6 @@ use Rattle.row_journal.proofs.Records.{moved, on_ok}
 use Rattle.row_journal.proofs.Torn.{IsBehind, shut, tail_is, still_marked, leaves_either}
 use Rattle.row_journal.proofs.Runs.{SoFar, begins, next, synced, durable_beside, written_beside, synced_durable}
 
-pub part-other : {A : Type 0} (half : Half) (p : A × A) → part (other half) p ≡ beside half p
-part-other First p = refl
-part-other Second p = refl
-
 pub beside-other : {A : Type 0} (half : Half) (p : A × A) → beside (other half) p ≡ part half p
 beside-other First p = refl
 beside-other Second p = refl

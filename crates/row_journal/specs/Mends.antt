@@ -31,7 +31,8 @@ pub record SettlesAt (place : Place) (ending : Ending) (disk : ShownDisk) : Type
 -- the image; or, where a gate other than 00 with a whole record behind it ended the image before, with that record
 pub data Mended (image : ImageData) (before halves : Pair) : Type 0 where
   same : Leaves image halves → Mended image before halves
-  grown : (gate : ℕ) (payload : List ℕ) → gate ≢ 0 → HasNext image gate payload (behind before image) → Leaves (with_next image payload) halves → Mended image before halves
+  grown : (gate : ℕ) (payload : List ℕ) → gate ≢ 0 → HasNext image gate payload (behind before image)
+      → Leaves (with_next image payload) halves → Mended image before halves
 
 -- Inside a recovery a crash leaves what it might have left before, or what the mending may leave.
 abbrev pub Recovering : ShownDisk → ImageData → Pair → Type 0

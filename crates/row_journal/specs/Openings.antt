@@ -19,7 +19,8 @@ pub record HasOpened (old new : ShownDisk) (place : Place) (payloads : List (Lis
 
 -- where the halves were tidy, a crash at any moment since leaves one of the images that a recovery may leave
 abbrev pub Survives : ShownDisk → ShownDisk → Type 0
-Survives old new = (image : ImageData) → IsImage old.seen image → IsTidy old.seen image → LeavesOnly old new (Recovering old image)
+Survives old new = (image : ImageData) → IsImage old.seen image → IsTidy old.seen image
+    → LeavesOnly old new (Recovering old image)
 
 -- there is no image, and nothing was written
 pub record IsForeign (old new : ShownDisk) : Type 0 where

@@ -28,7 +28,8 @@ LeavesSnapshot image payload halves = Leaves image halves ⊎ Leaves (fresh_snap
 -- this half isn't born, or has the header that it had; the other half is as before
 pub record IsUnopened (half : Half) (before halves : Pair) : Type 0 where
   pub same : beside half halves ≡ beside half before
-  pub header : HasHeader (part half halves) None ⊎ ((h : Option Header) → HasHeader (part half before) h → HasHeader (part half halves) h)
+  pub header : HasHeader (part half halves) None
+      ⊎ ((h : Option Header) → HasHeader (part half before) h → HasHeader (part half halves) h)
 
 -- 17 bytes or more, and no open gate at place 16
 pub record IsShut (bytes : List ℕ) : Type 0 where
