@@ -1,20 +1,18 @@
 -- The closing of a half, from disk call to disk call.
-use Rattle.std.proofs.Common.{◌≡◌, ◌≢◌, ◌⊎◌, inl, inr, ⊎_elim, ℕ, ◌+◌, ◌<◌, ◌≤◌, List, [], ◌∷◌, ◌++◌, length, get_or, take, drop, Option, None, Result, OnOk, refl, sym, ◌∙◌, ap, subst, arith, append_assoc, length-append, take-append-drop}
-use Rattle.std.proofs.lemmas.List.{drop_more, get_or_at, length-take-le, length-take, length-drop}
+use Rattle.std.proofs.Common.{◌≡◌, ◌≢◌, ◌⊎◌, inl, inr, ℕ, ◌≤◌, List, [], ◌∷◌, ◌++◌, length, get_or, take, drop, Option, None, Result, sym, ◌∙◌, ap, subst, arith, take-append-drop}
+use Rattle.std.proofs.lemmas.List.{drop_more}
 use Rattle.std.proofs.lemmas.Bool.{cases_eq}
 use Rattle.heat_disk.specs.declared.half.Half.{Half}
 use Rattle.heat_disk.specs.declared.disk.DiskFailed.{DiskFailed}
-use Rattle.heat_disk.specs.Halves.{Pair, part, beside, changed}
-use Rattle.heat_disk.specs.Images.{overwritten, Torn, Only}
+use Rattle.heat_disk.specs.Halves.{Pair, part, beside}
+use Rattle.heat_disk.specs.Images.{Torn}
 use Rattle.heat_disk.specs.Shown.{ShownDisk, IsLawful, IsDurable, LeavesOnly}
-use Rattle.heat_disk.specs.Calls.{ReadsAlike, Writes, Syncs}
-use Rattle.heat_disk.proofs.Moments.{goes_on}
-use Rattle.heat_disk.proofs.Parts.{part-changed}
+use Rattle.heat_disk.specs.Calls.{ReadsAlike, Writes}
 use Rattle.journal_form.specs.declared.headers.Header.{Header}
-use Rattle.journal_form.specs.Images.{IsBorn, HasHeader}
-use Rattle.row_journal.specs.Snapshots.{IsUnopened, IsShut, HasShut}
-use Rattle.row_journal.proofs.Cuts.{torn_at, written_at}
-use Rattle.row_journal.proofs.Runs.{SoFar, begins, next, pair_same}
+use Rattle.journal_form.specs.Images.{HasHeader}
+use Rattle.row_journal.specs.Snapshots.{IsUnopened}
+use Rattle.row_journal.proofs.Cuts.{torn_at}
+use Rattle.row_journal.proofs.Runs.{SoFar, begins, next}
 
 pub unborn_shut : (bytes : List ℕ) → get_or bytes 16 0 ≢ 1 → HasHeader bytes None
 unborn_shut bytes shut header born = shut born.gate

@@ -1,5 +1,5 @@
 -- The image while the other half changes: it stays until that half is born, and then that half's is the image.
-use Rattle.std.proofs.Common.{◌≡◌, ◌≢◌, ◌⊎◌, inl, inr, ⊎_elim, ℕ, ◌+◌, ◌<◌, ◌≤◌, ◌^◌, List, [], ◌∷◌, ◌++◌, length, get_or, take, drop, All, Bool, true, false, if◌then◌else◌, nat_lt, Option, Some, None, refl, sym, ◌∙◌, ap, subst, arith, append_assoc, length-append}
+use Rattle.std.proofs.Common.{◌≡◌, ◌⊎◌, inl, inr, ⊎_elim, ℕ, ◌+◌, ◌<◌, ◌^◌, List, [], ◌∷◌, ◌++◌, length, get_or, take, drop, Bool, if◌then◌else◌, Option, Some, None, refl, sym, ◌∙◌, ap, subst, arith, append_assoc, length-append}
 use Rattle.std.proofs.lemmas.List.{append-nil}
 use Rattle.std.proofs.lemmas.List.Elements.{All-nil, All-cons}
 use Rattle.std.proofs.lemmas.Nat.{from_be_bytes-to_be_bytes_8}
@@ -10,8 +10,8 @@ use Rattle.heat_disk.specs.Halves.{Pair, part, beside}
 use Rattle.heat_disk.specs.Shown.{ShownDisk, IsDurable}
 use Rattle.journal_form.specs.declared.headers.Header.{Header}
 use Rattle.journal_form.specs.declared.version.Version.TheVariants.{Two}
-use Rattle.journal_form.specs.Forms.{number, body, spelled, IsSized, AreRecords, IsEnd}
-use Rattle.journal_form.specs.Images.{ImageData, IsBorn, HasHeader, GivesPlain, GivesBorn, Gives, live, IsImage}
+use Rattle.journal_form.specs.Forms.{number, body, spelled, IsSized, AreRecords}
+use Rattle.journal_form.specs.Images.{ImageData, IsBorn, HasHeader, Gives, live, IsImage}
 use Rattle.row_journal.specs.Ends.{end_of, behind, IsClosed, IsTidy, Leaves}
 use Rattle.row_journal.specs.Mends.{other}
 use Rattle.row_journal.specs.Ready.{IsReady}

@@ -1,15 +1,15 @@
 -- The filling and the opening of a half, from disk call to disk call.
-use Rattle.std.proofs.Common.{◌≡◌, ◌≢◌, inl, inr, ℕ, ◌+◌, ◌<◌, ◌≤◌, List, [], ◌∷◌, ◌++◌, length, get_or, take, drop, Result, OnOk, refl, sym, ◌∙◌, ap, subst, arith, append_assoc, length-append}
+use Rattle.std.proofs.Common.{◌≡◌, inl, ℕ, ◌+◌, ◌≤◌, List, [], ◌∷◌, ◌++◌, length, get_or, take, drop, Result, OnOk, sym, ◌∙◌, ap, subst, arith}
 use Rattle.std.proofs.lemmas.List.{drop_more, get_or-drop, get_or-take, length-take-le}
 use Rattle.heat_disk.specs.declared.half.Half.{Half}
 use Rattle.heat_disk.specs.declared.disk.DiskFailed.{DiskFailed}
 use Rattle.heat_disk.specs.Halves.{Pair, part, beside, changed}
 use Rattle.heat_disk.specs.Images.{overwritten, Torn, Only}
-use Rattle.heat_disk.specs.Shown.{ShownDisk, IsLawful, IsDurable, LeavesOnly}
+use Rattle.heat_disk.specs.Shown.{ShownDisk, IsLawful}
 use Rattle.heat_disk.specs.Calls.{Writes, Syncs}
 use Rattle.heat_disk.proofs.Parts.{part-changed, beside-changed}
-use Rattle.row_journal.specs.Snapshots.{IsUnopened, IsShut, HasShut, header_of, IsStaged, IsStagedSomehow, HasStaged, HasFilled}
-use Rattle.row_journal.proofs.Cuts.{torn_at, written_behind, written_at, behind_front}
+use Rattle.row_journal.specs.Snapshots.{IsUnopened, HasShut, header_of, IsStaged, IsStagedSomehow, HasStaged, HasFilled}
+use Rattle.row_journal.proofs.Cuts.{torn_at, written_behind}
 use Rattle.row_journal.proofs.Records.{on_ok}
 use Rattle.row_journal.proofs.Runs.{SoFar, begins, next, synced, durable_beside, written_beside, synced_durable}
 use Rattle.row_journal.proofs.Shut.{unborn_shut, unopened_same}

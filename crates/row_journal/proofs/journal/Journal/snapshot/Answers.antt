@@ -1,4 +1,4 @@
-use Rattle.std.proofs.Common.{rules, length, ◌∙◌, arith}
+use Rattle.std.proofs.Common.{rules, ◌∙◌, arith}
 use Rattle.journal_form.specs.Forms.{IsSized}
 use Rattle.row_journal.proofs.journal.Journal.snapshot.Goals as goal
 
