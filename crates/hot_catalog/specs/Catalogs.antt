@@ -1,5 +1,5 @@
 -- What a catalogue holds after a value was read into it, or the fault.
-use Rattle.std.specs.Prelude.{◌≡◌, ℕ, List, [], ◌∷◌, ◌++◌, ◌+◌, Bool, length, nat_le, bytes_eq, Option, Some, None}
+use Rattle.std.specs.Prelude.{◌≡◌, ℕ, List, [], ◌∷◌, ◌++◌, ◌+◌, length, nat_le, bytes_eq, Option, Some, None}
 use Rattle.std.specs.Prelude.{codes, if◌then◌else◌}
 use Rattle.std.specs.Prelude.{⊤}
 use Rattle.heat_value.specs.Data.{Data, Members, no_members, member}

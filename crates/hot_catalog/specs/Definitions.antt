@@ -1,5 +1,5 @@
 -- What a right definition says of its kind.
-use Rattle.std.specs.Prelude.{ℕ, List, [], ◌∷◌, Bool, true, false, Option, Some, None, codes}
+use Rattle.std.specs.Prelude.{ℕ, List, [], ◌∷◌, Bool, false, Option, Some, None, codes}
 use Rattle.heat_value.specs.Data.{Data, null, flag, whole, words, items, fields, Nodes, no_nodes, node, Members}
 use Rattle.heat_value.specs.Data.{no_members, member, lookup, keys_of, put}
 use Rattle.hot_forms.specs.Shapes.{members_in}

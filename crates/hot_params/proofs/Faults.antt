@@ -1,13 +1,13 @@
 -- Why a parameter has no value.
-use Rattle.std.proofs.Common.{◌≡◌, ◌↔◌, ℕ, List, Bool, false, IsTrue, Option, Some, None, option_map, refl}
-use Rattle.std.proofs.Common.{subst, sym}
+use Rattle.std.proofs.Common.{◌≡◌, ◌↔◌, ℕ, List, false, IsTrue, Option, Some, None, option_map}
+use Rattle.std.proofs.Common.{subst}
 use Rattle.heat_value.specs.Data.{Data, Members}
 use Rattle.heat_value.specs.Meaning.{data_of}
 use Rattle.heat_value.specs.declared.value.Value.{Value}
 use Rattle.hot_forms.specs.declared.sort.Sort.{Sort}
 use Rattle.hot_params.proofs.Wholes.{not_true}
 use Rattle.hot_params.specs.Bindings.{type_of, constraints_of, chosen, IsOutcome, IsFirstUnmet, IsFault, IsOwnFault}
-use Rattle.hot_params.specs.Bindings.{IsFlawOf, unlike, unmet}
+use Rattle.hot_params.specs.Bindings.{unlike, unmet}
 use Rattle.hot_params.specs.Codes.{at_parameter, at_constraint}
 use Rattle.hot_params.specs.Conversions.{ConvertsTo, IsConversion}
 use Rattle.hot_params.specs.declared.code.ParamCode.TheVariants.{P03}

@@ -5,7 +5,7 @@ use Rattle.std.proofs.Common.{refl, ap, sym, arith}
 use Rattle.std.proofs.lemmas.List.{length-drop}
 use Rattle.std.proofs.lemmas.List.Splits.{slice_split_first}
 use Rattle.std.specs.List.{slice_split, onto_first, position_or_len, before_first, after_first}
-use Rattle.heat_value.specs.Data.{Nodes, no_nodes, node, node_last, words}
+use Rattle.heat_value.specs.Data.{Nodes, no_nodes, node_last, words}
 use Rattle.hot_params.proofs.Lists.{joined_nodes, joined_nodes-last, joined_nodes-none}
 use Rattle.hot_params.specs.Conversions.{nodes_with}
 use Rattle.hot_params.specs.Texts.{pieces, trimmed}

@@ -1,5 +1,5 @@
 -- What a text is read as where a json parameter is wanted.
-use Rattle.std.proofs.Common.{◌≡◌, ◌∙◌, ◌<◌, ◌≤◌, ℕ, List, Option, Some, None, refl, ap, sym, subst, arith}
+use Rattle.std.proofs.Common.{◌≡◌, ◌∙◌, ℕ, List, Option, Some, None, ap, sym, subst, arith}
 use Rattle.serde_json.specs.Data as json
 use Rattle.heat_value.proofs.Conversions.{depth-json_of}
 use Rattle.heat_value.specs.Compact.{json_of}

@@ -1,6 +1,6 @@
 -- What a refusal says of a pattern.
-use Rattle.std.proofs.Common.{◌≡◌, ◌≢◌, ◌⊎◌, ℕ, ◌<◌, ◌≤◌, List, IfSome, IsSomeAnd, None, Some, Option, inl}
-use Rattle.std.proofs.Common.{inr, ⊎_elim, arith, refl}
+use Rattle.std.proofs.Common.{◌≢◌, ℕ, List, inl}
+use Rattle.std.proofs.Common.{inr, ⊎_elim, refl}
 use Rattle.regex.specs.Failures.{IsRightKind}
 use Rattle.regex.specs.Patterns.{default_config, Refuses}
 use Rattle.regex.specs.Sources.{IsRefusal}

@@ -1,6 +1,5 @@
 -- The codes of what is wrong with parameters, and where it is.
 use Rattle.std.specs.Prelude.{ℕ, List, [], ◌∷◌, Bool, Option, Some, None, codes, if◌then◌else◌}
-use Rattle.heat_value.specs.declared.path.Step.{Step}
 use Rattle.heat_value.specs.declared.path.Step.TheVariants.{Key, Index}
 use Rattle.hot_params.specs.declared.code.ParamCode.{ParamCode}
 use Rattle.hot_params.specs.declared.code.ParamCode.TheVariants as code

@@ -1,5 +1,5 @@
 -- The pseudo parameters, which say whose parameters they are.
-use Rattle.std.specs.Prelude.{ℕ, List, [], ◌∷◌, ◌++◌, take, decimal, codes}
+use Rattle.std.specs.Prelude.{ℕ, List, ◌∷◌, ◌++◌, take, decimal, codes}
 use Rattle.heat_value.specs.Data.{Members, words, put}
 use Rattle.hot_params.specs.declared.ids.Ids.{Ids}
 use Rattle.sha1.specs.Sha1.{sha1}

@@ -1,5 +1,5 @@
 -- What a pattern says of texts, in the words of the regular expressions' own specification.
-use Rattle.std.specs.Prelude.{◌≡◌, ◌⊎◌, ◌<◌, ℕ, List, [], ◌∷◌, Option, Some, None, option_map, length, chars}
+use Rattle.std.specs.Prelude.{◌≡◌, ◌⊎◌, ◌<◌, ℕ, List, [], ◌∷◌, Some, None, option_map, length, chars}
 use Rattle.std.specs.Prelude.{IfSome}
 use Rattle.std.specs.Prelude.{Contains, ⊤}
 use Rattle.regex.specs.Patterns.{Re, find_str, span, default_config, Reads}

@@ -1,5 +1,5 @@
 -- How much a value holds, and bounds on numbers.
-use Rattle.std.specs.Prelude.{ℕ, ℤ, pos, List, [], ◌∷◌, ◌+◌, Bool, true, false, ◌&&◌, not, nat_le, Option}
+use Rattle.std.specs.Prelude.{ℕ, ℤ, pos, List, [], ◌∷◌, ◌+◌, Bool, true, false, ◌&&◌, nat_le, Option}
 use Rattle.std.specs.Prelude.{Some, None, codes}
 use Rattle.std.specs.Prelude.{int_le, if◌then◌else◌}
 use Rattle.std.specs.Int.{int_rem_euclid}

@@ -1,5 +1,5 @@
 -- What the texts of parameters say: numbers, flags and lists.
-use Rattle.std.specs.Prelude.{◌≡◌, ◌≢◌, ℕ, ℤ, List, [], ◌∷◌, Bool, true, false, ◌&&◌, ◌==◌, Option, Some, None}
+use Rattle.std.specs.Prelude.{◌≢◌, ℕ, ℤ, List, [], ◌∷◌, Bool, true, false, ◌&&◌, ◌==◌, Option, Some, None}
 use Rattle.std.specs.Prelude.{map, codes}
 use Rattle.std.specs.Prelude.{bytes_eq, slice_index, length, if◌then◌else◌}
 use Rattle.std.specs.List.{list_any, slice_split}

@@ -1,4 +1,3 @@
-use Rattle.std.proofs.Common.{refl}
 use Rattle.hot_params.proofs.Readings.{deep, numbered}
 use Rattle.hot_params.proofs.conversion.json_said.Goals as goal
 

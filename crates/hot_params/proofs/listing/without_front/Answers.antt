@@ -1,6 +1,5 @@
-use Rattle.std.proofs.Common.{◌∙◌, sym, ap}
+use Rattle.std.proofs.Common.{◌∙◌, sym}
 use Rattle.hot_params.proofs.Trims.{front_stays}
-use Rattle.hot_params.specs.Texts.{without_front}
 use Rattle.hot_params.proofs.listing.without_front.Goals as goal
 
 pub returns : goal.returns
