@@ -9,3 +9,4 @@ pub mod Counts
 pub mod Wholes
 pub mod Faults
 pub mod Progress
+pub mod Depths

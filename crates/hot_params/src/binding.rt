@@ -1,6 +1,6 @@
 //! All parameters of a template.
-ghost use Rattle.std.specs.Prelude.{◌≡◌, IfOk, IfErr, map, option_map};
-ghost use Rattle.heat_value.specs.Data.{no_members};
+ghost use Rattle.std.specs.Prelude.{◌≡◌, ◌≤◌, IfOk, IfErr, map, option_map};
+ghost use Rattle.heat_value.specs.Data.{no_members, members_depth};
 ghost use Rattle.heat_value.specs.Meaning.{data_of};
 ghost use Rattle.hot_tree.specs.Functions.{members_there as the_members_there};
 ghost use Rattle.hot_params.specs.Bindings.{AreBound, IsFirstFault};
@@ -20,6 +20,25 @@ use std::alloc::{AllocError, Global};
 /// P02 of the first given name that is no parameter's; else of the first parameter, in byte order, P01,
 /// P03, or the code of its first constraint that isn't met.
 pub fn bind(
+    alloc: Global,
+    template: &Template,
+    given: &Props,
+    ids: &Ids,
+    registry: &Registry,
+) -> Result<Bound, ParamFault>
+    ensures ok { IfOk result (λ b. IsBoundTo (map (λ t. t.test) registry.now.customs) ids.now
+        template.now given.now b.params) }
+    ensures fault { IfErr result (λ e. IsFaultOf (map (λ t. t.test) registry.now.customs)
+        template.now given.now e) }
+
+    // Where what is given and the template nest at most 64 deep, each bound value does too.
+    ensures depth { IfOk result (λ b. members_depth given.now ≤ 64
+        → members_depth template.now ≤ 64 → members_depth b.params ≤ 64) }
+{
+    bound_to(alloc, template, given, ids, registry)
+}
+
+fn bound_to(
     alloc: Global,
     template: &Template,
     given: &Props,
