@@ -1,0 +1,4 @@
+pub mod Paths
+pub mod Flaws
+pub mod Definitions
+pub mod Catalogs

@@ -1,0 +1,18 @@
+//! The kinds that a program knows: those of the registry, and those that lines of a script define.
+//! `Catalog::read` takes a catalogue's value or gives the path of its first fault by the stated order; a
+//! refused value changes nothing. It answers to `specs/Flaws.antt` and `specs/Catalogs.antt`.
+#![tactic(auto)]
+
+mod attributes;
+mod catalog;
+mod check;
+mod definition;
+mod fault;
+mod flaw;
+mod properties;
+mod shape;
+#[cfg(test)]
+mod tests;
+
+pub use catalog::Catalog;
+pub use fault::CatalogFault;

@@ -1,0 +1,12 @@
+pub mod Places
+pub mod Lists
+pub mod Trims
+pub mod Pieces
+pub mod Refused
+pub mod Readings
+pub mod Sames
+pub mod Counts
+pub mod Wholes
+pub mod Faults
+pub mod Progress
+pub mod Depths

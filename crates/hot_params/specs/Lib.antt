@@ -1,0 +1,9 @@
+pub mod Codes
+pub mod Texts
+pub mod Conversions
+pub mod Sizes
+pub mod Patterns
+pub mod Rules
+pub mod Bindings
+pub mod Identity
+pub mod Bound

@@ -1,0 +1,20 @@
+//! What a program registers beside the templates: kinds with a judge of their own, and the named tests
+//! that `custom_constraint` asks. The closures are the caller's; what each may answer is kept beside it,
+//! and layers above rest on that fact alone.
+#![tactic(auto)]
+
+mod custom;
+mod judge;
+mod kind;
+mod naming;
+mod registry;
+mod shipped;
+#[cfg(test)]
+mod tests;
+
+pub use custom::{Ask, Custom, NamedTest};
+pub use judge::{Change, Judge};
+pub use kind::{KindDef, PropDef};
+pub use naming::{HasName, named};
+pub use registry::Registry;
+pub use shipped::{box_kind, flavor_test, is_flavor};
