@@ -18,7 +18,7 @@ use Rattle.step_relation.specs.Steps.{Step}
 use Rattle.step_relation.specs.Steps as step
 use Rattle.step_relation.specs.Turns.{IsWorn, trav}
 use Rattle.tell_laws.proofs.Silence.{AreUncalling}
-use Rattle.agree_laws.proofs.Laid.{laid_uncalling}
+use Rattle.work_laws.proofs.Below.{laid_uncalling}
 use Rattle.takeover_steps.specs.Engines.{Enlists, Stops}
 use Rattle.book.specs.Commands.{IsOrder, Orders, RefusesOrder}
 use Rattle.book.specs.Kept.{IsKept, unjudged}
@@ -99,7 +99,8 @@ module _ (first : StateData) (origin : Cloud) where
       → Does Is Refuses answer (page s h) (page t i) result → IsKept first origin t i c
   kept_done s t h i c Is Refuses answer result kept steps (done cs es is writes ends) =
       let k = steps cs es is in
-      grows_silently first origin s t h i es cs c c kept k.it k.tied (k.once h) k.silent writes.state writes.entries (unasked c)
+      grows_silently first origin s t h i es cs c c kept k.it k.tied (k.once h) k.silent writes.state writes.entries
+      (unasked c)
   kept_done s t h i c Is Refuses answer result kept steps (refused r why same ends) =
       stays first origin s t h i c c kept (ap (λ (p : Page). p.state) same) (ap (λ (p : Page). p.entries) same)
       (unasked c)

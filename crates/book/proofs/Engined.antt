@@ -24,10 +24,12 @@ use Rattle.step_relation.specs.Inputs.{passed_points}
 use Rattle.step_relation.specs.Takes.{relayed_letter, released_changes}
 use Rattle.step_relation.specs.Turns.{FollowsFailure, Turn}
 use Rattle.step_relation.specs.Writes.{draw_letters, lock, mark_complete, mark_failed, unlock}
-use Rattle.next_laws.proofs.Parts.{Kind, Part, begins, clears, drops, ends, faults, goes, overruns, placed, prepares, readies, refuses, relays, relieves, settles, steals, takes, waits}
+use Rattle.next_laws.proofs.Parts.{Kind, Part, begins, clears, drops, ends, faults, goes, overruns, placed, prepares}
+use Rattle.next_laws.proofs.Parts.{readies, refuses, relays, relieves, settles, steals, takes, waits}
 use Rattle.next_laws.proofs.Parts as part
 use Rattle.next_laws.proofs.Turns.{ByMove, Whole, by_move, follows, stops}
-use Rattle.next_laws.proofs.Verdicts.{Created, Deleted, Fate, Kept, Left, Lot, Passed, Purged, Replaced, Resumed, Retained, Stuck, Updated}
+use Rattle.next_laws.proofs.Verdicts.{Created, Deleted, Fate, Kept, Left, Lot, Passed, Purged, Replaced, Resumed}
+use Rattle.next_laws.proofs.Verdicts.{Retained, Stuck, Updated}
 use Rattle.book.specs.Scenes.{Scene}
 use Rattle.book.specs.Turned.{Turned}
 use Rattle.book.specs.Turned as turned

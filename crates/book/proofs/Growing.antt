@@ -74,7 +74,8 @@ module _ (first : StateData) (origin : Cloud) where
       → es ≡ entry_of actor (what.Call token asked given) ∷ rest → AreUncalling rest → t ≡ applied cs s → i ≡ h ++ es
       → Answers token asked given c d → d.trace ≡ c.trace ++ Called token asked given ∷ []
       → IsKept first origin t i d
-  grows_by_call s t h i es rest cs c d actor token asked given kept step tied once is_es silent is_t is_i answers trace =
+  grows_by_call s t h i es rest cs c d actor token asked given kept step tied once is_es silent is_t is_i answers
+      trace =
       record {
         engines = kept.engines;
         opens = kept.opens;

@@ -8,7 +8,7 @@ use Rattle.core_state.specs.declared.entry.Entry.{Entry}
 use Rattle.history.specs.Could.{IsPossible, could_of}
 use Rattle.soundness.specs.Laws.{opening_at}
 use Rattle.soundness.specs.Sound.{Sound}
-use Rattle.headline_laws.proofs.Empty.{empty_is_sound}
+use Rattle.work_laws.proofs.Below.{empty_is_sound}
 use Rattle.whole_laws.proofs.Whole.{runs_headline, runs_sound}
 use Rattle.dep_graph.specs.Lists.{IsRising}
 use Rattle.book.specs.Kept.{HasHeadline, IsKept, IsSoundBook, Shown, registries}

@@ -14,5 +14,7 @@ pub mod Engined
 pub mod Rising
 pub mod Doing
 pub mod Beginnings
+pub mod Fences
+pub mod Unhalted
 pub mod LostAlone
 pub mod OneItem

@@ -51,7 +51,8 @@ never_waits size = elim size [ ]
 never_gone : ¬ IsOfUnknownSize answer.Gone
 never_gone size = elim size [ ]
 
-drawn_some : (next : Numbers) (ls : List Letter) (c : Change) (rest : List Change) → draw_letters next ls (c ∷ rest) ≢ []
+drawn_some : (next : Numbers) (ls : List Letter) (c : Change) (rest : List Change)
+    → draw_letters next ls (c ∷ rest) ≢ []
 drawn_some next [] c rest is = cc
 drawn_some next (l ∷ ls) c rest is = cc
 

@@ -18,7 +18,8 @@ needs_at i none (suc p) x at = cc
 pub one_is_plan : (i : Item) → i.needs ≡ [] → IsPlan (i ∷ []) []
 one_is_plan i none = record {
   rising = rises i.name;
-  met = All-cons (λ (x : Item). All (Contains (names_of (i ∷ []))) x.needs) i [] (rw none (All-nil (Contains (names_of (i ∷ []))))) (All-nil _);
+  met = All-cons (λ (x : Item). All (Contains (names_of (i ∷ []))) x.needs) i []
+      (rw none (All-nil (Contains (names_of (i ∷ []))))) (All-nil _);
   acyclic = (
     i ∷ [],
     record {

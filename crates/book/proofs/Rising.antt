@@ -22,7 +22,7 @@ use Rattle.history.specs.Could.{IsPossible}
 use Rattle.history.specs.Opening.{Opening}
 use Rattle.soundness.specs.Numbered.{AllBelow}
 use Rattle.soundness.specs.Sound.{Sound}
-use Rattle.headline_laws.proofs.Once.{possible_before}
+use Rattle.work_laws.proofs.Below.{possible_before}
 use Rattle.whole_laws.proofs.Whole.{runs_sound}
 use Rattle.book.proofs.Engined.{AreStill, applied-live, laid_still, turn_still}
 

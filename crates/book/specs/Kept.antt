@@ -1,5 +1,5 @@
 -- What a book shows, and what it keeps of it.
-use Rattle.std.specs.Prelude.{List, None, [], ℕ, ◌++◌, ◌∷◌, ◌≡◌}
+use Rattle.std.specs.Prelude.{List, None, Option, [], ℕ, ◌++◌, ◌∷◌, ◌≡◌}
 use Rattle.provider.specs.Cloud.{Cloud, HasNone, state_of}
 use Rattle.provider.specs.declared.traced.Traced.{Traced}
 use Rattle.provider.specs.declared.traced.Traced.TheVariants.{Called}
@@ -14,14 +14,17 @@ use Rattle.soundness.specs.Headline.{Headline}
 use Rattle.soundness.specs.Laws.{opening_at}
 use Rattle.soundness.specs.Sound.{Sound}
 use Rattle.core_state.specs.declared.entry.What.TheVariants as what
+use Rattle.book.specs.declared.halting.Halt.{Halt}
 
--- the state at the opening; the state and the history since; the cloud, now and when the opening had asked it
+-- the state at the opening; the state and the history since; the cloud, now and when the opening had asked it; why it
+-- is halted, if it is
 pub record Shown (P : Type 0) : Type 0 where
   pub opening : StateData
   pub state : StateData
   pub entries : List Entry
   pub cloud : P
   pub origin : P
+  pub halt : Option Halt
 
 -- nothing stands, and so many engines are live
 abbrev pub opened : ℕ → StateData

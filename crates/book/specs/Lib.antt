@@ -1,3 +1,4 @@
+pub mod Below
 pub mod Kept
 pub mod Openings
 pub mod Quiet
@@ -5,6 +6,8 @@ pub mod Scenes
 pub mod SoundOver
 pub mod Requests
 pub mod Turned
+pub mod Commits
+pub mod Halts
 pub mod Makings
 pub mod Outcomes
 pub mod Learning

@@ -1,5 +1,5 @@
 -- What an opening comes to: it asks the cloud what is alive, once.
-use Rattle.std.specs.Prelude.{List, [], ℕ, ◌∷◌, ◌≡◌}
+use Rattle.std.specs.Prelude.{List, None, [], ℕ, ◌∷◌, ◌≡◌}
 use Rattle.heat_plan.specs.declared.token.Token.{Token}
 use Rattle.provider.specs.Calls.{Lists}
 use Rattle.provider.specs.Cloud.{Cloud}
@@ -13,6 +13,7 @@ pub record HasOpened {P : Type 0} (cloud_of : P → Cloud) (engines : ℕ) (clou
   pub entries : b.entries ≡ []
   pub cloud_is : b.cloud ≡ b.origin
   pub listed : Lists [] (cloud_of cloud) (cloud_of b.origin)
+  pub unhalted : b.halt ≡ None
 
 -- the cloud's list isn't empty: its first resource is nobody's
 pub record HasStranger (token : Token) (old new : Cloud) : Type 0 where

@@ -12,7 +12,7 @@ use Rattle.step_relation.specs.Rows.{token_of}
 use Rattle.step_parts.specs.Turns.{IsTurn}
 use Rattle.heat_plan.specs.declared.calls.Answered.TheVariants as answer
 use Rattle.book.specs.declared.ask.AskOutcomes.{AskOutcomes}
-use Rattle.book.specs.declared.look.LookOutcomes.{LookOutcomes}
+use Rattle.book.specs.declared.going.GoneOutcomes.{GoneOutcomes}
 use Rattle.book.specs.declared.poll.PollOutcomes.{PollOutcomes}
 
 -- the row of the engine's call
@@ -56,7 +56,7 @@ pub record PollHasRoom (room pages : ℕ) (o : PollOutcomes) : Type 0 where
   pub failed : HasRoom room pages o.failed
 
 -- the token to ask after, and the turn of each answer
-pub record LookIsMade (s : StateData) (e : ℕ) (o : LookOutcomes) : Type 0 where
+pub record GoneIsMade (s : StateData) (e : ℕ) (o : GoneOutcomes) : Type 0 where
   pub row : Row
   pub called : IsCalled s e row
   pub token : o.token ≡ token_of row
@@ -64,7 +64,7 @@ pub record LookIsMade (s : StateData) (e : ℕ) (o : LookOutcomes) : Type 0 wher
   pub not_yet : IsAnswered s e answer.NotYet o.not_yet
   pub failed : IsAnswered s e answer.Failed o.failed
 
-pub record LookHasRoom (room pages : ℕ) (o : LookOutcomes) : Type 0 where
+pub record GoneHasRoom (room pages : ℕ) (o : GoneOutcomes) : Type 0 where
   pub gone : HasRoom room pages o.gone
   pub not_yet : HasRoom room pages o.not_yet
   pub failed : HasRoom room pages o.failed

@@ -35,6 +35,6 @@ fn begin_update(alloc: Global, s: &State, e: EngineNo, job: &Job) -> Result<Made
     ensures made { IfOk result (IsQuietTurn s.now.state e) }
     ensures cause { IfErr result (IsQuietRefusal s.now.state e) }
 {
-    let prepared = check_steps::prepare(alloc, s, e, job)?;
+    let prepared = check_steps::prepare_now(alloc, s, e, job);
     check_steps::begin(alloc, s, e, job, &prepared)
 }

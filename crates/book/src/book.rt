@@ -1,6 +1,6 @@
 //! The book: what it shows, and its calls.
 ghost use Rattle.std.specs.Prelude.{◌≡◌, ◌++◌, ◌∷◌, ◌↔◌, ◌-◌, ◌^◌, ◌≤◌, ◌<◌, [], ℕ, Bool, List};
-ghost use Rattle.std.specs.Prelude.{min, IsTrue, OnOk, OnErr, Contains};
+ghost use Rattle.std.specs.Prelude.{min, Err, Some, IfOk, IsTrue, OnOk, OnErr, Contains};
 ghost use Rattle.dep_graph.specs.Lists.{IsRising};
 ghost use Rattle.heat_plan.specs.Plans.{PlanData};
 ghost use Rattle.heat_plan.specs.declared.token.Token.{Token as token_type};
@@ -9,6 +9,8 @@ ghost use Rattle.step_relation.specs.Refusals.{RefusesCancel, RefusesCreate, Ref
 ghost use Rattle.step_relation.specs.Refusals.{RefusesEnlist, RefusesStop, RefusesUpdate};
 ghost use Rattle.step_relation.specs.Steps.{IsNote};
 ghost use Rattle.command_steps.specs.Answers.{Cancels, Creates, Deletes, Updates};
+ghost use Rattle.check_steps.specs.Looks.{HasNext, IsLook, IsWork};
+ghost use Rattle.check_steps.specs.Prepares.{IsPrepared};
 ghost use Rattle.takeover_steps.specs.Engines.{Enlists, Stops};
 ghost use Rattle.provider.specs.Calls.{ListsNone};
 ghost use Rattle.provider.specs.Changes.{IsAsBefore};
@@ -18,11 +20,16 @@ ghost use Rattle.book.specs.Makings.{Does};
 ghost use Rattle.book.specs.Quiet.{IsIdle, number_of, page};
 ghost use Rattle.book.specs.Scenes.{scene_of};
 ghost use Rattle.book.specs.Turned.{Turned};
+ghost use Rattle.book.specs.Commits.{Commits};
+ghost use Rattle.book.specs.Halts.{IsRefused, MayHalt, first_cause};
 
 use crate::commanding::{StackCommand, make_order};
+use crate::committing::{Proposal, commit_of};
 use crate::engines::{make_enlisting, make_stop};
+use crate::halting::Halt;
 use crate::opening::{Opened, opening_of};
 use crate::turning::{Turn, turn_of};
+use check_steps::{Look, Prepared, Work, look};
 use core_state::{Actor, Entry, Next, Roomed, State, What};
 use heat_plan::{EngineNo, Refusal, StackName, StackNo, TravNo, WORN};
 use heat_value::Seq;
@@ -40,11 +47,13 @@ pub struct Book<P: Provider> {
     entries: Roomed<Entry>,
     cloud: P,
     origin: Snapshot<P>,
+    halt: Option<Halt>,
 }
 
 impl<P: Provider> Model for Book<P> {
     ghost use Rattle.std.specs.Coded.{codes};
     ghost use Rattle.heat_value.specs.Code.{data_code, members_code};
+    ghost use Rattle.book.specs.Halts.{MayHalt};
     ghost use Rattle.book.specs.Kept.{Shown, IsKept};
 
     ghost Value = { Shown P };
@@ -57,10 +66,12 @@ impl<P: Provider> Model for Book<P> {
       entries = b.entries.items;
       cloud = b.cloud;
       origin = b.origin.value;
+      halt = b.halt;
     } };
 
     ghost invariant = { λ b. IsKept b.opening.state (P.cloud b.origin.value)
-        b.state.state b.entries.items (P.cloud b.cloud) };
+        b.state.state b.entries.items (P.cloud b.cloud)
+        × MayHalt b.state.state b.halt };
 }
 
 impl<P: Provider> Book<P> {
@@ -98,6 +109,7 @@ impl<P: Provider> Book<P> {
                     entries: Roomed::new(alloc),
                     cloud,
                     origin,
+                    halt: None,
                 })
             }
             Listed::Failed => Opened::CloudFault(cloud),
@@ -111,13 +123,54 @@ impl<P: Provider> Book<P> {
         ensures turned { Turned e (scene_of P.cloud self.old) (scene_of P.cloud self.new) result }
         ensures live { self.new.state.live ≡ self.old.state.live }
         ensures same { IsSameBook self.old self.new }
+        ensures halt { self.new.halt ≡ self.old.halt }
+        ensures halted { IsRefused self.old self.new Turn.Memory result }
     {
+        if self.halt.is_some() {
+            return Turn::Memory;
+        }
         turn_of(
             self.alloc,
             &mut self.state,
             &mut self.entries,
             &mut self.cloud,
             e,
+        )
+    }
+
+    /// An engine's next step, whose number was drawn, for `prepare` and `commit`. Between the two calls
+    /// others may make steps.
+    pub fn look(&self, e: EngineNo) -> Result<Look, AllocError>
+        requires { e < self.now.state.next.engine }
+        ensures { IfOk result (IsLook self.now.state e) }
+    {
+        look(&self.state, e)
+    }
+
+    /// Makes the step that was looked at, with what `prepare` gave for it. Where another step of the
+    /// engine is next by now, it answers Stepped and changes nothing.
+    pub fn commit(&mut self, e: EngineNo, work: Work, prepared: Prepared) -> Turn
+        requires drawn { e < self.old.state.next.engine }
+        requires prepared { IsPrepared work prepared }
+        ensures committed { Commits e work
+            (scene_of P.cloud self.old) (scene_of P.cloud self.new) result }
+        ensures unprepared { prepared ≡ Prepared.Memory → HasNext self.old.state e
+            → IsWork self.old.state e work → result ≡ Turn.Memory }
+        ensures live { self.new.state.live ≡ self.old.state.live }
+        ensures same { IsSameBook self.old self.new }
+        ensures halt { self.new.halt ≡ self.old.halt }
+        ensures halted { IsRefused self.old self.new Turn.Memory result }
+    {
+        if self.halt.is_some() {
+            return Turn::Memory;
+        }
+        commit_of(
+            self.alloc,
+            &mut self.state,
+            &mut self.entries,
+            &mut self.cloud,
+            e,
+            Proposal { work, prepared },
         )
     }
 
@@ -144,7 +197,12 @@ impl<P: Provider> Book<P> {
         ensures live { self.new.state.live ≡ self.old.state.live }
         ensures cloud { self.new.cloud ≡ self.old.cloud }
         ensures same { IsSameBook self.old self.new }
+        ensures halt { self.new.halt ≡ self.old.halt }
+        ensures halted { IsRefused self.old self.new (Err Refusal.Memory) result }
     {
+        if self.halt.is_some() {
+            return Err(Refusal::Memory);
+        }
         make_order(self.alloc, &mut self.state, &mut self.entries, c)
     }
 
@@ -154,7 +212,12 @@ impl<P: Provider> Book<P> {
             (page self.old.state self.old.entries) (page self.new.state self.new.entries) result }
         ensures cloud { self.new.cloud ≡ self.old.cloud }
         ensures same { IsSameBook self.old self.new }
+        ensures halt { self.new.halt ≡ self.old.halt }
+        ensures halted { IsRefused self.old self.new (Err Refusal.Memory) result }
     {
+        if self.halt.is_some() {
+            return Err(Refusal::Memory);
+        }
         make_stop(self.alloc, &mut self.state, &mut self.entries, e)
     }
 
@@ -165,7 +228,12 @@ impl<P: Provider> Book<P> {
             (page self.old.state self.old.entries) (page self.new.state self.new.entries) result }
         ensures cloud { self.new.cloud ≡ self.old.cloud }
         ensures same { IsSameBook self.old self.new }
+        ensures halt { self.new.halt ≡ self.old.halt }
+        ensures halted { IsRefused self.old self.new (Err Refusal.Memory) result }
     {
+        if self.halt.is_some() {
+            return Err(Refusal::Memory);
+        }
         make_enlisting(self.alloc, &mut self.state, &mut self.entries)
     }
 
@@ -178,6 +246,7 @@ impl<P: Provider> Book<P> {
         ensures state { self.new.state ≡ self.old.state }
         ensures cloud { self.new.cloud ≡ self.old.cloud }
         ensures same { IsSameBook self.old self.new }
+        ensures halt { self.new.halt ≡ self.old.halt }
     {
         self.entries.reserve(1)?;
         self.entries.push(Entry {
@@ -245,6 +314,25 @@ impl<P: Provider> Book<P> {
         }
     }
 
+    /// Why the book is halted; none where it isn't.
+    pub fn halted(&self) -> Option<Halt>
+        ensures value { result ≡ self.now.halt }
+        ensures cause { MayHalt self.now.state result }
+    {
+        self.halt
+    }
+
+    /// Halts the book: from then on a call that would make a step answers `Memory` and changes nothing.
+    /// A book that is halted keeps its cause.
+    pub fn halt(&mut self, why: Halt)
+        requires { MayHalt self.old.state (Some why) }
+        ensures { self.new ≡ record self.old { halt = first_cause self.old.halt why } }
+    {
+        if self.halt.is_none() {
+            self.halt = Some(why);
+        }
+    }
+
     /// The cloud, as the history's calls have left it.
     pub fn give_back(self) -> P
         ensures { result ≡ self.cloud }
@@ -256,6 +344,7 @@ impl<P: Provider> Book<P> {
             entries: _entries,
             cloud,
             origin: _,
+            halt: _,
         } = self;
         cloud
     }

@@ -10,8 +10,14 @@ mod beginning;
 mod book;
 mod called;
 mod commanding;
+mod committing;
 mod engines;
-mod look;
+#[cfg(test)]
+mod fence_tests;
+mod going;
+#[cfg(test)]
+mod halt_tests;
+mod halting;
 mod making;
 mod opening;
 mod poll;
@@ -23,6 +29,8 @@ mod tests;
 mod turning;
 
 pub use book::Book;
+pub use check_steps::{BeginWork, Look, Prepared, Work, prepare};
 pub use commanding::StackCommand;
+pub use halting::Halt;
 pub use opening::Opened;
 pub use turning::Turn;

@@ -18,7 +18,7 @@ ghost use Rattle.book.specs.Turned.{Turned};
 
 use crate::answers::poll_answered;
 use crate::called::{called_row, is_sent_away};
-use crate::look::look_for;
+use crate::going::look_for;
 use crate::making::{make, make_room, make_within};
 use crate::requests::poll;
 use crate::turning::Turn;

@@ -71,8 +71,12 @@ pub(crate) fn turn_of<P: Provider>(
     }
 }
 
-// Makes a step that asks nobody.
-fn make_quietly(state: &mut State, entries: &mut Roomed<Entry>, made: Result<Made, Refusal>) -> Turn
+/// Makes a step that asks nobody.
+pub(crate) fn make_quietly(
+    state: &mut State,
+    entries: &mut Roomed<Entry>,
+    made: Result<Made, Refusal>,
+) -> Turn
     ensures { MadeQuietly made
         (page state.old.state entries.old.items) (page state.new.state entries.new.items) result }
 {

@@ -1,5 +1,6 @@
 -- The passes that there are, and what holds of the value and of them at the end.
-use Rattle.std.specs.Prelude.{◌≡◌, ◌<◌, ◌≤◌, ◌+◌, ◌++◌, ℕ, Bool, not, false, List, ◌∷◌, length, slice_index_or, sum_by, All, HoldsAt}
+use Rattle.std.specs.Prelude.{◌≡◌, ◌<◌, ◌≤◌, ◌+◌, ◌++◌, ℕ, Bool, not, false, List}
+use Rattle.std.specs.Prelude.{◌∷◌, length, slice_index_or, sum_by, All, HoldsAt}
 use mathlib.Core.List.{IsPrefix}
 use Rattle.book_lock.specs.declared.view.Account.{Account}
 use Rattle.book_lock.specs.Names.{on, child, parent}
@@ -34,7 +35,8 @@ module _ {T : Type 0} where
 
   -- each pass keeps its name, and so they stay all that there are
   abbrev pub KeepNames : List (Standing T) → List (Standing T) → Type 0
-  KeepNames before after = (k : ℕ) (d : Standing T) → k < length before → (slice_index_or after k d).name ≡ (slice_index_or before k d).name
+  KeepNames before after =
+      (k : ℕ) (d : Standing T) → k < length before → (slice_index_or after k d).name ≡ (slice_index_or before k d).name
 
   -- the pass is of this lock, and doesn't hold the value
   pub record IsFree (lock : Lock T) (pass : Standing T) : Type 0 where
@@ -55,12 +57,14 @@ module _ {T : Type 0} where
 
 module _ {T E O : Type 0} (list : T → List E) (origin : T → O) where
   -- The value has the origin of the one that the lock was opened with, and its list goes on from that one's.
-  -- Each Seen is a prefix of it, and each Mine rises in its Seen. Each place behind the first list stands in exactly one Mine, once
+  -- Each Seen is a prefix of it, and each Mine rises in its Seen. Each place behind the first list stands in exactly
+  -- one Mine, once
   pub record Settled (opening : T) (passes : List (Standing T)) (value : T) : Type 0 where
     pub origin_stays : origin value ≡ origin opening
     pub begins : IsPrefix (list opening) (list value)
     pub accounts_fit : All (λ pass. All (IsAccount list origin opening (list value)) (accounts pass)) passes
-    pub once : (place : ℕ) → times_added_by place passes ≡ once_between (length (list opening)) (length (list value)) place
+    pub once : (place : ℕ)
+        → times_added_by place passes ≡ once_between (length (list opening)) (length (list value)) place
 
   -- two of the passes were joined: what is settled for those that are left is settled for all that there were
   pub record JoinsTwo (lock : Lock T) (before after : List (Standing T)) : Type 0 where

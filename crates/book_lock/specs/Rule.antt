@@ -1,5 +1,6 @@
 -- The rule of the lock.
-use Rattle.std.specs.Prelude.{◌≡◌, ◌≤◌, ◌<◌, ◌^◌, ◌⊎◌, ℕ, suc, Bool, List, [], ◌∷◌, length, sum_by, All, Option, Some, option_map}
+use Rattle.std.specs.Prelude.{◌≡◌, ◌≤◌, ◌<◌, ◌^◌, ◌⊎◌, ℕ, suc, Bool, List, [], ◌∷◌}
+use Rattle.std.specs.Prelude.{length, sum_by, All, Option, Some, option_map}
 use Rattle.std.specs.List.Sorted.{IsStrictlyIncreasing}
 use mathlib.Core.List.{IsPrefix}
 use mathlib.Core.Option as maybe
@@ -17,7 +18,14 @@ use Rattle.book_lock.specs.Places.{once_between, times}
 
 -- the first pass: it has the empty name, has seen the value that the lock was opened with, and has added nothing
 abbrev pub first_stand : {T : Type 0} → T → Stand T
-first_stand value = record { role = Idle; name = []; opening = Some value; own = record { last = Some value; places = [] }; joined = [] }
+first_stand value =
+    record {
+      role = Idle;
+      name = [];
+      opening = Some value;
+      own = record { last = Some value; places = [] };
+      joined = [];
+    }
 
 abbrev pub first_view : {T : Type 0} → T → View T
 first_view value = Live (first_stand value)

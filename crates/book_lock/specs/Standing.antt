@@ -23,7 +23,8 @@ lock_of table opening = record { table = table; opening = opening }
 abbrev pub IsSized : TableId → Type 0
 IsSized table = (table.words ≡ 2) × (table.slots ≡ 1)
 
--- a pass: which lock it is of, its name, whether it holds the value, its Seen and Mine, and those of the passes joined to it
+-- a pass: which lock it is of, its name, whether it holds the value, its Seen and Mine, and those of the passes joined
+-- to it
 pub record Standing (T : Type 0) : Type 0 where
   pub table : TableId
   pub opening : Option T
@@ -43,7 +44,15 @@ pub record IsPassOf {T : Type 0} (lock : Lock T) (pass : Standing T) : Type 0 wh
 
 -- a pass of this lock under this name, which has seen this value and added nothing
 abbrev pub newcomer : {T : Type 0} → Lock T → List Bool → Option T → Standing T
-newcomer lock name last = record { table = lock.table; opening = Some lock.opening; name = name; holds = false; own = record { last = last; places = [] }; joined = [] }
+newcomer lock name last =
+    record {
+      table = lock.table;
+      opening = Some lock.opening;
+      name = name;
+      holds = false;
+      own = record { last = last; places = [] };
+      joined = [];
+    }
 
 -- the pass under another name
 abbrev pub renamed_pass : {T : Type 0} → Standing T → List Bool → Standing T
@@ -55,7 +64,11 @@ holding_pass pass value = record pass { holds = true; own = record { last = Some
 
 -- the pass has given the value back: it has seen the value's list, and Mine has grown by what was added
 abbrev pub released_pass : {T E : Type 0} → (T → List E) → Standing T → T → Standing T
-released_pass list pass value = record pass { holds = false; own = record { last = Some value; places = pass.own.places ++ places_behind (seen list pass.own) (list value) } }
+released_pass list pass value =
+    record pass {
+      holds = false;
+      own = record { last = Some value; places = pass.own.places ++ places_behind (seen list pass.own) (list value) };
+    }
 
 abbrev pub opening_of : {T : Type 0} → View T → Option T
 opening_of Spent = None
@@ -71,7 +84,15 @@ joined_of (Live stand) = stand.joined
 
 -- what is seen of a pass, by its table, its seat, its name and whether it holds the value
 abbrev pub standing_of : {T : Type 0} → TableId → Me (Option T) (View T) → List Bool → Bool → Standing T
-standing_of table me name holds = record { table = table; opening = opening_of me.0; name = name; holds = holds; own = own_of me.0; joined = joined_of me.0 }
+standing_of table me name holds =
+    record {
+      table = table;
+      opening = opening_of me.0;
+      name = name;
+      holds = holds;
+      own = own_of me.0;
+      joined = joined_of me.0;
+    }
 
 -- the role of a pass between two calls
 abbrev pub resting : Bool → ℕ → Role
@@ -85,8 +106,10 @@ carried false = []
 
 -- the stand of a pass in this role
 abbrev pub stand_of : {T : Type 0} → Standing T → Role → Stand T
-stand_of pass role = record { role = role; name = pass.name; opening = pass.opening; own = pass.own; joined = pass.joined }
+stand_of pass role =
+    record { role = role; name = pass.name; opening = pass.opening; own = pass.own; joined = pass.joined }
 
 -- the seat is that of a pass with this name, which holds the value or rests
 abbrev pub IsSeated : {T : Type 0} → TableId → Me (Option T) (View T) → List Bool → Bool → Type 0
-IsSeated table me name holds = (ticket : ℕ) × (me ≡ (Live (stand_of (standing_of table me name holds) (resting holds ticket)), carried holds))
+IsSeated table me name holds =
+    (ticket : ℕ) × (me ≡ (Live (stand_of (standing_of table me name holds) (resting holds ticket)), carried holds))

@@ -80,7 +80,9 @@ module _ {T : Type 0} where
 
   -- two seats of siblings
   abbrev pub AreSiblingSeats : Me (Option T) (View T) → Me (Option T) (View T) → Type 0
-  AreSiblingSeats me other = (stand : Stand T) × (theirs : Stand T) × (me ≡ (Live stand, [])) × (other ≡ (Live theirs, [])) × AreSiblings stand theirs
+  AreSiblingSeats me other =
+      (stand : Stand T) × (theirs : Stand T) × (me ≡ (Live stand, [])) × (other ≡ (Live theirs, []))
+      × AreSiblings stand theirs
 
   -- where the word was as expected the ticket is drawn, and else nothing changes
   abbrev pub Draws : Step (Option T) → Me (Option T) (View T) → ℕ → Me (Option T) (View T) → Type 0
@@ -89,7 +91,8 @@ module _ {T : Type 0} where
 module _ {T E : Type 0} (list : T → List E) where
   -- what was added goes into Mine
   abbrev pub grown : T → Account T → Account T
-  grown value account = record { last = Some value; places = account.places ++ places_behind (seen list account) (list value) }
+  grown value account =
+      record { last = Some value; places = account.places ++ places_behind (seen list account) (list value) }
 
   abbrev pub released : T → Stand T → Stand T
   released value stand = record stand { role = Idle; own = grown value stand.own }
@@ -111,11 +114,14 @@ module _ {T E O : Type 0} (list : T → List E) (origin : T → O) where
 
   -- the pass holds the value, and its seat has the slot
   abbrev pub HasTaken : ℕ → Stand T → List (ℕ × Option T) → Me (Option T) (View T) → Type 0
-  HasTaken ticket stand before now = (value : T) × (now ≡ (Live (holding ticket value stand), (0, Some value) ∷ before)) × Follows stand value
+  HasTaken ticket stand before now =
+      (value : T) × (now ≡ (Live (holding ticket value stand), (0, Some value) ∷ before)) × Follows stand value
 
   -- where the pass's ticket is served it takes the value, and else nothing changes
   abbrev pub Takes : Me (Option T) (View T) → ℕ → Me (Option T) (View T) → Type 0
-  Takes me found now = IfLive me.0 (λ stand. (stand.role ≡ Waits found → HasTaken found stand me.1 now) × (stand.role ≢ Waits found → now ≡ me))
+  Takes me found now =
+      IfLive me.0
+      (λ stand. (stand.role ≡ Waits found → HasTaken found stand me.1 now) × (stand.role ≢ Waits found → now ≡ me))
 
   -- the seat after the taking
   abbrev pub Took : ℕ → Me (Option T) (View T) → Me (Option T) (View T) → Type 0
@@ -123,4 +129,6 @@ module _ {T E O : Type 0} (list : T → List E) (origin : T → O) where
 
   -- a seat with the value in its slot, whose pass gives it back
   abbrev pub GivesBack : Me (Option T) (View T) → Type 0
-  GivesBack me = (stand : Stand T) × (value : T) × (ticket : ℕ) × (me ≡ (Live stand, (0, Some value) ∷ [])) × (stand.role ≡ Holds ticket) × Continues stand.own value
+  GivesBack me =
+      (stand : Stand T) × (value : T) × (ticket : ℕ) × (me ≡ (Live stand, (0, Some value) ∷ []))
+      × (stand.role ≡ Holds ticket) × Continues stand.own value

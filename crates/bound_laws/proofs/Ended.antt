@@ -28,7 +28,7 @@ use Rattle.table_laws.proofs.Rows.{stack_here, stack_kept, stack_put, text_or_no
 use Rattle.table_laws.proofs.Targets.{target_once}
 use Rattle.graph_laws.proofs.Finished.{between, its_stack, rows_then, v, written_else, written_here}
 use Rattle.graph_laws.proofs.Passed.{passed_is}
-use Rattle.link_laws.proofs.Points.{passed_done}
+use Rattle.workable_laws.proofs.Below.{passed_done}
 use Rattle.bound_laws.proofs.Finishing.{FinishEnd}
 use Rattle.bound_laws.proofs.Forms.{RowForm, form_put, form_same}
 

@@ -8,7 +8,7 @@ use Rattle.step_relation.specs.Steps.{Step, turn}
 use Rattle.history.specs.Could.{IsPossible}
 use Rattle.history.specs.Opening.{Opening}
 use Rattle.soundness.specs.Sound.{Sound}
-use Rattle.headline_laws.proofs.Once.{possible_before}
+use Rattle.workable_laws.proofs.Below.{possible_before}
 use Rattle.whole_laws.proofs.Whole.{steps_sound}
 use Rattle.bound_laws.specs.Bound.{IsWork}
 use Rattle.bound_laws.specs.Polls.{AreFew}

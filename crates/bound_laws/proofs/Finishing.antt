@@ -33,8 +33,8 @@ use Rattle.next_laws.proofs.Listings.{cons_cases, in_head, in_tail, no_member}
 use Rattle.graph_laws.proofs.Gathers.{node_at}
 use Rattle.graph_laws.proofs.Kept.{sent}
 use Rattle.graph_laws.proofs.Passed.{after_is, passed_is}
-use Rattle.letter_laws.proofs.Finished.{ready_still}
-use Rattle.letter_laws.proofs.Onward.{sent_found}
+use Rattle.whole_laws.proofs.Below.{ready_still}
+use Rattle.whole_laws.proofs.Below.{sent_found}
 use Rattle.bound_laws.specs.Bound.{IsWork}
 use Rattle.bound_laws.specs.Counts.{AreOnce}
 use Rattle.bound_laws.specs.Rolls.{MayRoll, RollLetter, RollNode}

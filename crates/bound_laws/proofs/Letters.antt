@@ -4,7 +4,7 @@ use Rattle.std.specs.Prelude.{Contains}
 use Rattle.mail_table.specs.Mails.{letter_at, put_letter}
 use Rattle.mail_table.specs.declared.mail.Letter.{Letter}
 use Rattle.table_laws.proofs.Rows.{letter_put}
-use Rattle.agree_laws.proofs.Ends.{sent_to}
+use Rattle.workable_laws.proofs.Below.{sent_to}
 use Rattle.next_laws.proofs.Listings.{cons_cases, in_head, in_tail, no_member}
 
 pub found_sent : (ls ms : List Letter) (i : ℕ) (y : Letter) → letter_at (sent_to ls ms) i ≡ Some y

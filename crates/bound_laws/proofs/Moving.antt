@@ -39,7 +39,7 @@ use Rattle.soundness.specs.Sound.{Standing}
 use Rattle.table_laws.proofs.Facts.{job_row_stack}
 use Rattle.table_laws.proofs.Fresh.{overrun_is_old}
 use Rattle.table_laws.proofs.Rows.{job-key, row_self, same_some, stack-key}
-use Rattle.agree_laws.proofs.Ends.{failed_end, released_end, released_state, sent_to}
+use Rattle.workable_laws.proofs.Below.{failed_end, released_end, released_state, sent_to}
 use Rattle.graph_laws.proofs.Finished.{comes, rows_then}
 use Rattle.graph_laws.proofs.Known.{never_again}
 use Rattle.bound_laws.specs.Bound.{IsWork}

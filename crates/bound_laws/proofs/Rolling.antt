@@ -35,8 +35,8 @@ use Rattle.soundness.specs.Elsewhere.{Elsewhere}
 use Rattle.soundness.specs.Sound.{Standing}
 use Rattle.table_laws.proofs.Rows.{graph_here, job_cut, letter-key, past_here, same_or_not, same_some}
 use Rattle.table_laws.proofs.Rows.{stack-key, text_or_not}
-use Rattle.agree_laws.proofs.Ends.{rows_in, sent_to}
-use Rattle.agree_laws.proofs.Laid.{laid_end, laid_state}
+use Rattle.workable_laws.proofs.Below.{rows_in, sent_to}
+use Rattle.workable_laws.proofs.Below.{laid_end, laid_state}
 use Rattle.next_laws.proofs.Listings.{cons_cases, in_head, in_tail, no_member}
 use Rattle.turn_laws.proofs.Decide.{member_or_not, not_or}
 use Rattle.workable_laws.proofs.Laid.{letters_length, new_rows, rows_found_in}

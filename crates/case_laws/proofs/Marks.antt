@@ -10,7 +10,7 @@ use Rattle.step_relation.specs.Runs.{nothing}
 use Rattle.step_relation.specs.Unjudged.{unjudged}
 use Rattle.soundness.specs.GraphFits.{IsNode}
 use Rattle.case_laws.specs.Marks.{CleanedIsMarked}
-use Rattle.mark_laws.proofs.Kept.{marks_by_moves}
+use Rattle.fit_laws.proofs.Below.{marks_by_moves}
 
 pub cleaned_is_marked : CleanedIsMarked
 cleaned_is_marked s e k h updates cleanups unmarked =

@@ -1,9 +1,13 @@
 pub mod Effects
 pub mod Faults
-pub mod Founds
+pub mod Updates
+pub mod PartsRead
+pub mod Seeing
+pub mod Fenced
+pub mod Resolving
 pub mod Moves
 pub mod Passings
 pub mod Takings
-pub mod Tied
+pub mod Tyings
 pub mod Turned
 pub mod Worn

@@ -3,9 +3,11 @@ use Rattle.std.specs.Prelude.{List, Some, slice_get, ℕ, ◌≡◌, ◌≢◌}
 use Rattle.heat_plan.specs.declared.item.Item.{Item}
 use Rattle.heat_plan.specs.declared.phase.Act.TheVariants.{Delete}
 use Rattle.traversal_graph.specs.declared.shape.Node.TheVariants.{U}
+use Rattle.traversal_graph.specs.declared.shape.Node.{Node}
 use Rattle.row_table.specs.Rows.{row_at}
 use Rattle.row_table.specs.declared.row.Row.{Row}
 use Rattle.sync_points.specs.declared.point.Point.{Point}
+use Rattle.mail_table.specs.Mails.{job_at}
 use Rattle.mail_table.specs.declared.mail.Job.{Job}
 use Rattle.mail_table.specs.declared.mail.Stage.TheVariants.{Taken}
 use Rattle.core_state.specs.Reads.{item_at}
@@ -30,3 +32,8 @@ pub record AtUpdate (s : StateData) (e : ℕ) (job : Job) : Type 0 where
   pub found : row_at s.rows job.row ≡ Some row
   pub kept : row.act ≢ Delete
   pub its_point : slice_get graph.points job.letter.node ≡ Some point
+
+-- the node that the engine's job names has its point
+abbrev pub HasPoint : StateData → ℕ → Type 0
+HasPoint s e = (j : Job) (stack : Stack) (graph : Graph) (node : Node) → job_at s.jobs e ≡ Some j
+    → Names s j.letter stack graph node → (p : Point) × (slice_get graph.points j.letter.node ≡ Some p)

@@ -1,5 +1,8 @@
 pub mod AtUpdate
 pub mod Gives
+pub mod Parts
+pub mod Looks
+pub mod Prepares
 pub mod Founds
 pub mod Writes
 pub mod Marks

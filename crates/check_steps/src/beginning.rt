@@ -1,5 +1,5 @@
 //! Begin at an update node: which case of it holds.
-ghost use Rattle.std.specs.Prelude.{IfOk, IfErr};
+ghost use Rattle.std.specs.Prelude.{◌≢◌, IfOk, IfErr};
 ghost use Rattle.check_steps.specs.AtUpdate.{AtUpdate};
 ghost use Rattle.check_steps.specs.Gives.{given_of};
 ghost use Rattle.step_parts.specs.Turns.{IsTurn, IsTurnRefusal};
@@ -20,7 +20,8 @@ pub fn begin(
     job: &Job,
     prepared: &Prepared,
 ) -> Result<Made, Refusal>
-    requires { AtUpdate s.now.state e job.now }
+    requires at { AtUpdate s.now.state e job.now }
+    requires given { prepared.now ≢ Prepared.Plain }
     ensures made { IfOk result (IsTurn s.now.state e (given_of prepared.now)) }
     ensures cause { IfErr result (IsTurnRefusal s.now.state e (given_of prepared.now)) }
 {
@@ -28,5 +29,7 @@ pub fn begin(
     match prepared {
         Prepared::Props(props, effect) => begin_with(alloc, s, e, &found, props, *effect),
         Prepared::Fault(code, path) => fault(alloc, s, e, &found, code, path),
+        Prepared::Plain => unreachable!(),
+        Prepared::Memory => Err(Refusal::Memory),
     }
 }

@@ -1,16 +1,21 @@
 //! An engine's steps that ask nobody: the taking of a letter, the begin of a job at an update node,
-//! and the finish of a job. Each answers the changes and entries of a case of `Turn` in
-//! step_relation. None changes the state, asks the provider or writes.
+//! and the finish of a job; and the look at a step and what is prepared for it. Each step answers the
+//! changes and entries of a case of `Turn` in step_relation. None changes the state, asks the provider
+//! or writes.
 #![tactic(auto)]
 
 mod beginning;
 mod faulting;
+mod fence;
 mod finding;
 mod finishing;
 mod found;
 mod going_on;
 mod leaving;
+mod looking;
+mod looks;
 mod making;
+mod parts;
 mod passed;
 mod passing;
 mod prepared;
@@ -22,7 +27,10 @@ mod tests;
 mod with_props;
 
 pub use beginning::begin;
+pub use fence::is_overtaken;
 pub use finishing::finish;
+pub use looking::look;
+pub use looks::{BeginWork, Look, Work};
 pub use prepared::Prepared;
-pub use preparing::prepare;
+pub use preparing::{prepare, prepare_now};
 pub use taking::take;

@@ -1,34 +1,81 @@
-//! The properties of the item that begins, from what its node was given.
+//! What is prepared for a step: for a begin at an update node the properties of its item.
 ghost use Rattle.std.specs.Prelude.{IfOk};
-ghost use Rattle.step_relation.specs.Runs.{IsTied};
 ghost use Rattle.check_steps.specs.AtUpdate.{AtUpdate};
-ghost use Rattle.step_relation.specs.Unjudged.{unjudged};
-ghost use Rattle.check_steps.specs.Gives.{given_of};
+ghost use Rattle.check_steps.specs.Prepares.{HasPrepared, IsGivenFor, IsPrepared};
 
-use crate::finding::find;
+use crate::looks::Work;
+use crate::parts::parts_of;
 use crate::prepared::Prepared;
-use core_state::{Job, State};
-use heat_plan::EngineNo;
+use core_state::{Input, Job, State};
+use heat_plan::{EngineNo, Item, Plan, Properties};
 use hot_resolve::{Resolution, resolve};
 use std::alloc::{AllocError, Global};
 use step_reads::known;
 use type_catalog::change_of;
 
-/// What the begin of an engine's job at an update node is given. It reads the state alone.
-pub fn prepare(alloc: Global, s: &State, e: EngineNo, job: &Job) -> Result<Prepared, AllocError>
-    requires { AtUpdate s.now.state e job.now }
-    ensures { IfOk result (λ p. IsTied unjudged s.now.state e (given_of p)) }
+/// What the step that was looked at is given. It reads no state.
+pub fn prepare(alloc: Global, work: &Work) -> Prepared
+    ensures { IsPrepared work.now result }
 {
-    let found = find(alloc, s, job)?;
-    let known = known(
+    match work {
+        Work::Plain => Prepared::Plain,
+        Work::Begin(begin) => prepared_for(
+            alloc,
+            begin.plan.plan(),
+            &begin.item,
+            begin.inputs.as_slice(),
+            &begin.props,
+        ),
+    }
+}
+
+/// What `look` and `prepare` give one behind the other for the begin of an engine's job at an update
+/// node, without a copy of what it reads.
+pub fn prepare_now(alloc: Global, s: &State, e: EngineNo, job: &Job) -> Prepared
+    requires { AtUpdate s.now.state e job.now }
+    ensures { HasPrepared s.now.state e result }
+{
+    let parts = parts_of(s, job);
+    prepared_for(
         alloc,
-        found.point.inputs.as_slice(),
-        found.item.needs.as_slice(),
-    )?;
-    match resolve(found.plan, found.item, known.as_slice())? {
-        Resolution::Props(props) => {
-            let effect = change_of(found.item.kind.soft.as_slice(), &found.row.props, &props);
-            Ok(Prepared::Props(props, effect))
+        parts.plan.plan(),
+        parts.item,
+        parts.point.inputs.as_slice(),
+        &parts.row.props,
+    )
+}
+
+// What the begin of an item with these inputs is given, at a row with these properties.
+fn prepared_for(
+    alloc: Global,
+    plan: &Plan,
+    item: &Item,
+    inputs: &[Input],
+    props: &Properties,
+) -> Prepared
+    ensures { IsGivenFor plan.now item.now inputs.now props.now result }
+{
+    match given_to(alloc, plan, item, inputs, props) {
+        Ok(given) => given,
+        Err(_) => Prepared::Memory,
+    }
+}
+
+// The properties that the item has, with what the change to them asks for; or its fault.
+fn given_to(
+    alloc: Global,
+    plan: &Plan,
+    item: &Item,
+    inputs: &[Input],
+    props: &Properties,
+) -> Result<Prepared, AllocError>
+    ensures { IfOk result (IsGivenFor plan.now item.now inputs.now props.now) }
+{
+    let known = known(alloc, inputs, item.needs.as_slice())?;
+    match resolve(plan, item, known.as_slice())? {
+        Resolution::Props(asked) => {
+            let effect = change_of(item.kind.soft.as_slice(), props, &asked);
+            Ok(Prepared::Props(asked, effect))
         }
         Resolution::Fault(code, path) => Ok(Prepared::Fault(code, path)),
     }

@@ -12,6 +12,7 @@ use heat_plan::{
     ResName, RowNo, StackName, StackNo, Status, TravNo, WORN,
 };
 use heat_value::{Path, Seq, Text};
+use indexed_points::NodePoints;
 use std::alloc::Global;
 use std::test::Fail;
 use step_reads::Meant;
@@ -266,7 +267,7 @@ fn no_graph(rt: &impl AllocGlobal) -> Result<Graph, Fail> {
             nodes: Seq::new(rt.alloc()),
             edges: Seq::new(rt.alloc()),
         },
-        points: Seq::new(rt.alloc()),
+        points: NodePoints::none(rt.alloc()),
     })
 }
 

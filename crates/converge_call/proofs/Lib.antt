@@ -4,7 +4,6 @@ pub mod Showing
 pub mod Running
 pub mod Turning
 pub mod Lining
-pub mod Wording
 pub mod Reporting
 pub mod Answering
 pub mod Driving

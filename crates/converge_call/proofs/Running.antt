@@ -9,7 +9,7 @@ use Rattle.core_state.specs.declared.entry.What.TheVariants as what
 use Rattle.core_state.specs.State.{StateData}
 use Rattle.history.specs.Opening.{Opening}
 use Rattle.soundness.specs.Headline.{IsSettledAs}
-use Rattle.bound_laws.specs.Full.{IsFullWork}
+use Rattle.driver.specs.Below.{IsFullWork}
 use Rattle.provider.specs.Cloud.{Cloud}
 use Rattle.book.specs.Kept.{Shown, IsSameBook, opening_of}
 use Rattle.book.specs.Quiet.{Page, IsIdle}

@@ -8,7 +8,7 @@ use Rattle.core_state.specs.declared.entry.Entry.{Entry}
 use Rattle.core_state.specs.Changes.{applied}
 use Rattle.core_state.specs.State.{StateData}
 use Rattle.step_relation.specs.Refusals.{RefusesEnlist, RefusesStop}
-use Rattle.takeover_steps.specs.Engines.{Enlists, Stops}
+use Rattle.book.specs.Below.{Enlists, Stops}
 use Rattle.script_lines.specs.Requested.{BodyData}
 use Rattle.plain_templates.specs.Plans.{IsPlanOf, IsNoPlan}
 use Rattle.plain_templates.specs.Faults.{fault_code, fault_path}

@@ -12,7 +12,8 @@ use Rattle.book.specs.Turned.{IsWornBy}
 use Rattle.converge_call.specs.declared.exit.Exit.{Exit}
 use Rattle.converge_call.specs.declared.exit.Exit.TheVariants as exit
 use Rattle.converge_call.specs.declared.exit.Finding.TheVariants.{Stranger}
-use Rattle.converge_call.specs.Words.{Drives}
+use Rattle.program_words.specs.declared.setup.Setup.{Setup}
+use Rattle.program_words.specs.Words.{Drives}
 use Rattle.converge_call.specs.Drives.{Streams, streams, StaysWithin, Drove}
 
 -- what a source and a sink show at one moment: what is left and held, and how often they have failed
@@ -31,9 +32,9 @@ streams_of o = streams o.left o.holds
 
 -- as many engines are live at the opening as the words say, and nothing else stands
 pub record OpensFor (words : List (List ℕ)) (opening : StateData) : Type 0 where
-  pub workers : ℕ
-  pub form : Drives words workers
-  pub opens : opening ≡ opened workers
+  pub setup : Setup
+  pub form : Drives words setup
+  pub opens : opening ≡ opened setup.workers
 
 -- nothing came in the way: no count of faults rose, no line passed a limit, and no engine's next step is worn out
 pub record IsCalm (old new : Outside) (last : StateData) : Type 0 where

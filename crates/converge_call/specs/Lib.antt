@@ -1,4 +1,3 @@
-pub mod Words
 pub mod Notes
 pub mod Commands
 pub mod Shows

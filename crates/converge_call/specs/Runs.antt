@@ -11,7 +11,7 @@ use Rattle.step_relation.specs.Nexts.{IsLost}
 use Rattle.step_relation.specs.Nexts as next
 use Rattle.history.specs.Opening.{Opening}
 use Rattle.soundness.specs.Headline.{IsSettledAs}
-use Rattle.bound_laws.specs.Full.{IsFullWork}
+use Rattle.driver.specs.Below.{IsFullWork}
 use Rattle.book.specs.Quiet.{IsIdle}
 use Rattle.book.specs.Turned.{IsWornBy}
 use Rattle.driver.specs.Turns.{TurnOf, Turns, Lacks, RanTo}

@@ -12,8 +12,7 @@ mod notes;
 mod runs;
 mod shows;
 mod top;
-mod words;
 
 pub use exit::{Exit, Finding};
+pub use program_words::{MOST_WORKERS, Mode, Setup, WordsFault, words_of};
 pub use top::{End, Outcome, converge, run_serial};
-pub use words::{MOST_WORKERS, Mode, Setup, WordsFault, words_of};

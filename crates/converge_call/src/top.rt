@@ -2,16 +2,16 @@
 ghost use Rattle.std.specs.Prelude.{◌≡◌, ◌≢◌, ◌≤◌, ◌↔◌, []};
 ghost use Rattle.provider.specs.Calls.{Lists};
 ghost use Rattle.book.specs.Kept.{Shown, IsSameBook, opened};
-ghost use Rattle.converge_call.specs.Words.{IsForm};
+ghost use Rattle.program_words.specs.Words.{IsForm};
 ghost use Rattle.converge_call.specs.Ends.{outside, HasDriven, IsUntouched, OpensFor};
-ghost use Rattle.converge_call.specs.declared.words.Mode.{Mode as mode_type};
+ghost use Rattle.program_words.specs.declared.setup.Mode.{Mode as mode_type};
 
 use crate::drive::drive;
 use crate::exit::{Exit, Finding};
-use crate::words::{Mode, words_of};
 use book::{Book, Opened};
 use heat_io::{Sink, Source};
 use heat_value::Text;
+use program_words::{WordsFault, words_of};
 use provider::Provider;
 use std::alloc::Global;
 
@@ -69,9 +69,13 @@ pub fn converge<S: Source, K: Sink, P: Provider>(
         (outside (S.left source.new) (S.faults source.new) (K.holds sink.new) (K.faults sink.new))
         result.status b }
 {
-    match words_of(words) {
-        Ok(Mode::Drive(setup)) => run_serial(alloc, setup.workers, source, sink, cloud),
-        Err(_) => unopened(Exit::Usage, cloud),
+    match words_of(alloc, words) {
+        Ok(mode) => {
+            let setup = mode.setup();
+            run_serial(alloc, setup.workers, source, sink, cloud)
+        }
+        Err(WordsFault::Usage) => unopened(Exit::Usage, cloud),
+        Err(WordsFault::Memory) => unopened(Exit::Memory, cloud),
     }
 }
 

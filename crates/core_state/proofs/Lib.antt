@@ -1,4 +1,2 @@
-pub mod Puts
 pub mod PointPuts
-pub mod Cuts
 pub mod FreshPoints

@@ -1,4 +1,3 @@
-pub mod Rooms
 pub mod Graphs
 pub mod State
 pub mod Changes

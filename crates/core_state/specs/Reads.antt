@@ -2,7 +2,6 @@
 use Rattle.std.specs.Prelude.{◌≡◌, ℕ, true, List, Option, Some, Contains, slice_get}
 use Rattle.std.specs.Str.{bytes_eq}
 use Rattle.heat_plan.specs.declared.item.Item.{Item}
-use Rattle.traversal_graph.specs.declared.shape.Node.TheVariants.{C}
 use Rattle.core_state.specs.declared.graph.Graph.{Graph}
 use Rattle.sync_points.specs.declared.point.Input.{Input}
 use Rattle.sync_points.specs.declared.point.Point.{Point}

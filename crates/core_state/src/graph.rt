@@ -1,13 +1,12 @@
 //! The graph of a stack's newest traversal, with what each node was given.
-ghost use Rattle.std.specs.Prelude.{◌≡◌, [], false, IfOk};
-ghost use Rattle.std.specs.Str.{bytes_eq};
+ghost use Rattle.std.specs.Prelude.{◌≡◌, IfOk};
 ghost use Rattle.core_state.specs.Graphs.{fresh_points};
 
-use crate::table::Keyed;
 use heat_plan::StackName;
-use heat_value::{Seq, TryCopy};
+use heat_value::TryCopy;
+use indexed_points::NodePoints;
+use keyed_table::Keyed;
 use std::alloc::{AllocError, Global};
-use sync_points::Point;
 use traversal_graph::TravGraph;
 
 /// A stack's newest graph, with a point for each of its nodes.
@@ -15,7 +14,7 @@ use traversal_graph::TravGraph;
 pub struct Graph {
     pub stack: StackName,
     pub graph: TravGraph,
-    pub points: Seq<Point>,
+    pub points: NodePoints,
 }
 
 /// A point for each node of a graph on which nothing has been done.
@@ -23,45 +22,39 @@ pub(crate) fn fresh_points(
     alloc: Global,
     stack: &StackName,
     graph: &TravGraph,
-) -> Result<Seq<Point>, AllocError>
+) -> Result<NodePoints, AllocError>
     ensures { IfOk result (λ points. points ≡ fresh_points stack.now 0 graph.now.nodes) }
 {
-    let Ok(count) = u32::try_from(graph.nodes.len()) else {
-        return Err(AllocError);
-    };
-    let mut points = Seq::with_capacity(alloc, graph.nodes.len())?;
-    for node in 0..count {
-        points.push(fresh_point(alloc, stack, node)?)?;
-    }
-    Ok(points)
-}
-
-// A node's point before anything was done.
-fn fresh_point(alloc: Global, stack: &StackName, node: u32) -> Result<Point, AllocError>
-    ensures { IfOk result (λ p. p ≡ record { stack = stack.now; node = node; inputs = []; done = false }) }
-{
-    Ok(Point {
-        stack: stack.copy()?,
-        node,
-        inputs: Seq::new(alloc),
-        done: false,
-    })
+    let preds = graph.all_preds()?;
+    NodePoints::new(alloc, stack, preds.as_slice())
 }
 
 impl Keyed for Graph {
     type Key = StackName;
 
+    ghost use Rattle.std.specs.Str.{bytes_eq};
+    ghost use Rattle.keyed_table.specs.Sortings.{text_below};
+    ghost use Rattle.keyed_table.proofs.Sortings.{text_sorting};
+
     ghost key_of = { λ g. g.stack };
 
     ghost same = { bytes_eq };
+
+    ghost below = { text_below };
+
+    fn key(&self) -> &StackName {
+        &self.stack
+    }
 
     fn has_key(&self, key: &StackName) -> bool {
         self.stack == *key
     }
 
-    fn shares_key(&self, other: &Graph) -> bool {
-        self.stack == other.stack
+    fn is_below(&self, key: &StackName) -> bool {
+        self.stack.cmp(key).is_lt()
     }
+
+    ghost sorts = { text_sorting };
 }
 
 impl TryCopy for Graph {

@@ -1,10 +1,9 @@
 //! What a stack could go back to.
-ghost use Rattle.std.specs.Str.{bytes_eq};
 
 use crate::shared_plan::SharedPlan;
-use crate::table::Keyed;
 use heat_plan::StackName;
 use heat_value::{TryCopy, copy_option};
+use keyed_table::Keyed;
 use std::alloc::AllocError;
 
 /// Whether a failure of the stack's newest traversal is rolled back, and the plan that a rollback goes
@@ -19,17 +18,29 @@ pub struct Past {
 impl Keyed for Past {
     type Key = StackName;
 
+    ghost use Rattle.std.specs.Str.{bytes_eq};
+    ghost use Rattle.keyed_table.specs.Sortings.{text_below};
+    ghost use Rattle.keyed_table.proofs.Sortings.{text_sorting};
+
     ghost key_of = { λ p. p.stack };
 
     ghost same = { bytes_eq };
+
+    ghost below = { text_below };
+
+    fn key(&self) -> &StackName {
+        &self.stack
+    }
 
     fn has_key(&self, key: &StackName) -> bool {
         self.stack == *key
     }
 
-    fn shares_key(&self, other: &Past) -> bool {
-        self.stack == other.stack
+    fn is_below(&self, key: &StackName) -> bool {
+        self.stack.cmp(key).is_lt()
     }
+
+    ghost sorts = { text_sorting };
 }
 
 impl TryCopy for Past {

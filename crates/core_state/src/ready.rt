@@ -5,16 +5,15 @@ ghost use Rattle.core_state.specs.Changes.{points_for};
 use crate::batch::Batch;
 use crate::change::Change;
 use crate::graph::fresh_points;
-use heat_value::Seq;
+use indexed_points::NodePoints;
 use std::alloc::{AllocError, Global};
 use std::marker::Model;
-use sync_points::Point;
 
 /// A change, with the points that it brings with it. It is made without memory, within the room.
 #[derive(Debug, Drop)]
 pub struct Ready {
     change: Change,
-    points: Seq<Point>,
+    points: NodePoints,
 }
 
 impl Model for Ready {
@@ -43,7 +42,7 @@ impl Ready {
     }
 
     /// The change and its points.
-    pub(crate) fn into_parts(self) -> (Change, Seq<Point>)
+    pub(crate) fn into_parts(self) -> (Change, NodePoints)
         ensures change { result.0 ≡ self }
         ensures points { result.1 ≡ points_for self }
     {
@@ -52,7 +51,7 @@ impl Ready {
 }
 
 // The points that a change brings with it.
-fn points_for(alloc: Global, change: &Change) -> Result<Seq<Point>, AllocError>
+fn points_for(alloc: Global, change: &Change) -> Result<NodePoints, AllocError>
     ensures { IfOk result (λ points. points ≡ points_for change.now) }
 {
     match change {
@@ -70,7 +69,7 @@ fn points_for(alloc: Global, change: &Change) -> Result<Seq<Point>, AllocError>
         | Change::Stop(_)
         | Change::Numbers(_)
         | Change::PutPast(_)
-        | Change::Release(_) => Ok(Seq::new(alloc)),
+        | Change::Release(_) => Ok(NodePoints::none(alloc)),
     }
 }
 

@@ -1,10 +1,9 @@
 //! A stack and its newest traversal.
-ghost use Rattle.std.specs.Str.{bytes_eq};
 
 use crate::shared_plan::SharedPlan;
-use crate::table::Keyed;
 use heat_plan::{Act, StackName, StackNo, Status, TravNo};
 use heat_value::{TryCopy, copy_option};
+use keyed_table::Keyed;
 use std::alloc::AllocError;
 
 /// A stack: the number of its newest traversal, what that does and how far it is, and its plan. A plan
@@ -22,17 +21,29 @@ pub struct Stack {
 impl Keyed for Stack {
     type Key = StackName;
 
+    ghost use Rattle.std.specs.Str.{bytes_eq};
+    ghost use Rattle.keyed_table.specs.Sortings.{text_below};
+    ghost use Rattle.keyed_table.proofs.Sortings.{text_sorting};
+
     ghost key_of = { λ s. s.name };
 
     ghost same = { bytes_eq };
+
+    ghost below = { text_below };
+
+    fn key(&self) -> &StackName {
+        &self.name
+    }
 
     fn has_key(&self, key: &StackName) -> bool {
         self.name == *key
     }
 
-    fn shares_key(&self, other: &Stack) -> bool {
-        self.name == other.name
+    fn is_below(&self, key: &StackName) -> bool {
+        self.name.cmp(key).is_lt()
     }
+
+    ghost sorts = { text_sorting };
 }
 
 impl TryCopy for Stack {

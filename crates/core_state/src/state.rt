@@ -1,20 +1,24 @@
 //! The engine's state: tables, the live engines, the released tokens, and the next numbers.
 ghost use Rattle.std.specs.Prelude.{◌≡◌, ◌<◌, ◌≤◌, ◌+◌, [], OnOk, IfOk, filter, length, nat_eq, not, option_map};
 ghost use Rattle.row_table.specs.Rows.{row_at};
+ghost use Rattle.indexed_rows.specs.Found.{IsCurrentOf};
 ghost use Rattle.mail_table.specs.Mails.{letter_at, job_at};
+ghost use Rattle.indexed_mail.specs.Holders.{IsFirst};
 ghost use Rattle.core_state.specs.State.{StateData, stack_at, graph_at, past_at};
-ghost use Rattle.core_state.specs.Changes.{apply, applied, put_point, with_point};
+ghost use Rattle.core_state.specs.Changes.{apply, applied, put_point};
 
 use crate::batch::Batch;
 use crate::change::Change;
 use crate::graph::Graph;
 use crate::numbers::Numbers;
 use crate::past::Past;
+use crate::point_write::PointWrite;
 use crate::ready::Ready;
-use crate::roomed::Roomed;
 use crate::stack::Stack;
-use crate::table::Table;
-use heat_plan::{EngineNo, LetterNo, RowNo, StackName, Token};
+use heat_plan::{EngineNo, LetterNo, ResName, RowNo, StackName, Token};
+use indexed_mail::{MailTable, Mails};
+use indexed_rows::{RowTable, Rows};
+use keyed_table::{ListTable, Roomed, Table};
 use mail_table::{Job, Letter};
 use row_table::Row;
 use std::alloc::{AllocError, Global};
@@ -22,22 +26,22 @@ use std::marker::Model;
 use sync_points::Point;
 
 /// The stacks with their newest graphs and their pasts, the rows, the waiting letters, the jobs, the live
-/// engines by rising number, the tokens that were released, and the next numbers.
+/// engines by rising number, the tokens that were released, and the next numbers. Stacks, graphs, pasts,
+/// rows, letters and jobs are found through indexes.
 #[derive(Debug, Drop)]
 pub struct State {
     stacks: Table<Stack>,
     graphs: Table<Graph>,
     pasts: Table<Past>,
-    rows: Table<Row>,
-    letters: Table<Letter>,
-    jobs: Table<Job>,
-    live: Table<EngineNo>,
+    rows: RowTable,
+    mail: MailTable,
+    live: ListTable<EngineNo>,
     released: Roomed<Token>,
     next: Numbers,
 }
 
 impl Model for State {
-    ghost use Rattle.std.specs.Prelude.{min};
+    ghost use Rattle.std.specs.Prelude.{◌≡◌, min};
     ghost use Rattle.std.specs.Coded.{codes};
     ghost use Rattle.heat_value.specs.Code.{data_code, members_code};
     ghost use Rattle.core_state.specs.State.{Held};
@@ -52,15 +56,17 @@ impl Model for State {
         graphs = s.graphs.items;
         pasts = s.pasts.items;
         rows = s.rows.items;
-        letters = s.letters.items;
-        jobs = s.jobs.items;
+        letters = s.mail.mail.letters;
+        jobs = s.mail.mail.jobs;
         live = s.live.items;
         released = s.released.items;
         next = s.next;
       };
       spare = min s.stacks.spare (min s.graphs.spare (min s.pasts.spare (min s.rows.spare
-          (min s.letters.spare (min s.jobs.spare (min s.live.spare s.released.spare))))));
+          (min s.mail.letter_room (min s.mail.job_room (min s.live.spare s.released.spare))))));
     } };
+
+    ghost invariant = { λ s. s.mail.mail.next ≡ s.next.letter };
 }
 
 impl State {
@@ -82,10 +88,9 @@ impl State {
             stacks: Table::new(alloc),
             graphs: Table::new(alloc),
             pasts: Table::new(alloc),
-            rows: Table::new(alloc),
-            letters: Table::new(alloc),
-            jobs: Table::new(alloc),
-            live: Table::new(alloc),
+            rows: RowTable::new(alloc),
+            mail: MailTable::new(alloc),
+            live: ListTable::new(alloc),
             released: Roomed::new(alloc),
             next: Numbers::first(),
         }
@@ -102,21 +107,21 @@ impl State {
     pub fn rows(&self) -> &[Row]
         ensures { result.now ≡ self.now.state.rows }
     {
-        self.rows.as_slice()
+        self.rows.rows()
     }
 
     /// The waiting letters.
     pub fn letters(&self) -> &[Letter]
         ensures { result.now ≡ self.now.state.letters }
     {
-        self.letters.as_slice()
+        self.mail.letters()
     }
 
     /// The jobs.
     pub fn jobs(&self) -> &[Job]
         ensures { result.now ≡ self.now.state.jobs }
     {
-        self.jobs.as_slice()
+        self.mail.jobs()
     }
 
     /// The live engines, by rising number.
@@ -165,21 +170,35 @@ impl State {
     pub fn row(&self, no: &RowNo) -> Option<&Row>
         ensures { option_map (λ r. r.now) result ≡ row_at self.now.state.rows no.now }
     {
-        self.rows.get(no)
+        self.rows.get(*no)
+    }
+
+    /// The number of the name's current row, of several the greatest; none where no row is current.
+    pub fn current(&self, stack: &StackName, name: &ResName) -> Option<RowNo>
+        ensures { IsCurrentOf self.now.state.rows stack.now name.now result }
+    {
+        self.rows.current(stack, name)
     }
 
     /// The waiting letter of this number; none where it doesn't wait.
     pub fn letter(&self, no: &LetterNo) -> Option<&Letter>
         ensures { option_map (λ l. l.now) result ≡ letter_at self.now.state.letters no.now }
     {
-        self.letters.get(no)
+        self.mail.letter(*no)
+    }
+
+    /// The waiting letter of the lowest number; none where no letter waits.
+    pub fn first_letter(&self) -> Option<&Letter>
+        ensures { IsFirst self.now.state.letters (option_map (λ l. l.now) result) }
+    {
+        self.mail.first()
     }
 
     /// An engine's job; none where it has none.
     pub fn job(&self, engine: &EngineNo) -> Option<&Job>
         ensures { option_map (λ j. j.now) result ≡ job_at self.now.state.jobs engine.now }
     {
-        self.jobs.get(engine)
+        self.mail.job_of(*engine)
     }
 
     /// The same state, with room of its own.
@@ -191,8 +210,7 @@ impl State {
             graphs: self.graphs.copy()?,
             pasts: self.pasts.copy()?,
             rows: self.rows.copy()?,
-            letters: self.letters.copy()?,
-            jobs: self.jobs.copy()?,
+            mail: self.mail.copy()?,
             live: self.live.copied()?,
             released: self.released.copy()?,
             next: self.next,
@@ -209,8 +227,7 @@ impl State {
         self.graphs.reserve(more)?;
         self.pasts.reserve(more)?;
         self.rows.reserve(more)?;
-        self.letters.reserve(more)?;
-        self.jobs.reserve(more)?;
+        self.mail.reserve(more, more)?;
         self.live.reserve(more)?;
         self.released.reserve(more)
     }
@@ -229,21 +246,24 @@ impl State {
                 self.graphs.cut(&name);
                 self.pasts.cut(&name);
             }
-            Change::PutRow(row) => self.rows.put(row),
-            Change::DropRow(no) => self.rows.cut(&no),
+            Change::PutRow(row) => self.rows.put_row(row),
+            Change::DropRow(no) => self.rows.purge(no),
             Change::PutGraph(stack, graph) => self.graphs.put(Graph {
                 stack,
                 graph,
                 points,
             }),
             Change::PutPoint(point) => put_point(&mut self.graphs, point),
-            Change::Send(letter) => self.letters.put(letter),
-            Change::Drop(no) => self.letters.cut(&no),
-            Change::PutJob(job) => self.jobs.put(job),
-            Change::EndJob(engine) => self.jobs.cut(&engine),
+            Change::Send(letter) => self.mail.put_letter(letter),
+            Change::Drop(no) => self.mail.remove(no),
+            Change::PutJob(job) => self.mail.put_job(job),
+            Change::EndJob(engine) => self.mail.end(engine),
             Change::Enlist(engine) => self.live.push(engine),
             Change::Stop(engine) => stop(&mut self.live, engine),
-            Change::Numbers(numbers) => self.next = numbers,
+            Change::Numbers(numbers) => {
+                self.mail.set_next(numbers.letter.get());
+                self.next = numbers;
+            }
             Change::PutPast(past) => self.pasts.put(past),
             Change::Release(token) => self.released.push(token),
         }
@@ -263,7 +283,7 @@ impl State {
 
 // Takes an engine from the live ones.
 #[tactic(auto, unfolding(heat_plan::specs::Tables::cut))]
-fn stop(live: &mut Table<EngineNo>, engine: EngineNo)
+fn stop(live: &mut ListTable<EngineNo>, engine: EngineNo)
     ensures items { live.new.items ≡ filter (λ x. not (nat_eq x engine)) live.old.items }
     ensures room { live.old.spare ≤ live.new.spare }
 {
@@ -275,21 +295,7 @@ fn put_point(graphs: &mut Table<Graph>, point: Point)
     ensures items { graphs.new.items ≡ put_point point graphs.old.items }
     ensures room { graphs.old.spare ≤ graphs.new.spare }
 {
-    let Some(at) = graphs.find(&point.stack) else {
-        return;
-    };
-    let graph = with_point(graphs.remove(at), point);
-    graphs.insert(at, graph);
-}
-
-// A graph with this point in the place of its node's.
-fn with_point(graph: Graph, point: Point) -> Graph
-    ensures { result ≡ with_point point graph }
-{
-    let mut graph = graph;
-    let at = point.node as usize;
-    if at < graph.points.len() {
-        graph.points.set(at, point);
+    if let Some(place) = graphs.find(&point.stack) {
+        graphs.rewrite(place, PointWrite { point });
     }
-    graph
 }

@@ -214,10 +214,10 @@ fn put_both(rt: &impl AllocGlobal, state: &mut State) -> Result<(), Fail> {
     put_point(rt, state)
 }
 
-/// Whether each node of the stack's graph is done.
+/// Whether the first node of the stack's graph is done.
 fn is_done(state: &State, stack: &StackName) -> bool {
     match state.graph(stack) {
-        Some(graph) => graph.points.as_slice().iter().all(|point| point.done),
+        Some(graph) => graph.points.get(0).is_some_and(|point| point.done),
         None => false,
     }
 }

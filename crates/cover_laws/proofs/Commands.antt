@@ -21,11 +21,11 @@ use Rattle.soundness.specs.Sound.{Standing}
 use Rattle.soundness.specs.Stir.{Covered, IsCovered, waits}
 use Rattle.table_laws.proofs.Rows.{same_some, stack-key, text_or_not}
 use Rattle.edge_laws.proofs.Keeping.{nothing}
-use Rattle.frame_laws.proofs.Commands.{commands_on_one}
-use Rattle.frame_laws.proofs.Marks.{other_covered}
+use Rattle.graph_laws.proofs.Below.{commands_on_one}
+use Rattle.graph_laws.proofs.Below.{other_covered}
 use Rattle.graph_laws.proofs.Commands.{g, st}
 use Rattle.graph_laws.proofs.Places.{fresh_is}
-use Rattle.letter_laws.proofs.Commands.{Lain, lain}
+use Rattle.job_laws.proofs.Below.{Lain, lain}
 use Rattle.cover_laws.proofs.Finished.{letter_for}
 
 module _ (s : StateData) (h : Standing s) (name : List ℕ) (items : List Item) (k : Lays s name items) (it : Sets)

@@ -7,7 +7,7 @@ use Rattle.soundness.specs.Groups.{KeptByEngines}
 use Rattle.soundness.specs.Stir.{Covered}
 use Rattle.graph_laws.proofs.Engines.{graphs_kept, lives}
 use Rattle.graph_laws.proofs.Kept.{stacks_same}
-use Rattle.link_laws.proofs.Engines.{links_by_engines}
+use Rattle.job_laws.proofs.Below.{links_by_engines}
 use Rattle.job_laws.proofs.Onward.{Grounds}
 use Rattle.cover_laws.proofs.Steps.{as_before}
 use Rattle.core_state.specs.declared.change.Change.TheVariants as change_to

@@ -28,7 +28,7 @@ use Rattle.soundness.specs.Stir.{Covered}
 use Rattle.table_laws.proofs.Rows.{stack-key}
 use Rattle.graph_laws.proofs.Moves.{graphs_moved}
 use Rattle.graph_laws.proofs.Shapes.{job_stack}
-use Rattle.link_laws.proofs.Kept.{links_by_moves}
+use Rattle.job_laws.proofs.Below.{links_by_moves}
 use Rattle.job_laws.proofs.Onward.{Grounds}
 use Rattle.cover_laws.proofs.Begun.{asks_on, faulted, goes, left, onward, purged, puts, readies, replaces, retained}
 use Rattle.cover_laws.proofs.Finished.{finish_keeps, finish_marks}

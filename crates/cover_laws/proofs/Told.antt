@@ -31,7 +31,7 @@ use Rattle.graph_laws.proofs.Restated.{with_status}
 use Rattle.job_laws.proofs.Begun.{but_put}
 use Rattle.job_laws.proofs.Onward.{Grounds}
 use Rattle.job_laws.proofs.Told.{but_then}
-use Rattle.letter_laws.proofs.Sent.{failed_to, failure_comes, release_comes, released_to}
+use Rattle.job_laws.proofs.Below.{failed_to, failure_comes, release_comes, released_to}
 use Rattle.cover_laws.proofs.Begun.{not_stale}
 use Rattle.cover_laws.proofs.Carried.{OpenAt, same_node, to_is_newest}
 use Rattle.cover_laws.proofs.Steps.{failed_is_marked, one_job, unmarked_put}

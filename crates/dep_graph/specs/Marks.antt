@@ -1,5 +1,6 @@
 -- Marks on nodes, one for each number.
-use Rattle.std.specs.Prelude.{◌≡◌, ◌<◌, ◌+◌, ◌↔◌, ◌⊎◌, ℕ, Bool, false, not, List, IsTrue, Contains, length, count_by, slice_index_or}
+use Rattle.std.specs.Prelude.{◌≡◌, ◌<◌, ◌+◌, ◌↔◌, ◌⊎◌, ℕ, Bool, false, not, List}
+use Rattle.std.specs.Prelude.{IsTrue, Contains, length, count_by, slice_index_or}
 
 -- the node has its mark
 abbrev pub IsMarked : List Bool → ℕ → Type 0
@@ -32,7 +33,8 @@ abbrev pub unmarked_count : List Bool → ℕ
 unmarked_count marks = count_by not marks
 
 -- the nodes have their marks too, and those that had none wait for their turn
-pub record MarksNew (nodes : List ℕ) (old : List Bool) (waiting : List ℕ) (new : List Bool) (pending : List ℕ) : Type 0 where
+pub record MarksNew (nodes : List ℕ) (old : List Bool) (waiting : List ℕ)
+    (new : List Bool) (pending : List ℕ) : Type 0 where
   pub size : length new ≡ length old
   pub kept : (x : ℕ) → IsMarked old x → IsMarked new x
   pub all : (x : ℕ) → Contains nodes x → IsMarked new x

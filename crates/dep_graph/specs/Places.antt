@@ -1,5 +1,6 @@
 -- Names in the order in which they were first asked.
-use Rattle.std.specs.Prelude.{◌≡◌, ◌≢◌, ◌⊎◌, ◌<◌, ◌^◌, ℕ, List, [], ◌∷◌, ◌++◌, Some, Contains, AllPairs, length, slice_get}
+use Rattle.std.specs.Prelude.{◌≡◌, ◌≢◌, ◌⊎◌, ◌<◌, ◌^◌, ℕ, List, [], ◌∷◌, ◌++◌}
+use Rattle.std.specs.Prelude.{Some, Contains, AllPairs, length, slice_get}
 
 -- each name once, and so few that 32 bits number them
 pub record AreNames (names : List (List ℕ)) : Type 0 where

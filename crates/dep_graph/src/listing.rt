@@ -1,7 +1,8 @@
 //! The order of a graph's nodes, or the cycle in its way: nodes are taken away, the least that is
 //! ready first; where some are left, a walk back from the least of them meets itself.
 
-ghost use Rattle.std.specs.Prelude.{◌≡◌, ◌<◌, ◌↔◌, ℕ, IfOk, OnOk, MatchOption, Contains, length, replicate, slice_index, true};
+ghost use Rattle.std.specs.Prelude.{◌≡◌, ◌<◌, ◌↔◌, ℕ, IfOk, OnOk, MatchOption, Contains};
+ghost use Rattle.std.specs.Prelude.{length, replicate, slice_index, true};
 ghost use Rattle.std.specs.Bool.{OnTrue, OnFalse};
 ghost use Rattle.dep_graph.specs.Lists.{IsLeast};
 ghost use Rattle.dep_graph.specs.Edges.{HasEdge, JoinsNodes};

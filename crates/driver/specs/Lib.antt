@@ -1,3 +1,4 @@
+pub mod Below
 pub mod Rounds
 pub mod Turns
 pub mod Settled

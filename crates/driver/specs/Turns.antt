@@ -13,7 +13,7 @@ use Rattle.step_relation.specs.Given.{Given}
 use Rattle.step_relation.specs.Runs.{IsTied}
 use Rattle.step_relation.specs.Steps.{Step}
 use Rattle.step_relation.specs.Turns.{Turn, WearsOut}
-use Rattle.step_ends.specs.Lost.{IsOfUnknownSize}
+use Rattle.book.specs.Below.{IsOfUnknownSize}
 use Rattle.book.specs.Kept.{unjudged}
 use Rattle.book.specs.Quiet.{IsIdle, Page}
 use Rattle.book.specs.Turned.{IsWornBy}

@@ -43,7 +43,7 @@ fn is_done(graph: &Graph, node: usize) -> bool
     ensures yes { OnTrue result (IsDone graph.now node) }
     ensures no_ { OnFalse result (¬ IsDone graph.now node) }
 {
-    match graph.points.as_slice().get(node) {
+    match graph.points.get(node) {
         Some(point) => point.done,
         None => false,
     }
@@ -67,7 +67,7 @@ fn has_input(graph: &Graph, node: usize, before: u32) -> bool
     ensures yes { OnTrue result (HasInput graph.now node before) }
     ensures no_ { OnFalse result (¬ HasInput graph.now node before) }
 {
-    let Some(point) = graph.points.as_slice().get(node) else {
+    let Some(point) = graph.points.get(node) else {
         return false;
     };
     for input in point.inputs.as_slice() {

@@ -32,7 +32,7 @@ use Rattle.graph_laws.proofs.Carried.{aims_fits}
 use Rattle.graph_laws.proofs.Finished.{rows_then}
 use Rattle.graph_laws.proofs.Restated.{restated}
 use Rattle.graph_laws.specs.Laws.{GraphsFit}
-use Rattle.link_laws.proofs.Points.{passed_done}
+use Rattle.mark_laws.proofs.Below.{passed_done}
 use Rattle.mark_laws.proofs.Finish.{after, finished_is, graph_same, its_graph, made, node_is, put_last, ready_then}
 use Rattle.mark_laws.proofs.Finish.{resolves_then}
 use Rattle.mark_laws.proofs.Rows.{aims_now}

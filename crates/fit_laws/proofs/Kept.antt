@@ -39,8 +39,8 @@ use Rattle.fit_laws.proofs.Moves.{row_kept, row_on, row_unlocked, rows_same}
 use Rattle.fit_laws.proofs.Own.{fit_by_own}
 use Rattle.fit_laws.proofs.Rewrites.{FitKinds, kinds_cut}
 use Rattle.fit_laws.specs.Laws.{AllRowsFit}
-use Rattle.frame_laws.proofs.OnOne.{moves_on_one}
-use Rattle.frame_laws.specs.Laws.{stack_of}
+use Rattle.mark_laws.proofs.Below.{moves_on_one}
+use Rattle.mark_laws.specs.Below.{stack_of}
 use Rattle.traversal_graph.specs.declared.shape.Node.TheVariants.{C, U}
 use Rattle.graph_laws.proofs.Kept.{SameStacks, stacks_marked, stacks_same}
 use Rattle.graph_laws.proofs.Known.{never_again, tied_props}

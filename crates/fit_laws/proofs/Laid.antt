@@ -22,7 +22,7 @@ use Rattle.soundness.specs.RowsFit.{RowsFit}
 use Rattle.soundness.specs.Sound.{Standing}
 use Rattle.fit_laws.proofs.Own.{fit_by_own, fit_restated}
 use Rattle.fit_laws.specs.Laws.{AllRowsFit}
-use Rattle.frame_laws.proofs.Commands.{commands_on_one}
+use Rattle.mark_laws.proofs.Below.{commands_on_one}
 use Rattle.mark_laws.proofs.Laid.{after, fg, fresh_undone, its_graph, laid_is, put_one, rows_from, st}
 use Rattle.table_laws.proofs.Puts.{all_contains, put_rows}
 use Rattle.table_laws.proofs.Rows.{stack_gone}

@@ -1,3 +1,4 @@
+pub mod Below
 pub mod Own
 pub mod Laid
 pub mod Rewrites

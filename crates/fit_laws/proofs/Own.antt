@@ -13,8 +13,8 @@ use Rattle.soundness.specs.Groups.{KeptByEngines}
 use Rattle.soundness.specs.RowsFit.{IsBegun, IsMade, IsWanted, RowsFit}
 use Rattle.soundness.specs.Sound.{Standing}
 use Rattle.fit_laws.specs.Laws.{AllRowsFit}
-use Rattle.frame_laws.proofs.Engines.{apart_from, on_enlisted, on_restarted, on_stopped}
-use Rattle.frame_laws.proofs.Others.{other_rows}
+use Rattle.mark_laws.proofs.Below.{apart_from, on_enlisted, on_restarted, on_stopped}
+use Rattle.mark_laws.proofs.Below.{other_rows}
 use Rattle.table_laws.proofs.Rows.{text_or_not}
 
 pub fit_by_own : (s : StateData) → Standing s → (t : StateData) (own : List ℕ) → Elsewhere own s t

@@ -4,16 +4,17 @@ ghost use Rattle.heat_plan.specs.declared.token.Token.{Token};
 ghost use Rattle.history.specs.Opening.{empty_opening};
 ghost use Rattle.history.specs.Stored.{stored, stored_by, written};
 
-use core_state::{Entry, Row, RowWrite, Table, What};
+use core_state::{Entry, Row, RowWrite, What};
 use heat_value::TryCopy;
+use keyed_table::ListTable;
 use std::alloc::{AllocError, Global};
 
 /// The rows, in the order in which their numbers came.
-pub fn stored(alloc: Global, entries: &[Entry]) -> Result<Table<Row>, AllocError>
+pub fn stored(alloc: Global, entries: &[Entry]) -> Result<ListTable<Row>, AllocError>
     ensures { (engines : ℕ) (leaving : Token → Bool)
         → IfOk result (λ t. t.items ≡ stored (empty_opening engines leaving) entries.now) }
 {
-    let mut rows = Table::new(alloc);
+    let mut rows = ListTable::new(alloc);
     for entry in entries {
         store(&mut rows, &entry.what)?;
     }
@@ -21,7 +22,7 @@ pub fn stored(alloc: Global, entries: &[Entry]) -> Result<Table<Row>, AllocError
 }
 
 // What an entry writes, in its turn.
-fn store(rows: &mut Table<Row>, what: &What) -> Result<(), AllocError>
+fn store(rows: &mut ListTable<Row>, what: &What) -> Result<(), AllocError>
     ensures { OnOk result (rows.new.items ≡ stored_by rows.old.items what.now) }
 {
     match what {
@@ -30,7 +31,7 @@ fn store(rows: &mut Table<Row>, what: &What) -> Result<(), AllocError>
     }
 }
 
-fn store_all(rows: &mut Table<Row>, writes: &[RowWrite]) -> Result<(), AllocError>
+fn store_all(rows: &mut ListTable<Row>, writes: &[RowWrite]) -> Result<(), AllocError>
     ensures { OnOk result (rows.new.items ≡ fold written rows.old.items writes.now) }
 {
     for write in writes {
@@ -40,7 +41,7 @@ fn store_all(rows: &mut Table<Row>, writes: &[RowWrite]) -> Result<(), AllocErro
 }
 
 // A row is set under its number, or goes.
-fn store_one(rows: &mut Table<Row>, write: &RowWrite) -> Result<(), AllocError>
+fn store_one(rows: &mut ListTable<Row>, write: &RowWrite) -> Result<(), AllocError>
     ensures { OnOk result (rows.new.items ≡ written rows.old.items write.now) }
 {
     match write {

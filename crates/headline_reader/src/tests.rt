@@ -12,7 +12,8 @@ use std::alloc::{AllocError, Global};
 use std::test::Fail;
 
 const CREATE: &[u8] =
-    b"create s {\"template\":{\"heat_template_version\":\"2018-08-31\",\"resources\":{\"a\":{\"type\":\"Test::Box\",\"properties\":{\"size\":1}}}}}";
+    b"create s {\"template\":{\"heat_template_version\":\"2018-08-31\",\"resources\":{\
+      \"a\":{\"type\":\"Test::Box\",\"properties\":{\"size\":1}}}}}";
 
 // In which states a token may be.
 #[derive(Clone, Copy, Debug, PartialEq, Eq)]

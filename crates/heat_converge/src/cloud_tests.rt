@@ -19,7 +19,11 @@ fn scripted_answer(alloc: Global, letter: u8) -> Result<ScriptedAnswer, AllocErr
 }
 
 // A cloud that takes at most so many boxes, tells at the opening that it has none, and answers so.
-fn scripted(alloc: Global, most: u32, letters: &[u8]) -> Result<ScriptedCloud, AllocError> {
+pub(crate) fn scripted(
+    alloc: Global,
+    most: u32,
+    letters: &[u8],
+) -> Result<ScriptedCloud, AllocError> {
     let mut answers = Seq::new(alloc);
     answers.push(ScriptedAnswer::Works(0))?;
     for letter in letters {

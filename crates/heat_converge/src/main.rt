@@ -1,14 +1,23 @@
 //! The program: drives stacks of resources to their templates, by a script on standard input, with the
-//! report on standard output. It hands the top call an empty simulated cloud and the adapters over std,
-//! says on standard error how it ended, and does nothing else itself.
+//! report on standard output. It hands the top call a simulated cloud and the adapters over std, says on
+//! standard error how it ended, and does nothing else itself. The cloud is that of a file, which it writes
+//! back after the call, or an empty one.
 #![tactic(auto)]
 
 #[cfg(test)]
 mod cloud_tests;
+mod ended;
+mod kept_cloud;
+#[cfg(test)]
+mod kept_cloud_tests;
+#[cfg(test)]
+mod kept_scenarios;
 #[cfg(test)]
 mod pairs;
 #[cfg(test)]
 mod readings;
+#[cfg(test)]
+mod rollback_tests;
 mod said;
 #[cfg(test)]
 mod scenarios;
@@ -17,9 +26,11 @@ mod stream_tests;
 #[cfg(test)]
 mod tests;
 
-use converge_call::{Exit, Outcome, converge};
+use converge_call::{Exit, Outcome, WordsFault, converge, words_of};
+use ended::Ended;
 use heat_io::{StdSink, StdSource};
 use heat_value::Text;
+use kept_cloud::{load, store};
 use said::{word_for, words_for};
 use sim_cloud::{Settings, SimCloud};
 use std::alloc::{AllocError, Global};
@@ -49,28 +60,57 @@ fn without_words(error: &io::Error) -> Exit {
     }
 }
 
-// Drives an empty cloud by standard input, as the words say.
-fn run(rt: &HostRuntime) -> Result<Exit, AllocError> {
+// The path of the cloud file that the words name, where they are a form.
+fn cloud_path(alloc: Global, words: &[Text]) -> Result<Option<Text>, AllocError> {
+    match words_of(alloc, words) {
+        Ok(mode) => Ok(mode.setup().cloud),
+        Err(WordsFault::Usage) => Ok(None),
+        Err(WordsFault::Memory) => Err(AllocError),
+    }
+}
+
+// Does what the words ask for, over this cloud and by standard input; the cloud as it is then.
+fn call(rt: &HostRuntime, words: &[Text], cloud: SimCloud) -> (Exit, SimCloud) {
+    let mut source = StdSource::new(rt.reader());
+    let mut sink = StdSink::new(io::writer(rt));
+    let Outcome { status, end } = converge(rt.alloc(), words, &mut source, &mut sink, cloud);
+    (status, end.give_back())
+}
+
+// The same over the cloud of a file, which is written back whatever the status.
+fn call_kept(rt: &HostRuntime, words: &[Text], path: &Text) -> Ended {
+    match load(rt, path) {
+        Ok(cloud) => {
+            let (status, cloud) = call(rt, words, cloud);
+            Ended::after(status, store(rt, path, &cloud))
+        }
+        Err(fault) => Ended::from(fault),
+    }
+}
+
+// Does what the program's words ask for.
+fn run(rt: &HostRuntime) -> Result<Ended, AllocError> {
     let alloc = rt.alloc();
     let args = match env::args(rt) {
         Ok(args) => args,
-        Err(error) => return Ok(without_words(&error)),
+        Err(error) => return Ok(Ended::Called(without_words(&error))),
     };
     let words = words_of_args(alloc, args)?;
-    let cloud = empty_cloud(alloc)?;
-    let mut source = StdSource::new(rt.reader());
-    let mut sink = StdSink::new(io::writer(rt));
-    let Outcome { status, end } = converge(alloc, &words, &mut source, &mut sink, cloud);
-    let _cloud = end.give_back();
-    Ok(status)
+    match cloud_path(alloc, &words)? {
+        Some(path) => Ok(call_kept(rt, &words, &path)),
+        None => {
+            let (status, _cloud) = call(rt, &words, empty_cloud(alloc)?);
+            Ok(Ended::Called(status))
+        }
+    }
 }
 
 // Says on standard error how the program ended.
-fn say(rt: &HostRuntime, status: &Exit) {
-    let words = words_for(status);
-    match status {
-        Exit::Done => {}
-        Exit::Disagree(token, finding) => {
+fn say(rt: &HostRuntime, ended: &Ended) {
+    let words = words_for(ended);
+    match ended {
+        Ended::Called(Exit::Done) => {}
+        Ended::Called(Exit::Disagree(token, finding)) => {
             let (stack, name, row) = (token.stack.as_str(), token.name.as_str(), token.row.get());
             let finding = word_for(*finding);
             let _ = eprintln!(rt; "heat_converge: {words} {stack}/{name}/{row} {finding}");
@@ -82,10 +122,10 @@ fn say(rt: &HostRuntime, status: &Exit) {
 }
 
 fn main(rt: HostRuntime) -> ExitCode {
-    let status = match run(&rt) {
-        Ok(status) => status,
-        Err(_) => Exit::Memory,
+    let ended = match run(&rt) {
+        Ok(ended) => ended,
+        Err(_) => Ended::Called(Exit::Memory),
     };
-    say(&rt, &status);
-    ExitCode::from(status.code())
+    say(&rt, &ended);
+    ExitCode::from(ended.code())
 }

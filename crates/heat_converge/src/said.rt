@@ -1,12 +1,22 @@
 //! What the program says of how it ended.
 ghost use Rattle.std.specs.Prelude.{◌≡◌};
-ghost use Rattle.heat_converge.specs.Said.{found_of, said_of};
+ghost use Rattle.heat_converge.specs.Said.{found_of, said_of, said_of_exit};
 
+use crate::ended::Ended;
 use converge_call::{Exit, Finding};
 
-/// The first words on standard error for this status.
-pub fn words_for(exit: &Exit) -> &'static str
-    ensures { result.now ≡ said_of exit.now }
+/// The first words on standard error for this end.
+pub fn words_for(ended: &Ended) -> &'static str
+    ensures { result.now ≡ said_of ended.now }
+{
+    match ended {
+        Ended::Called(exit) => words_for_exit(exit),
+        Ended::CloudFile => "cloud file",
+    }
+}
+
+fn words_for_exit(exit: &Exit) -> &'static str
+    ensures { result.now ≡ said_of_exit exit.now }
 {
     match exit {
         Exit::Done => "done",

@@ -222,31 +222,3 @@ fn scenarios_have_their_outputs(rt: HostRuntime) -> Result<(), Fail> {
     }
     Ok(())
 }
-
-// Other words, and the status.
-const WORDS: &[(&[&str], u8)] = &[
-    (&["drive", "--"], 0),
-    (&["drive", "--workers=64"], 0),
-    (&["drive", "--workers", "1", "--"], 0),
-    (&["drive", "--workers"], 2),
-    (&["drive", "--workers", "--"], 2),
-    (&["drive", "--workers", "01"], 2),
-    (&["drive", "--workers="], 2),
-    (&["drive", "--workers", "2", "--workers=2"], 2),
-    (&["drive", "--", "--workers=2"], 2),
-    (&["drive", "--", "--"], 2),
-    (&["drive", "--", "journal"], 2),
-    (&["drive", "--cloud", "file"], 2),
-];
-
-#[test]
-fn words_are_read_whole(rt: HostRuntime) -> Result<(), Fail> {
-    for (words, status) in WORDS {
-        assert!(rt;
-            ends_with(rt.alloc(), words, &[], &[], *status)?,
-            "{:?}",
-            words
-        );
-    }
-    Ok(())
-}

@@ -17,12 +17,14 @@ pub record Measures {E : Type 0} (half : Half) (result : Result ℕ E) (old new 
   pub alike : ReadsAlike old new
 
 -- `read_at`
-pub record Reads {E : Type 0} (half : Half) (at : ℕ) (buf_old buf_new : List ℕ) (result : Result ℕ E) (old new : ShownDisk) : Type 0 where
+pub record Reads {E : Type 0} (half : Half) (at : ℕ) (buf_old buf_new : List ℕ) (result : Result ℕ E)
+    (old new : ShownDisk) : Type 0 where
   pub read : IfOk result (λ n. Fills (part half old.seen) at buf_old buf_new n)
   pub alike : ReadsAlike old new
 
 -- `write_at`: a crash finds the range torn until the next sync, also where the write failed
-pub record Writes {T E : Type 0} (half : Half) (at : ℕ) (bytes : List ℕ) (result : Result T E) (old new : ShownDisk) : Type 0 where
+pub record Writes {T E : Type 0} (half : Half) (at : ℕ) (bytes : List ℕ) (result : Result T E)
+    (old new : ShownDisk) : Type 0 where
   pub written : OnOk result (new.seen ≡ changed half (overwritten at bytes) old.seen)
   pub partly : OnErr result (StepsAt half (PartlyWritten at bytes) old.seen new.seen)
   pub crash : Follows half (Torn at (length bytes)) old.may_leave new.may_leave

@@ -20,7 +20,8 @@ step_of Sync rest = synced
 -- the calls of these events, the newest first, in front of those from before
 abbrev pub log_of : List Event → List ℕ → List Call → List Call
 log_of [] store before = before
-log_of (event ∷ events) store before = log_of events (drop (size_of event.act) store) ((event.half, step_of event.act store) ∷ before)
+log_of (event ∷ events) store before =
+    log_of events (drop (size_of event.act) store) ((event.half, step_of event.act store) ∷ before)
 
 -- how many bytes they have in all
 abbrev pub total : List Event → ℕ

@@ -1,12 +1,23 @@
--- What a disk over two real files shows: nothing of their content.
-use Rattle.std.specs.Prelude.{ℕ, false, []}
+-- What a disk over two real files shows: nothing of their content, but whether a half is lost.
+use Rattle.std.specs.Prelude.{◌≡◌, ℕ, false, [], Result, IsErr}
+use Rattle.heat_disk.specs.declared.half.Half.{Half}
 use Rattle.heat_disk.specs.declared.file.FileDisk.{FileDisk}
-use Rattle.heat_disk.specs.declared.file.Opened.{Opened}
+use Rattle.heat_disk.specs.declared.opened.Opened.{Opened}
+use Rattle.heat_disk.specs.declared.opened.Way.TheVariants.{Lost}
+use Rattle.heat_disk.specs.Halves.{part}
 use Rattle.heat_disk.specs.Shown.{Room, ShownDisk}
 
 -- the room of one file
 abbrev pub room_of : Opened → Room
 room_of opened = record { end = opened.end; bytes = opened.bytes; calls = opened.calls }
+
+-- the file can't be reached, or a sync of it failed
+abbrev pub IsLostFile : Opened → Type 0
+IsLostFile opened = opened.way ≡ Lost
+
+-- both files
+abbrev pub files_of : FileDisk → Opened × Opened
+files_of disk = (disk.first, disk.second)
 
 -- its room alone has a meaning
 abbrev pub files_shown : FileDisk → ShownDisk
@@ -22,3 +33,12 @@ files_shown disk = record {
 -- how many of its calls have failed
 abbrev pub file_faults : FileDisk → ℕ
 file_faults disk = disk.faults
+
+-- the half's file can't be reached, or a sync of it failed
+abbrev pub IsLost : Half → FileDisk → Type 0
+IsLost half disk = IsLostFile (part half (files_of disk))
+
+-- a call on a lost half fails, and a lost half stays lost
+pub record Reaches {T E : Type 0} (half : Half) (result : Result T E) (old new : FileDisk) : Type 0 where
+  pub fails : IsLost half old → IsErr result
+  pub stays : (any : Half) → IsLost any old → IsLost any new

@@ -1,5 +1,6 @@
 -- A disk in memory, as data: what it began with, its calls, and which of them fail.
-use Rattle.std.specs.Prelude.{◌≡◌, ℕ, ◌+◌, ◌-◌, ◌≤◌, ◌^◌, min, max, Bool, cond, ◌&&◌, ◌==◌, nat_lt, List, [], ◌∷◌, length, Result, is_err}
+use Rattle.std.specs.Prelude.{◌≡◌, ℕ, ◌+◌, ◌-◌, ◌≤◌, ◌^◌, min, max, Bool, cond, ◌&&◌}
+use Rattle.std.specs.Prelude.{◌==◌, nat_lt, List, [], ◌∷◌, length, Result, is_err}
 use Rattle.std.specs.List.{list_any}
 use Rattle.heat_disk.specs.declared.half.Half.{Half}
 use Rattle.heat_disk.specs.Halves.{Pair, changed}
@@ -35,11 +36,13 @@ less n room = record { end = room.end; bytes = room.bytes - n; calls = room.call
 
 -- the room made at least what is asked for
 abbrev pub widened : ℕ → ℕ → ℕ → Room → Room
-widened end bytes calls room = record { end = max room.end end; bytes = max room.bytes bytes; calls = max room.calls calls }
+widened end bytes calls room =
+    record { end = max room.end end; bytes = max room.bytes bytes; calls = max room.calls calls }
 
 -- a disk that holds these bytes, all on the disk, before its first call
 abbrev pub fresh : Pair → List ℕ → Kept
-fresh start fails = record { start = start; calls = []; room = (no_room, no_room); fails = fails; numbered = 0; faults = 0 }
+fresh start fails =
+    record { start = start; calls = []; room = (no_room, no_room); fails = fails; numbered = 0; faults = 0 }
 
 -- what it shows
 abbrev pub shown_by : Kept → ShownDisk

@@ -1,27 +1,19 @@
 //! A disk over two files of the system, as std gives them. It tells nothing of their content: that a
 //! file keeps what was synced is trusted here, and no clause says it.
-ghost use Rattle.std.specs.Prelude.{◌≡◌, ◌≤◌, length, IfOk};
+ghost use Rattle.std.specs.Prelude.{◌≡◌, ◌≤◌, length, IsTrue, IfOk, OnOk, OnErr, IsErr};
+ghost use Rattle.heat_disk.specs.Halves.{part, beside};
+ghost use Rattle.heat_disk.specs.Shown.{HasRoom, IsLeft, IsAtLeast, Spends, SameContent};
+ghost use Rattle.heat_disk.specs.Calls.{Measures, Reads, Writes, Cuts, Syncs};
 ghost use Rattle.heat_disk.specs.Causes.{HasCause};
-ghost use Rattle.heat_disk.specs.Memory.{no_room, widened};
-ghost use Rattle.heat_disk.specs.Files.{room_of, files_shown, file_faults};
+ghost use Rattle.heat_disk.specs.Memory.{no_room};
+ghost use Rattle.heat_disk.specs.Files.{files_of, files_shown, file_faults, IsLost, Reaches};
 
 use crate::disk::{Disk, DiskFailed};
 use crate::half::Half;
+use crate::opened::{Opened, Purpose, Way, way_to};
 use heat_value::Text;
 use std::alloc::AllocError;
-use std::fs::{File, OpenOptions};
 use std::io;
-use std::os::unix::fs::FileExt;
-
-/// A file, if it could be opened, and the room that was asked for. No call spends of the room, since
-/// a file takes none of our memory.
-#[derive(Drop)]
-pub(crate) struct Opened {
-    file: Option<File>,
-    end: u64,
-    bytes: u64,
-    calls: u64,
-}
 
 #[derive(Drop)]
 pub struct FileDisk {
@@ -32,16 +24,22 @@ pub struct FileDisk {
 
 impl FileDisk {
     /// First is the file at the path, and Second the one at the path with `.2` behind it. A file that
-    /// is missing is made. One that can't be opened makes each call on it fail.
+    /// is missing is made, and the folder of each is synced. One that can't be reached makes each call
+    /// on it fail.
     pub fn at(rt: &HostRuntime, path: &Text) -> FileDisk
         ensures room { (files_shown result).room ≡ (no_room, no_room) }
         ensures faults { file_faults result ≡ 0 }
     {
-        FileDisk {
-            first: Opened::new(open(rt, path.as_str())),
-            second: Opened::new(open_second(rt, path.as_str())),
-            faults: 0,
-        }
+        opened_for(rt, Purpose::Use, path.as_str())
+    }
+
+    /// The same files to be looked at alone. Nothing is made, and no right to write is needed: a file
+    /// that isn't there is an empty half. A write or a cut fails.
+    pub fn look_at(rt: &HostRuntime, path: &Text) -> FileDisk
+        ensures room { (files_shown result).room ≡ (no_room, no_room) }
+        ensures faults { file_faults result ≡ 0 }
+    {
+        opened_for(rt, Purpose::Look, path.as_str())
     }
 
     /// How many of its calls have failed.
@@ -51,7 +49,9 @@ impl FileDisk {
         self.faults
     }
 
-    fn opened(&self, half: Half) -> &Opened {
+    fn opened(&self, half: Half) -> &Opened
+        ensures { result.now ≡ part half (files_of self.now) }
+    {
         match half {
             Half::First => &self.first,
             Half::Second => &self.second,
@@ -59,91 +59,29 @@ impl FileDisk {
     }
 }
 
-fn open(rt: &HostRuntime, path: &str) -> Option<File> {
-    OpenOptions::new()
-        .read(true)
-        .write(true)
-        .create(true)
-        .open(rt, path)
-        .ok()
+fn opened_for(rt: &HostRuntime, purpose: Purpose, path: &str) -> FileDisk
+    ensures room { (files_shown result).room ≡ (no_room, no_room) }
+    ensures faults { file_faults result ≡ 0 }
+{
+    FileDisk {
+        first: Opened::new(way_to(rt, purpose, path)),
+        second: Opened::new(way_to_second(rt, purpose, path)),
+        faults: 0,
+    }
 }
 
-fn open_second(rt: &HostRuntime, path: &str) -> Option<File> {
-    let name = format!(in rt.alloc(); "{path}.2").ok()?;
-    open(rt, name.as_str())
-}
-
-impl Opened {
-    fn new(file: Option<File>) -> Opened
-        ensures { room_of result ≡ no_room }
-    {
-        Opened {
-            file,
-            end: 0,
-            bytes: 0,
-            calls: 0,
-        }
-    }
-
-    fn widen(&mut self, end: u64, bytes: u64, calls: u64)
-        ensures { room_of self.new ≡ widened end bytes calls (room_of self.old) }
-    {
-        self.end = if self.end < end { end } else { self.end };
-        self.bytes = if self.bytes < bytes {
-            bytes
-        } else {
-            self.bytes
-        };
-        self.calls = if self.calls < calls {
-            calls
-        } else {
-            self.calls
-        };
-    }
-
-    fn reach(&self) -> io::Result<&File> {
-        match &self.file {
-            Some(file) => Ok(file),
-            None => Err(io::ErrorKind::NotFound.into()),
-        }
-    }
-
-    fn size(&self) -> io::Result<u64> {
-        Ok(self.reach()?.metadata()?.len())
-    }
-
-    // Reads on until the buffer is full or the file ends.
-    fn read_at(&self, at: u64, buf: &mut [u8]) -> io::Result<usize>
-        ensures { IfOk result (λ n. n ≤ length buf.old) }
-    {
-        let file = self.reach()?;
-        let mut done = 0;
-        while done < buf.len() {
-            let count = file.read_at(&mut buf[done..], at.saturating_add(done as u64))?;
-            if count == 0 {
-                break;
-            }
-            done += count;
-        }
-        Ok(done)
-    }
-
-    fn write_at(&self, at: u64, bytes: &[u8]) -> io::Result<()> {
-        self.reach()?.write_all_at(bytes, at)
-    }
-
-    fn cut(&self, len: u64) -> io::Result<()> {
-        self.reach()?.set_len(len)
-    }
-
-    fn sync(&self) -> io::Result<()> {
-        self.reach()?.sync_all()
+fn way_to_second(rt: &HostRuntime, purpose: Purpose, path: &str) -> Way {
+    match format!(in rt.alloc(); "{path}.2") {
+        Ok(name) => way_to(rt, purpose, name.as_str()),
+        Err(_) => Way::Lost,
     }
 }
 
 // Counts a failure.
 fn note<T: Drop>(faults: &mut u64, outcome: io::Result<T>) -> Result<T, DiskFailed>
     ensures same { IfOk result (λ value. outcome ≡ Ok value) }
+    ensures err { IsErr outcome → IsErr result }
+    ensures failed { IsErr result → IsErr outcome }
     ensures cause { HasCause faults.old faults.new result }
 {
     match outcome {
@@ -167,28 +105,76 @@ impl Disk for FileDisk {
 
     ghost lawful = { λ disk tells. Prim.search rules };
 
-    fn len(&mut self, half: Half) -> Result<u64, DiskFailed> {
+    fn len(&mut self, half: Half) -> Result<u64, DiskFailed>
+        ensures reaches { Reaches half result self.old self.new }
+        ensures content { IsTrue (files_shown self.old).tells →
+            Measures half result (files_shown self.old) (files_shown self.new) }
+        ensures tells { (files_shown self.new).tells ≡ (files_shown self.old).tells }
+        ensures room { Spends half 0 0 (files_shown self.old) (files_shown self.new) }
+        ensures cause { HasCause (file_faults self.old) (file_faults self.new) result }
+    {
         let outcome = self.opened(half).size();
         note(&mut self.faults, outcome)
     }
 
-    fn read_at(&mut self, half: Half, at: u64, buf: &mut [u8]) -> Result<usize, DiskFailed> {
+    fn read_at(&mut self, half: Half, at: u64, buf: &mut [u8]) -> Result<usize, DiskFailed>
+        ensures reaches { Reaches half result self.old self.new }
+        ensures count { IfOk result (λ n. n ≤ length buf.old) }
+        ensures content { IsTrue (files_shown self.old).tells →
+            Reads half at buf.old buf.new result (files_shown self.old) (files_shown self.new) }
+        ensures tells { (files_shown self.new).tells ≡ (files_shown self.old).tells }
+        ensures room { Spends half 0 0 (files_shown self.old) (files_shown self.new) }
+        ensures cause { HasCause (file_faults self.old) (file_faults self.new) result }
+    {
         let outcome = self.opened(half).read_at(at, buf);
         note(&mut self.faults, outcome)
     }
 
-    fn write_at(&mut self, half: Half, at: u64, bytes: &[u8]) -> Result<(), DiskFailed> {
+    fn write_at(&mut self, half: Half, at: u64, bytes: &[u8]) -> Result<(), DiskFailed>
+        requires at { IsTrue (files_shown self.old).tells →
+            at ≤ length (part half (files_shown self.old).seen) }
+        requires room { HasRoom (part half (files_shown self.old).room) at (length bytes.now) }
+        ensures reaches { Reaches half result self.old self.new }
+        ensures content { IsTrue (files_shown self.old).tells →
+            Writes half at bytes.now result (files_shown self.old) (files_shown self.new) }
+        ensures tells { (files_shown self.new).tells ≡ (files_shown self.old).tells }
+        ensures room { Spends half 1 (length bytes.now)
+            (files_shown self.old) (files_shown self.new) }
+        ensures cause { HasCause (file_faults self.old) (file_faults self.new) result }
+    {
         let outcome = self.opened(half).write_at(at, bytes);
         note(&mut self.faults, outcome)
     }
 
-    fn cut(&mut self, half: Half, len: u64) -> Result<(), DiskFailed> {
+    fn cut(&mut self, half: Half, len: u64) -> Result<(), DiskFailed>
+        requires len { IsTrue (files_shown self.old).tells →
+            len ≤ length (part half (files_shown self.old).seen) }
+        requires room { HasRoom (part half (files_shown self.old).room) 0 0 }
+        ensures reaches { Reaches half result self.old self.new }
+        ensures content { IsTrue (files_shown self.old).tells →
+            Cuts half len result (files_shown self.old) (files_shown self.new) }
+        ensures tells { (files_shown self.new).tells ≡ (files_shown self.old).tells }
+        ensures room { Spends half 1 0 (files_shown self.old) (files_shown self.new) }
+        ensures cause { HasCause (file_faults self.old) (file_faults self.new) result }
+    {
         let outcome = self.opened(half).cut(len);
         note(&mut self.faults, outcome)
     }
 
-    fn sync(&mut self, half: Half) -> Result<(), DiskFailed> {
-        let outcome = self.opened(half).sync();
+    fn sync(&mut self, half: Half) -> Result<(), DiskFailed>
+        requires room { HasRoom (part half (files_shown self.old).room) 0 0 }
+        ensures reaches { Reaches half result self.old self.new }
+        ensures lost { IsErr result → IsLost half self.new }
+        ensures content { IsTrue (files_shown self.old).tells →
+            Syncs half result (files_shown self.old) (files_shown self.new) }
+        ensures tells { (files_shown self.new).tells ≡ (files_shown self.old).tells }
+        ensures room { Spends half 1 0 (files_shown self.old) (files_shown self.new) }
+        ensures cause { HasCause (file_faults self.old) (file_faults self.new) result }
+    {
+        let outcome = match half {
+            Half::First => self.first.sync(),
+            Half::Second => self.second.sync(),
+        };
         note(&mut self.faults, outcome)
     }
 

@@ -12,6 +12,7 @@ mod half;
 mod history;
 mod memory;
 mod memory_disk;
+mod opened;
 #[cfg(test)]
 mod tests;
 

@@ -1,6 +1,7 @@
 //! A disk in memory. It keeps a list of all its writes, cuts and syncs, so it tells what a crash may
 //! leave at each moment, and can crash. The calls whose numbers are listed fail, and change nothing.
-ghost use Rattle.std.specs.Prelude.{is_err, IsSome, ◌≡◌, ◌≤◌, ◌+◌, max, [], Option, None, IfOk, OnOk, OnErr, IsTrue, length};
+ghost use Rattle.std.specs.Prelude.{is_err, IsSome, ◌≡◌, ◌≤◌, ◌+◌, max, [], Option};
+ghost use Rattle.std.specs.Prelude.{None, IfOk, OnOk, OnErr, IsTrue, length};
 ghost use Rattle.heat_disk.specs.Halves.{Pair, part, beside, changed};
 ghost use Rattle.heat_disk.specs.Shown.{HasRoom, IsDurable};
 ghost use Rattle.heat_disk.specs.Causes.{HasCause};
@@ -82,7 +83,7 @@ impl MemDisk {
         self.faults
     }
 
-    /// Numbers a call, and fails it where the number is listed.
+    // Numbers a call, and fails it where the number is listed.
     pub(crate) fn count(&mut self) -> Result<(), DiskFailed>
         ensures fails { is_err result ≡ fails_next self.old }
         ensures after { self.new ≡ counted self.old }
@@ -133,7 +134,7 @@ impl MemDisk {
         }
     }
 
-    /// Takes memory, so that the room of the half is at least this. After Memory nothing has changed.
+    // Takes memory, so that the room of the half is at least this. After Memory nothing has changed.
     pub(crate) fn widen(
         &mut self,
         half: Half,

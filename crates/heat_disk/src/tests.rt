@@ -1,8 +1,9 @@
-//! What a crash leaves, byte by byte, on worked examples; which calls fail; a fuse; real files once.
+//! What a crash leaves, byte by byte, on worked examples; which calls fail; a fuse; real files.
 use crate::{Disk, DiskFailed, FileDisk, Fuse, Half, MemDisk};
 use heat_value::Text;
 use std::alloc::{AllocError, Global};
 use std::fs;
+use std::os::unix::fs::symlink;
 use std::process::Abort;
 use std::test::Fail;
 
@@ -198,5 +199,54 @@ fn a_file_out_of_reach_fails_each_call(rt: HostRuntime) -> Result<(), Fail> {
     assert_eq!(rt; disk.len(Half::Second), Err(DiskFailed));
     assert_eq!(rt; disk.read_at(Half::Second, 0, &mut [0]), Err(DiskFailed));
     assert_eq!(rt; disk.faults(), 5);
+    Ok(())
+}
+
+// The lengths of both halves, and whether First can be written and synced.
+fn four_calls(disk: &mut FileDisk) -> Result<[bool; 4], AllocError> {
+    disk.room(Half::First, 1, 1, 2)?;
+    Ok([
+        disk.len(Half::First) == Ok(0),
+        disk.len(Half::Second) == Ok(0),
+        disk.write_at(Half::First, 0, b"a").is_ok(),
+        disk.sync(Half::First).is_ok(),
+    ])
+}
+
+#[test]
+fn a_look_makes_nothing(rt: HostRuntime) -> Result<(), Fail> {
+    let path = Text::from_str(rt.alloc(), "nothing_of_the_test")?;
+    let mut disk = FileDisk::look_at(&rt, &path);
+    assert_eq!(rt; four_calls(&mut disk)?, [true, true, false, false]);
+    assert_eq!(rt; disk.len(Half::First), Err(DiskFailed));
+    assert_eq!(rt; disk.read_at(Half::Second, 3, &mut [0]), Ok(0));
+    assert!(rt; !fs::exists(&rt, "nothing_of_the_test")?);
+    assert!(rt; !fs::exists(&rt, "nothing_of_the_test.2")?);
+    Ok(())
+}
+
+#[test]
+fn a_look_reads_what_is_there(rt: HostRuntime) -> Result<(), Fail> {
+    fs::write(&rt, "seen_of_the_test", b"abc")?;
+    let mut disk = FileDisk::look_at(&rt, &Text::from_str(rt.alloc(), "seen_of_the_test")?);
+    let mut buf = [b'.'; 2];
+    assert_eq!(rt; disk.read_at(Half::First, 1, &mut buf), Ok(2));
+    assert_eq!(rt; buf, [b'b', b'c']);
+    disk.room(Half::First, 4, 1, 1)?;
+    assert_eq!(rt; disk.write_at(Half::First, 0, b"x"), Err(DiskFailed));
+    assert_eq!(rt; disk.faults(), 1);
+    Ok(())
+}
+
+// The null device takes each write and refuses to be synced.
+#[test]
+fn a_sync_that_failed_is_the_last_call(rt: HostRuntime) -> Result<(), Fail> {
+    if !fs::exists(&rt, "null_of_the_test")? {
+        symlink(&rt, "/dev/null", "null_of_the_test")?;
+    }
+    let mut disk = FileDisk::at(&rt, &Text::from_str(rt.alloc(), "null_of_the_test")?);
+    assert_eq!(rt; four_calls(&mut disk)?, [true, true, true, false]);
+    assert_eq!(rt; four_calls(&mut disk)?, [false, true, false, false]);
+    assert_eq!(rt; disk.faults(), 4);
     Ok(())
 }

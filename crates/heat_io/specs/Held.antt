@@ -9,7 +9,8 @@ use Rattle.heat_io.specs.Lines.{length_of_line, line_limit}
 
 -- some bytes of the source are held now, behind the others
 abbrev pub Grows : List ℕ → List ℕ → Option (List ℕ) → Option (List ℕ) → Type 0
-Grows old new left_old left_new = (taken : List ℕ) × (0 < length taken) × (new ≡ old ++ taken) × (left_old ≡ ahead taken left_new)
+Grows old new left_old left_new =
+    (taken : List ℕ) × (0 < length taken) × (new ≡ old ++ taken) × (left_old ≡ ahead taken left_new)
 
 abbrev pub IsFilled : Filled → List ℕ → List ℕ → Option (List ℕ) → Option (List ℕ) → Type 0
 IsFilled filled.More old new left_old left_new = Grows old new left_old left_new

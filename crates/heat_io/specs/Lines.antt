@@ -21,7 +21,9 @@ onto_first b (line ∷ lines) = (b ∷ line) ∷ lines
 abbrev pub cut_lines : List ℕ → List (List ℕ)
 cut_lines [] = []
 cut_lines (b ∷ bytes) =
-    if is_lf b then [] ∷ cut_lines bytes else if is_cr_of_end b bytes then cut_lines bytes else onto_first b (cut_lines bytes)
+    if is_lf b then [] ∷ cut_lines bytes
+    else if is_cr_of_end b bytes then cut_lines bytes
+    else onto_first b (cut_lines bytes)
 
 -- how long the first line is: its CR counts, its LF doesn't
 abbrev pub length_of_line : List ℕ → ℕ

@@ -1,5 +1,6 @@
 -- Streams in memory: their calls are numbered from 1, and the listed ones fail.
-use Rattle.std.specs.Prelude.{◌≡◌, ◌≢◌, ◌⊎◌, ℕ, ◌+◌, ◌-◌, ◌^◌, min, Bool, cond, ◌&&◌, ◌==◌, nat_lt, List, ◌++◌, length, take, drop}
+use Rattle.std.specs.Prelude.{◌≡◌, ◌≢◌, ◌⊎◌, ℕ, ◌+◌, ◌-◌, ◌^◌, min, Bool, cond, ◌&&◌}
+use Rattle.std.specs.Prelude.{◌==◌, nat_lt, List, ◌++◌, length, take, drop}
 use Rattle.std.specs.List.{list_any}
 use Rattle.heat_io.specs.declared.source.Got.{Got}
 use Rattle.heat_io.specs.declared.source.Got.TheVariants as got

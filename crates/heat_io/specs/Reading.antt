@@ -1,5 +1,6 @@
 -- What a reader of lines holds, and what the next line comes to.
-use Rattle.std.specs.Prelude.{◌≡◌, ℕ, ◌+◌, ◌<◌, ◌≤◌, Bool, true, false, List, [], ◌∷◌, ◌++◌, length, take, drop, Option, Some}
+use Rattle.std.specs.Prelude.{◌≡◌, ℕ, ◌+◌, ◌<◌, ◌≤◌, Bool, true, false, List, []}
+use Rattle.std.specs.Prelude.{◌∷◌, ◌++◌, length, take, drop, Option, Some}
 use Rattle.heat_io.specs.declared.next.Next.{Next}
 use Rattle.heat_io.specs.declared.next.Next.TheVariants as next
 use Rattle.heat_io.specs.Lines.{cut_lines, length_of_line, behind_line, size_of_line, line_limit, script_limit}
@@ -46,9 +47,12 @@ IsNextOf given old result new now =
 
 -- Lines that were read one after another, from a script of which so many bytes were given before.
 pub data Reads (given : ℕ) (bytes : List ℕ) : List (List ℕ) → List ℕ → ℕ → Type 0 where
-  begins : (lines : List (List ℕ)) (rest : List ℕ) (now : ℕ) → lines ≡ [] → rest ≡ bytes → now ≡ given → Reads given bytes lines rest now
-  adds : (before : List (List ℕ)) (ahead : List ℕ) (so_far : ℕ) (line : List ℕ) (lines : List (List ℕ)) (rest : List ℕ) (now : ℕ)
-      → Reads given bytes before ahead so_far → GivesLine so_far ahead line rest now → lines ≡ before ++ line ∷ [] → Reads given bytes lines rest now
+  begins : (lines : List (List ℕ)) (rest : List ℕ) (now : ℕ) → lines ≡ [] → rest ≡ bytes → now ≡ given
+      → Reads given bytes lines rest now
+  adds : (before : List (List ℕ)) (ahead : List ℕ) (so_far : ℕ) (line : List ℕ) (lines : List (List ℕ))
+      (rest : List ℕ) (now : ℕ)
+      → Reads given bytes before ahead so_far → GivesLine so_far ahead line rest now → lines ≡ before ++ line ∷ []
+      → Reads given bytes lines rest now
 
 -- They are the first lines of the script, and all of its bytes are counted.
 pub record AreLines (given : ℕ) (bytes : List ℕ) (lines : List (List ℕ)) (rest : List ℕ) (now : ℕ) : Type 0 where
@@ -66,8 +70,10 @@ is_line next.Memory = false
 -- A line of len bytes is given, which takes size bytes of the script, or there is no room or memory for it.
 abbrev pub IsGiven : ℕ → ℕ → Reader → Reader → Next → Type 0
 IsGiven len size old new (next.Line line) =
-    (line ≡ take len old.held) × (new.held ≡ drop size old.held) × (new.given ≡ old.given + size) × (new.given ≤ script_limit)
-IsGiven len size old new next.ScriptTooLong = (script_limit < old.given + size) × Stays old.given old.held new.held new.given
+    (line ≡ take len old.held) × (new.held ≡ drop size old.held) × (new.given ≡ old.given + size)
+    × (new.given ≤ script_limit)
+IsGiven len size old new next.ScriptTooLong =
+    (script_limit < old.given + size) × Stays old.given old.held new.held new.given
 IsGiven len size old new next.Memory = Stays old.given old.held new.held new.given
 IsGiven len size old new next.End = ⊥
 IsGiven len size old new next.LineTooLong = ⊥

@@ -1,5 +1,6 @@
 //! The bytes that were read and not given yet: at most a line and one read.
-ghost use Rattle.std.specs.Prelude.{◌≡◌, ℕ, ◌+◌, ◌≤◌, List, [], ◌++◌, length, take, drop, vec_len, vec_capacity, IfOk, OnOk, OnErr};
+ghost use Rattle.std.specs.Prelude.{◌≡◌, ℕ, ◌+◌, ◌≤◌, List, [], ◌++◌, length, take};
+ghost use Rattle.std.specs.Prelude.{drop, vec_len, vec_capacity, IfOk, OnOk, OnErr};
 ghost use Rattle.std.specs.List.{position};
 ghost use Rattle.heat_value.specs.Counts.{Rose};
 ghost use Rattle.heat_io.specs.Streams.{ahead};
@@ -16,7 +17,7 @@ pub const LINE_LIMIT: usize = 1_048_576;
 
 const PIECE: usize = 4_096;
 
-/// What one read came to.
+// What one read came to.
 #[derive(Clone, Copy, Debug, PartialEq, Eq)]
 pub(crate) enum Filled {
     More,
@@ -25,14 +26,14 @@ pub(crate) enum Filled {
     Memory,
 }
 
-/// Where the first line ends.
+// Where the first line ends.
 #[derive(Clone, Copy, Debug, PartialEq, Eq)]
 pub(crate) enum Found {
-    /// At an LF, behind so many bytes.
+    // At an LF, behind so many bytes.
     Lf(usize),
-    /// Where the source ends.
+    // Where the source ends.
     End,
-    /// Nowhere before the limit.
+    // Nowhere before the limit.
     TooLong,
     ReadFault,
     Memory,
@@ -79,7 +80,7 @@ impl HeldBytes {
         self.all.len() - self.from
     }
 
-    /// Gives the first `len` bytes, and takes the first `size` off.
+    // Gives the first `len` bytes, and takes the first `size` off.
     pub(crate) fn give(&mut self, len: usize, size: usize) -> Result<Seq<u8>, AllocError>
         requires len { len ≤ length self.old }
         requires size { size ≤ length self.old }
@@ -92,7 +93,7 @@ impl HeldBytes {
         Ok(Seq::from_vec(line))
     }
 
-    /// Reads on until the first line's end is held, or the line is too long.
+    // Reads on until the first line's end is held, or the line is too long.
     pub(crate) fn find<S: Source>(&mut self, source: &mut S) -> Found
         requires { length self.old ≤ most_held }
         ensures room { length self.new ≤ most_held }

@@ -1,7 +1,9 @@
 -- The codes of refusals.
 use Rattle.std.specs.Prelude.{ℕ, List, Option, Some, None, codes}
 use Rattle.heat_plan.specs.declared.refusal.Refusal.{Refusal}
-use Rattle.heat_plan.specs.declared.refusal.Refusal.TheVariants.{StackExists, NoStack, Deleting, TooManyStacks, TooManyRows, Worn, NoEngine, TooManyEngines, NotRunning, DiskFault, Memory}
+use Rattle.heat_plan.specs.declared.refusal.Refusal.TheVariants.{StackExists, NoStack, Deleting, TooManyStacks}
+use Rattle.heat_plan.specs.declared.refusal.Refusal.TheVariants.{TooManyRows, Worn, NoEngine, TooManyEngines}
+use Rattle.heat_plan.specs.declared.refusal.Refusal.TheVariants.{NotRunning, DiskFault, Memory}
 
 abbrev pub code_of : Refusal → Option (List ℕ)
 code_of StackExists = Some (codes "E10")

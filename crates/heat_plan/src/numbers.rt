@@ -1,5 +1,6 @@
 //! Numbers that are drawn in order from 1, are global, and are never used again: 1 to 2^62 - 1.
-ghost use Rattle.std.specs.Prelude.{◌≡◌, ◌≢◌, ◌↔◌, ◌<◌, ◌≤◌, ◌^◌, ℕ, IsTrue, IsNone, IfSome, SomeIff, decimal, slice_index};
+ghost use Rattle.std.specs.Prelude.{◌≡◌, ◌≢◌, ◌↔◌, ◌<◌, ◌≤◌, ◌^◌, ℕ, IsTrue, IsNone};
+ghost use Rattle.std.specs.Prelude.{IfSome, SomeIff, decimal, slice_index};
 ghost use Rattle.heat_plan.specs.Numbers.{IsNumber};
 
 use heat_value::Equals;

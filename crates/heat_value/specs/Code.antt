@@ -2,7 +2,8 @@
 use Rattle.std.specs.Prelude.{◌≡◌, ℕ, ℤ, pos, List, [], ◌∷◌, ◌++◌, Bool, false, cond, ◌==◌, refl}
 use Rattle.std.specs.Coded.{Coded, code_by, coded×, coded_ℕ, coded_ℤ, coded_bool, coded_list}
 use Rattle.std.proofs.Common.{ap, sym, ◌∙◌, append_assoc, append-nil}
-use Rattle.heat_value.specs.Data.{Data, null, flag, whole, words, items, fields, Nodes, no_nodes, node, Members, no_members, member}
+use Rattle.heat_value.specs.Data.{Data, null, flag, whole, words, items, fields, Nodes}
+use Rattle.heat_value.specs.Data.{no_nodes, node, Members, no_members, member}
 
 -- a kind, a flag, a number, a text
 abbrev pub Token : Type 0
@@ -71,8 +72,14 @@ push_member k (of_members ms ∷ st) = []
 
 abbrev step : Token → List Part → List Part
 step t st =
-    cond (t.0 == 0) (of_data null ∷ st) (cond (t.0 == 1) (of_data (flag t.1.0) ∷ st) (cond (t.0 == 2) (of_data (whole t.1.1.0) ∷ st) (cond (t.0 == 3) (of_data (words t.1.1.1) ∷ st)
-    (cond (t.0 == 4) (wrap_items st) (cond (t.0 == 5) (wrap_fields st) (cond (t.0 == 6) (of_nodes no_nodes ∷ st) (cond (t.0 == 7) (push_node st)
+    cond (t.0 == 0) (of_data null ∷ st)
+    (cond (t.0 == 1) (of_data (flag t.1.0) ∷ st)
+    (cond (t.0 == 2) (of_data (whole t.1.1.0) ∷ st)
+    (cond (t.0 == 3) (of_data (words t.1.1.1) ∷ st)
+    (cond (t.0 == 4) (wrap_items st)
+    (cond (t.0 == 5) (wrap_fields st)
+    (cond (t.0 == 6) (of_nodes no_nodes ∷ st)
+    (cond (t.0 == 7) (push_node st)
     (cond (t.0 == 8) (of_members no_members ∷ st) (push_member t.1.1.1 st)))))))))
 
 abbrev pub built : List Token → List Part
@@ -94,11 +101,13 @@ mutual
       ap (λ ts. push_node (built ts)) (append_assoc (tokens d) (nodes_tokens ns) rest)
       ∙ ap push_node (built-tokens d (nodes_tokens ns ++ rest)) ∙ ap (onto_nodes d) (built-nodes_tokens ns rest)
 
-  pub built-members_tokens : (ms : Members) (rest : List Token) → built (members_tokens ms ++ rest) ≡ of_members ms ∷ built rest
+  pub built-members_tokens : (ms : Members) (rest : List Token)
+      → built (members_tokens ms ++ rest) ≡ of_members ms ∷ built rest
   built-members_tokens no_members rest = refl
   built-members_tokens (member k d ms) rest =
       ap (λ ts. push_member k (built ts)) (append_assoc (tokens d) (members_tokens ms) rest)
-      ∙ ap (push_member k) (built-tokens d (members_tokens ms ++ rest)) ∙ ap (onto_members k d) (built-members_tokens ms rest)
+      ∙ ap (push_member k) (built-tokens d (members_tokens ms ++ rest))
+      ∙ ap (onto_members k d) (built-members_tokens ms rest)
 
 abbrev top_nodes : List Part → Nodes
 top_nodes [] = no_nodes
@@ -122,7 +131,8 @@ pub nodes_from-tokens : (ns : Nodes) → nodes_from (nodes_tokens ns) ≡ ns
 nodes_from-tokens ns = ap nodes_from (sym (append-nil (nodes_tokens ns))) ∙ ap top_nodes (built-nodes_tokens ns [])
 
 pub members_from-tokens : (ms : Members) → members_from (members_tokens ms) ≡ ms
-members_from-tokens ms = ap members_from (sym (append-nil (members_tokens ms))) ∙ ap top_members (built-members_tokens ms [])
+members_from-tokens ms =
+    ap members_from (sym (append-nil (members_tokens ms))) ∙ ap top_members (built-members_tokens ms [])
 
 abbrev pub token_code : Coded (List Token)
 token_code = coded_list (coded× coded_ℕ (coded× coded_bool (coded× coded_ℤ (coded_list coded_ℕ))))

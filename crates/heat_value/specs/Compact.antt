@@ -3,7 +3,8 @@ use Rattle.std.specs.Prelude.{ℕ, List, Bool}
 use Rattle.serde_json.specs.Data as json
 use Rattle.serde_json.specs.Find.{of_integer}
 use Rattle.serde_json.specs.Written.{compact_text, items_text, members_text}
-use Rattle.heat_value.specs.Data.{Data, null, flag, whole, words, items, fields, Nodes, no_nodes, node, Members, no_members, member}
+use Rattle.heat_value.specs.Data.{Data, null, flag, whole, words, items, fields, Nodes}
+use Rattle.heat_value.specs.Data.{no_nodes, node, Members, no_members, member}
 
 abbrev mutual
   pub json_of : Data → json.Data

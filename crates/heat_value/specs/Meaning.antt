@@ -1,6 +1,7 @@
 -- The data that a value stands for.
 use Rattle.std.specs.Prelude.{List, [], ◌∷◌, ℕ, ◌+◌}
-use Rattle.heat_value.specs.Data.{Data, null, flag, whole, words, items, fields, Nodes, no_nodes, node, Members, no_members, member}
+use Rattle.heat_value.specs.Data.{Data, null, flag, whole, words, items, fields, Nodes}
+use Rattle.heat_value.specs.Data.{no_nodes, node, Members, no_members, member}
 use Rattle.heat_value.specs.declared.value.Value.{Value}
 use Rattle.heat_value.specs.declared.value.Value.TheVariants as value
 use Rattle.heat_value.specs.declared.value.Member.{Member}

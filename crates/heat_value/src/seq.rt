@@ -1,5 +1,6 @@
 //! A list of any type, which contracts see as the list of its items: a `Vec` that clauses can compare.
-ghost use Rattle.std.specs.Prelude.{◌≡◌, ◌==◌, ◌<◌, ◌≤◌, [], ◌∷◌, ◌++◌, length, OnOk, OnErr, IfOk, Some, slice_get, slice_set, remove, insert, take};
+ghost use Rattle.std.specs.Prelude.{◌≡◌, ◌==◌, ◌<◌, ◌≤◌, [], ◌∷◌, ◌++◌, length, OnOk, OnErr};
+ghost use Rattle.std.specs.Prelude.{IfOk, Some, slice_get, slice_set, remove, insert, take};
 
 use crate::{Equals, TryCopy};
 use std::alloc::{AllocError, Global};

@@ -1,32 +1,29 @@
 //! What no clause says: catalogues from outside, in single quotes; each fault with its path, and beside
-//! the next one; the limits.
-ghost use Rattle.type_catalog.specs.Changes.{ChangeOf};
-
+//! the next one; the limits. Want of memory is told as such, and asked once more.
 use crate::{Catalog, CatalogFault};
-use heat_plan::Properties;
-use heat_value::{Seq, Text, Value};
-use hot_registry::{Change, Judge, Registry, box_kind};
+use heat_value::{Text, Value, ValueFault};
+use hot_registry::shipped_registry;
 use std::alloc::{AllocError, Global};
 use std::test::Fail;
-use type_catalog::{Effect, change_of};
 
 type Row = (&'static str, &'static str);
 
 // A fault's code and path.
 fn words_of(alloc: Global, fault: &CatalogFault) -> Result<String, AllocError> {
-    let mut words = String::from_str(alloc, fault.code().unwrap_or("memory"))?;
-    if let Some(path) = fault.path() {
-        words.push_str(" ")?;
-        words.push_str(path.text(alloc)?.as_str())?;
-    }
-    words.replace(alloc, "\"", "'")
+    let (Some(code), Some(path)) = (fault.code(), fault.path()) else {
+        return Err(AllocError);
+    };
+    let path = path.text(alloc)?;
+    format!(in alloc; "{} {}", code, path.as_str())?.replace(alloc, "\"", "'")
 }
 
 // What a text in single quotes is read as into the catalogue, in words.
 fn told(alloc: Global, catalog: &mut Catalog, text: &str) -> Result<String, AllocError> {
     let text = text.replace(alloc, "'", "\"")?;
-    let Ok(value) = Value::read(alloc, text.as_bytes()) else {
-        return String::from_str(alloc, "unread");
+    let value = match Value::read(alloc, text.as_bytes()) {
+        Ok(value) => value,
+        Err(ValueFault::Memory) => return Err(AllocError),
+        Err(_) => return String::from_str(alloc, "unread"),
     };
     match catalog.read(alloc, &value) {
         Ok(()) => String::from_str(alloc, "taken"),
@@ -34,11 +31,19 @@ fn told(alloc: Global, catalog: &mut Catalog, text: &str) -> Result<String, Allo
     }
 }
 
-// The first row that is told otherwise, each read into the catalogue of a registry by itself.
-fn first_wrong(alloc: Global, registry: &Registry, rows: &[Row]) -> Result<String, AllocError> {
+// What a text is read as into a catalogue of the shipped kinds alone.
+fn told_alone(alloc: Global, text: &str) -> Result<String, AllocError> {
+    let mut catalog = Catalog::new(alloc, &shipped_registry(alloc)?)?;
+    told(alloc, &mut catalog, text)
+}
+
+// The first row that is told otherwise, each read by itself; once more where memory was wanted.
+fn wrong_among(alloc: Global, rows: &[Row]) -> Result<String, AllocError> {
     for (text, wanted) in rows {
-        let mut catalog = Catalog::new(alloc, registry)?;
-        let told = told(alloc, &mut catalog, text)?;
+        let told = match told_alone(alloc, text) {
+            Ok(told) => told,
+            Err(_) => told_alone(alloc, text)?,
+        };
         if told.as_str() != *wanted {
             return format!(in alloc; "{}: {}", *text, told.as_str());
         }
@@ -48,8 +53,9 @@ fn first_wrong(alloc: Global, registry: &Registry, rows: &[Row]) -> Result<Strin
 
 #[test]
 fn catalogues_have_their_paths(rt: HostRuntime) -> Result<(), Fail> {
-    let rows: [Row; 17] = [
+    let rows: [Row; 20] = [
         ("[]", "L09 []"),
+        ("null", "L09 []"),
         ("{}", "taken"),
         ("{'K':1}", "L09 ['K']"),
         ("{'K k':1}", "L09 ['K k']"),
@@ -77,22 +83,12 @@ fn catalogues_have_their_paths(rt: HostRuntime) -> Result<(), Fail> {
             "L09 ['Test::Box','attributes']",
         ),
         ("{'Test::Box':{},'A b':{}}", "L09 ['A b']"),
+        ("{'Test::Box':{},'U':1}", "L09 ['Test::Box']"),
+        ("{'K k':{'attributes':1},'L':1}", "L09 ['K k']"),
         ("{'A-_.:1':{},'Z':{'attributes':['b','a','b']}}", "taken"),
     ];
-    let kind = box_kind(rt.alloc())?;
-    let softs = kind.softs()?;
-    let change: Change = Box::new(
-        rt.alloc(),
-        move |old: &Properties, new: &Properties| -> Effect
-            ensures { ∥ ChangeOf softs old.now new.now result ∥₁ }
-        { change_of(softs.as_slice(), old, new) },
-    )?;
-    let mut judges = Seq::new(rt.alloc());
-    judges.push(Judge::new(kind, change))?;
-    if let Some(registry) = Registry::new(judges, Seq::new(rt.alloc())) {
-        let wrong = first_wrong(rt.alloc(), &registry, &rows)?;
-        assert_eq!(rt; wrong.as_str(), "");
-    }
+    let wrong = wrong_among(rt.alloc(), &rows)?;
+    assert_eq!(rt; wrong.as_str(), "");
     Ok(())
 }
 
@@ -123,17 +119,10 @@ fn limit(
     close: &str,
     count: u32,
 ) -> Result<String, AllocError> {
-    let Some(registry) = Registry::new(Seq::new(alloc), Seq::new(alloc)) else {
-        return String::from_str(alloc, "no registry");
-    };
-    let mut catalog = Catalog::new(alloc, &registry)?;
-    told(
-        alloc,
-        &mut catalog,
-        counted(alloc, open, part, close, count)?.as_str(),
-    )
+    told_alone(alloc, counted(alloc, open, part, close, count)?.as_str())
 }
 
+// The kind of the registry counts among the 256.
 #[test]
 fn limits_are_exact(rt: HostRuntime) -> Result<(), Fail> {
     let rows = [
@@ -146,11 +135,14 @@ fn limits_are_exact(rt: HostRuntime) -> Result<(), Fail> {
             "L09 ['K','attributes']",
         ),
         ("{'K':{'attributes':['k0',", "", "]}}", 64, "taken"),
-        ("{", ":{}", "}", 256, "taken"),
-        ("{", ":{}", "}", 257, "L09 []"),
+        ("{", ":{}", "}", 255, "taken"),
+        ("{", ":{}", "}", 256, "L09 []"),
     ];
     for (open, part, close, count, wanted) in rows {
-        let told = limit(rt.alloc(), open, part, close, count)?;
+        let told = match limit(rt.alloc(), open, part, close, count) {
+            Ok(told) => told,
+            Err(_) => limit(rt.alloc(), open, part, close, count)?,
+        };
         assert_eq!(rt; told.as_str(), wanted, "{count}");
     }
     Ok(())
@@ -162,16 +154,23 @@ fn count_of(alloc: Global, catalog: &Catalog, name: &str) -> Result<Option<usize
     Ok(catalog.kind(&name).map(|kind| kind.attrs.len()))
 }
 
-// The attributes of K after these texts were read in turn.
+// The attributes of K after these texts were read in turn, each once more where memory was wanted.
 fn after(alloc: Global, texts: &[&str]) -> Result<Option<usize>, AllocError> {
-    let Some(registry) = Registry::new(Seq::new(alloc), Seq::new(alloc)) else {
-        return Ok(None);
-    };
-    let mut catalog = Catalog::new(alloc, &registry)?;
+    let mut catalog = Catalog::new(alloc, &shipped_registry(alloc)?)?;
     for text in texts {
-        told(alloc, &mut catalog, text)?;
+        if told(alloc, &mut catalog, text).is_err() {
+            told(alloc, &mut catalog, text)?;
+        }
     }
     count_of(alloc, &catalog, "K")
+}
+
+// The same, once more where memory was wanted.
+fn attributes_after(alloc: Global, texts: &[&str]) -> Result<Option<usize>, AllocError> {
+    match after(alloc, texts) {
+        Ok(count) => Ok(count),
+        Err(_) => after(alloc, texts),
+    }
 }
 
 #[test]
@@ -179,8 +178,8 @@ fn a_later_kind_replaces(rt: HostRuntime) -> Result<(), Fail> {
     let first = "{'K':{'attributes':['a']},'L':{}}";
     let later = "{'K':{'attributes':['a','b']}}";
     let wrong = "{'K':{'attributes':['a','b','c']},'L':1}";
-    assert_eq!(rt; after(rt.alloc(), &[first, later])?, Some(2));
-    assert_eq!(rt; after(rt.alloc(), &[first, wrong])?, Some(1));
-    assert_eq!(rt; after(rt.alloc(), &[])?, None);
+    assert_eq!(rt; attributes_after(rt.alloc(), &[first, later])?, Some(2));
+    assert_eq!(rt; attributes_after(rt.alloc(), &[first, wrong])?, Some(1));
+    assert_eq!(rt; attributes_after(rt.alloc(), &[])?, None);
     Ok(())
 }

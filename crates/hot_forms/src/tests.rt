@@ -1,6 +1,7 @@
-//! What no clause says: sections and parameters from outside, in single quotes.
+//! What no clause says: sections and parameters from outside, in single quotes. Want of memory is told as
+//! such, and asked once more.
 use crate::{Flaw, parameter_flaw, sections_flaw};
-use heat_value::{Text, Value};
+use heat_value::{Text, Value, ValueFault};
 use std::alloc::{AllocError, Global};
 use std::test::Fail;
 
@@ -24,11 +25,20 @@ fn judged(alloc: Global, name: Option<&str>, value: &Value) -> Result<String, Al
     words_of(alloc, &found)
 }
 
-fn told(alloc: Global, name: Option<&str>, text: &str) -> Result<String, AllocError> {
+fn told_once(alloc: Global, name: Option<&str>, text: &str) -> Result<String, AllocError> {
     let text = text.replace(alloc, "'", "\"")?;
     match Value::read(alloc, text.as_bytes()) {
         Ok(value) => judged(alloc, name, &value),
+        Err(ValueFault::Memory) => Err(AllocError),
         Err(_) => String::from_str(alloc, "unread"),
+    }
+}
+
+// The same, once more where memory was wanted.
+fn told(alloc: Global, name: Option<&str>, text: &str) -> Result<String, AllocError> {
+    match told_once(alloc, name, text) {
+        Ok(told) => Ok(told),
+        Err(_) => told_once(alloc, name, text),
     }
 }
 

@@ -158,8 +158,8 @@ fn is_known(known: &[&str], member: &Member) -> bool
     is_among(known, member.key.as_str())
 }
 
-// Whether a key stands.
-fn stands(key: &str, members: &[Member]) -> bool
+/// Whether a key stands.
+pub fn stands(key: &str, members: &[Member]) -> bool
     ensures { result ≡ the_stands key.now (members_of members.now) }
 {
     for member in members {

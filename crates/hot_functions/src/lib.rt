@@ -12,7 +12,9 @@ mod reference;
 mod tests;
 mod walk;
 
+pub use argument::{has_form, stands};
 pub use condition::is_condition;
+pub use form::{Form, condition_form_of, form_of, lone};
 pub use place::Place;
 pub use reference::reference_in;
 pub use walk::{members_flaw, value_flaw};

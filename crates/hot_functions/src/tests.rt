@@ -1,7 +1,7 @@
 //! What no clause says: values and conditions from outside, in single quotes, among the parameter `p`
-//! and the condition `c`.
+//! and the condition `c`. Want of memory is told as such, and asked once more.
 use crate::{Place, is_condition, reference_in, value_flaw};
-use heat_value::{Props, Text, Value};
+use heat_value::{Props, Text, Value, ValueFault};
 use hot_forms::Flaw;
 use std::alloc::{AllocError, Global};
 use std::test::Fail;
@@ -29,11 +29,28 @@ fn judged(alloc: Global, place: Place, value: &Value) -> Result<String, AllocErr
     words_of(alloc, &value_flaw(alloc, &params, &conds, place, value)?)
 }
 
-fn told(alloc: Global, place: Place, text: &str) -> Result<String, AllocError> {
+// A text in single quotes, read; none where it is no value.
+fn value_of(alloc: Global, text: &str) -> Result<Option<Value>, AllocError> {
     let text = text.replace(alloc, "'", "\"")?;
     match Value::read(alloc, text.as_bytes()) {
-        Ok(value) => judged(alloc, place, &value),
-        Err(_) => String::from_str(alloc, "unread"),
+        Ok(value) => Ok(Some(value)),
+        Err(ValueFault::Memory) => Err(AllocError),
+        Err(_) => Ok(None),
+    }
+}
+
+fn told_once(alloc: Global, place: Place, text: &str) -> Result<String, AllocError> {
+    match value_of(alloc, text)? {
+        Some(value) => judged(alloc, place, &value),
+        None => String::from_str(alloc, "unread"),
+    }
+}
+
+// The same, once more where memory was wanted.
+fn told(alloc: Global, place: Place, text: &str) -> Result<String, AllocError> {
+    match told_once(alloc, place, text) {
+        Ok(told) => Ok(told),
+        Err(_) => told_once(alloc, place, text),
     }
 }
 
@@ -129,15 +146,22 @@ fn conditions_have_their_codes(rt: HostRuntime) -> Result<(), Fail> {
 }
 
 // Whether a value is a condition, and its first reference.
-fn looked_at(alloc: Global, text: &str) -> Result<String, AllocError> {
-    let text = text.replace(alloc, "'", "\"")?;
-    let Ok(value) = Value::read(alloc, text.as_bytes()) else {
+fn looked_once(alloc: Global, text: &str) -> Result<String, AllocError> {
+    let Some(value) = value_of(alloc, text)? else {
         return String::from_str(alloc, "unread");
     };
     if !is_condition(&value) {
         return String::from_str(alloc, "none");
     }
     words_of(alloc, &reference_in(alloc, &value)?)
+}
+
+// The same, once more where memory was wanted.
+fn looked_at(alloc: Global, text: &str) -> Result<String, AllocError> {
+    match looked_once(alloc, text) {
+        Ok(told) => Ok(told),
+        Err(_) => looked_once(alloc, text),
+    }
 }
 
 #[test]

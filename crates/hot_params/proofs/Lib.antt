@@ -5,6 +5,8 @@ pub mod Pieces
 pub mod Refused
 pub mod Readings
 pub mod Sames
+pub mod OneValue
+pub mod Typed
 pub mod Counts
 pub mod Wholes
 pub mod Faults

@@ -10,7 +10,7 @@ use Rattle.hot_forms.specs.declared.sort.Sort.TheVariants as sort
 use Rattle.hot_params.specs.Conversions.{IsJsonOf, collected, IsConversion}
 
 -- a text is read as one thing
-one_reading : (s : List ℕ) (d e : json.Data) → IsReading s d → IsReading s e → d ≡ e
+pub one_reading : (s : List ℕ) (d e : json.Data) → IsReading s d → IsReading s e → d ≡ e
 one_reading s d e a b = let same : Some d ≡ Some e = sym a.1 ∙ b.1 in cc
 
 pub unread : (s : List ℕ) → HasNoReading s → (v : Data) → ¬ IsJsonOf (words s) v

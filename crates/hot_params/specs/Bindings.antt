@@ -5,9 +5,10 @@ use Rattle.hot_forms.specs.Parameters.{sort_in, nodes_in}
 use Rattle.hot_forms.specs.Sections.{unless_null}
 use Rattle.hot_forms.specs.Shapes.{members_in}
 use Rattle.hot_forms.specs.declared.sort.Sort.{Sort}
+use Rattle.hot_parts.specs.Constraints.{asked_in}
 use Rattle.hot_params.specs.Codes.{at_parameter, at_constraint}
 use Rattle.hot_params.specs.Conversions.{ConvertsTo}
-use Rattle.hot_params.specs.Rules.{GivesFor, asked_in}
+use Rattle.hot_params.specs.Rules.{GivesFor}
 use Rattle.hot_params.specs.declared.code.ParamCode.{ParamCode}
 use Rattle.hot_params.specs.declared.code.ParamCode.TheVariants.{P01, P03}
 use Rattle.hot_params.specs.declared.fault.ParamFlaw.{ParamFlaw}

@@ -5,5 +5,6 @@ pub mod Sizes
 pub mod Patterns
 pub mod Rules
 pub mod Bindings
+pub mod Typed
 pub mod Identity
 pub mod Bound

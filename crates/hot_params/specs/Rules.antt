@@ -2,8 +2,6 @@
 use Rattle.std.specs.Prelude.{◌≡◌, ◌⊎◌, ℕ, pos, List, [], ◌∷◌, Option, Some, None, ⊤}
 use Rattle.std.specs.List.{list_all}
 use Rattle.heat_value.specs.Data.{Data, null, flag, whole, words, items, fields, Nodes, no_nodes, node}
-use Rattle.heat_value.specs.Data.{Members, no_members, member}
-use Rattle.hot_forms.specs.Constraints.{rule_of}
 use Rattle.hot_forms.specs.Parameters.{nodes_in}
 use Rattle.hot_forms.specs.Shapes.{members_in}
 use Rattle.hot_forms.specs.declared.rule.Rule.{Rule}
@@ -93,12 +91,7 @@ abbrev pub asked_of : Option NamedTest → List (List ℕ) → Option ParamCode
 asked_of None texts = Some P05
 asked_of (Some test) texts = unless (list_all (is_listed test.allowed) texts) P04
 
--- ---- a constraint, by its key and argument
-
--- the key, where it names a constraint, with its argument; else what is found behind it
-abbrev pub with_key : Option Rule → Data → Option (Rule × Data) → Option (Rule × Data)
-with_key None a rest = rest
-with_key (Some r) a rest = Some (r, a)
+-- ---- a constraint, by its rule and argument
 
 -- what the constraint gives for a value of the type: nothing where it is met, else a code
 abbrev pub Gives : List NamedTest → Option Sort → Rule → Data → Data → Option ParamCode → Type 0
@@ -108,11 +101,6 @@ Gives customs s rule.Modulo a v c = c ≡ unless (of_whole (is_remainder (member
 Gives customs s rule.Values a v c = IsAllowing s (nodes_in (Some a)) v c
 Gives customs s rule.Pattern a v c = IsMatching (text_in a) (texts_in v) c
 Gives customs s rule.Custom a v c = c ≡ asked_of (test_named (text_in a) customs) (texts_in v)
-
--- a constraint's key and argument
-abbrev pub asked_in : Members → Option (Rule × Data)
-asked_in no_members = None
-asked_in (member k a ms) = with_key (rule_of k) a (asked_in ms)
 
 -- what an entry of `constraints` gives
 abbrev pub GivesFor : List NamedTest → Option Sort → Option (Rule × Data) → Data → Option ParamCode → Type 0

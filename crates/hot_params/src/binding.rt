@@ -1,11 +1,17 @@
 //! All parameters of a template.
-ghost use Rattle.std.specs.Prelude.{◌≡◌, ◌≤◌, IfOk, IfErr, map, option_map};
-ghost use Rattle.heat_value.specs.Data.{no_members, members_depth};
+ghost use Rattle.std.specs.Prelude.{◌≡◌, ◌≤◌, Option, IfOk, IfErr, map, option_map};
+ghost use Rattle.heat_value.specs.Data.{Data, no_members, members_depth};
 ghost use Rattle.heat_value.specs.Meaning.{data_of};
+ghost use Rattle.hot_forms.specs.declared.sort.Sort.{Sort as sort_type};
+ghost use Rattle.hot_forms.specs.Shapes.{members_in};
+ghost use Rattle.hot_parts.specs.Entries.{IsParam};
+ghost use Rattle.hot_parts.specs.declared.param.Param.{Param as param_type};
 ghost use Rattle.hot_tree.specs.Functions.{members_there as the_members_there};
 ghost use Rattle.hot_params.specs.Bindings.{AreBound, IsFirstFault};
 ghost use Rattle.hot_params.specs.Bound.{IsBoundTo, IsFaultOf, params_of as the_params_of};
 ghost use Rattle.hot_params.specs.Bound.{unknown_name as the_unknown_name};
+ghost use Rattle.hot_params.specs.Conversions.{ConvertsTo};
+ghost use Rattle.hot_params.specs.Typed.{SaysTheSame};
 
 use crate::identity::with_pseudo;
 use crate::parameter::{entry_value, fault_at};
@@ -34,6 +40,12 @@ pub fn bind(
     // Where what is given and the template nest at most 64 deep, each bound value does too.
     ensures depth { IfOk result (λ b. members_depth given.now ≤ 64
         → members_depth template.now ≤ 64 → members_depth b.params ≤ 64) }
+
+    // A value converts to one value alone, so what a parameter is bound to is one value.
+    ensures one { (s : Option sort_type) (d v w : Data) → ConvertsTo s d v → ConvertsTo s d w → v ≡ w }
+
+    // A template's parameters by type say the same as those of its object, which are bound.
+    ensures typed { (name : _) (d : Data) (p : param_type) → IsParam name d p → SaysTheSame (members_in d) p }
 {
     bound_to(alloc, template, given, ids, registry)
 }

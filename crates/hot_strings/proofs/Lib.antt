@@ -6,4 +6,6 @@ pub mod Passed
 pub mod Characters
 pub mod KeyLemmas
 pub mod PieceLemmas
+pub mod Listings
 pub mod Weights
+pub mod AnswerLemmas

@@ -3,10 +3,10 @@ use Rattle.std.proofs.Common.{◌≡◌, ◌≢◌, ◌<◌, ◌≤◌, ℕ, zer
 use lib.Utf8.{scalar as scalar_of, scalars}
 use Rattle.std.proofs.lemmas.Grind.{flat_map-append}
 use Rattle.heat_value.specs.Data.{words}
-use Rattle.hot_strings.specs.Faults.{IsOfResult}
+use Rattle.hot_strings.specs.Faults.{IsOfLimit}
 use Rattle.hot_strings.specs.declared.fault.StringFault.{StringFault}
 use Rattle.hot_strings.specs.declared.fault.StringFault.TheVariants.{F02, F03, F04, F06, Memory}
-use Rattle.hot_strings.proofs.Sizes.{IsTooLong-append}
+use Rattle.hot_strings.proofs.Sizes.{IsLongerThan-append}
 use Rattle.std.specs.Bool.{IsTrue}
 use Rattle.std.specs.Result.{OnOk}
 use Rattle.std.specs.List.{All}
@@ -16,7 +16,7 @@ use Rattle.std.proofs.lemmas.List.Elements.{All-contains}
 use Rattle.std.proofs.lemmas.Str.{encode_same}
 use Rattle.hot_strings.specs.Only.{HoldsOfOne}
 use Rattle.hot_strings.specs.Places.{Begins}
-use Rattle.hot_strings.specs.Pieces.{Params, Piece, key, character, source, target, IsLongestKey, NoKeyBegins, IsFirstPiece, ArePieces, AreDistinct, HasNoEmptyKey, HasEveryKey, replaced, IsOfReplaced, IsReplaceFault}
+use Rattle.hot_strings.specs.Pieces.{Params, Piece, key, character, source, target, IsLongestKey, NoKeyBegins, IsFirstPiece, ArePieces, AreDistinct, HasNoEmptyKey, HasEveryKey, replaced, IsOfReplaced, IsReplaceFault, IsWithinFault}
 use Rattle.hot_strings.proofs.Characters.{IsUtf8-behind, encode_some}
 use Rattle.hot_strings.proofs.KeyLemmas.{longest_key, IsLongestKey-same, key_some}
 
@@ -32,7 +32,7 @@ length-behind p s rest some e = go (source p) some e
     go [] some e = absurd (some refl)
     go (x ∷ front) some e = omega (arith, ap length e, length-append front rest)
 
-both_true : (a b : Bool) → (a && b) ≡ true → (a ≡ true) × (b ≡ true)
+pub both_true : (a b : Bool) → (a && b) ≡ true → (a ≡ true) × (b ≡ true)
 both_true true b e = (refl, e)
 both_true false b e = cc
 
@@ -99,22 +99,29 @@ pub replaced-push : (done : List Piece) (p : Piece) → replaced (done ++ p ∷ 
 replaced-push done p = flat_map-append target done (p ∷ []) ∙ ap (λ t. replaced done ++ t) (append-nil (target p))
 
 -- the push that found no room, or no memory
-pub push_refused : (e : StringFault) (params : Params) (s : List ℕ) (done ps : List Piece) → ArePieces params s (done ++ ps) → IsOfResult e (words (replaced done)) → IsOfReplaced e params s
-push_refused F02 params s done ps pieces h = h
-push_refused F03 params s done ps pieces h = h
-push_refused F04 params s done ps pieces h = h
-push_refused F06 params s done ps pieces h =
-    (replaced (done ++ ps), (done ++ ps, pieces, refl), rw (flat_map-append target done ps) (IsTooLong-append (replaced done) (replaced ps) h))
-push_refused Memory params s done ps pieces h = h
+pub push_refused : (e : StringFault) (limit : ℕ) (params : Params) (s : List ℕ) (done ps : List Piece) → ArePieces params s (done ++ ps) → IsOfLimit e limit (words (replaced done)) → IsOfReplaced e limit params s
+push_refused F02 limit params s done ps pieces h = h
+push_refused F03 limit params s done ps pieces h = h
+push_refused F04 limit params s done ps pieces h = h
+push_refused F06 limit params s done ps pieces h =
+    (replaced (done ++ ps), (done ++ ps, pieces, refl), rw (flat_map-append target done ps) (IsLongerThan-append limit (replaced done) (replaced ps) h))
+push_refused Memory limit params s done ps pieces h = h
 
 -- behind the checks of the keys only the result has faults
-pub IsReplaceFault-checked : (e : StringFault) (params : Params) (s : List ℕ) (strict : Bool) → HasNoEmptyKey params → (IsTrue strict → HasEveryKey params s) → IsOfReplaced e params s
+pub IsReplaceFault-checked : (e : StringFault) (params : Params) (s : List ℕ) (strict : Bool) → HasNoEmptyKey params → (IsTrue strict → HasEveryKey params s) → IsOfReplaced e 1048576 params s
     → IsReplaceFault e params s strict
 IsReplaceFault-checked F02 params s strict some all h = h
 IsReplaceFault-checked F03 params s strict some all h = absurd h
 IsReplaceFault-checked F04 params s strict some all h = absurd h
 IsReplaceFault-checked F06 params s strict some all h = (some, all, h)
 IsReplaceFault-checked Memory params s strict some all h = h
+
+pub IsWithinFault-checked : (e : StringFault) (limit : ℕ) (params : Params) (s : List ℕ) → HasNoEmptyKey params → IsOfReplaced e limit params s → IsWithinFault e limit params s
+IsWithinFault-checked F02 limit params s some h = h
+IsWithinFault-checked F03 limit params s some h = absurd h
+IsWithinFault-checked F04 limit params s some h = h
+IsWithinFault-checked F06 limit params s some h = (some, h)
+IsWithinFault-checked Memory limit params s some h = h
 
 pub OnOk-always : {T E P : Type 0} (r : Result T E) → P → OnOk r P
 OnOk-always (Ok v) h = h

@@ -4,8 +4,8 @@ use Rattle.std.proofs.lemmas.Grind.{flat_map-append}
 use Rattle.json.specs.Print.{escape_byte, escape, quoted}
 use Rattle.heat_value.specs.Compact.{compact, nodes_text}
 use Rattle.heat_value.specs.Data.{Data, words, items, Nodes, no_nodes, node, node_last}
-use Rattle.hot_strings.specs.Size.{IsTooLong}
-use Rattle.hot_strings.specs.Faults.{IsOfResult}
+use Rattle.hot_strings.specs.Size.{IsTooLong, IsLongerThan}
+use Rattle.hot_strings.specs.Faults.{IsOfLimit}
 use Rattle.hot_strings.specs.declared.fault.StringFault.{StringFault}
 use Rattle.hot_strings.specs.declared.fault.StringFault.TheVariants.{F02, F03, F04, F06, Memory}
 
@@ -19,16 +19,16 @@ pub length-quoted-append : (s t : List ℕ) → length (quoted (s ++ t)) ≡ len
 length-quoted-append s t = omega (arith, length-quoted s, length-quoted (s ++ t), length-escape-append s t)
 
 -- what is too long stays so with more behind it
-pub IsTooLong-append : (s t : List ℕ) → IsTooLong (words s) → IsTooLong (words (s ++ t))
-IsTooLong-append s t h = omega (arith, length-quoted-append s t)
+pub IsLongerThan-append : (limit : ℕ) (s t : List ℕ) → IsLongerThan limit (words s) → IsLongerThan limit (words (s ++ t))
+IsLongerThan-append limit s t h = omega (arith, length-quoted-append s t)
 
 -- a part that ends a draft ends what begins with both
-pub IsOfResult-append : (e : StringFault) (s t whole : List ℕ) → whole ≡ s ++ t → IsOfResult e (words s) → IsOfResult e (words whole)
-IsOfResult-append F02 s t whole is h = h
-IsOfResult-append F03 s t whole is h = h
-IsOfResult-append F04 s t whole is h = h
-IsOfResult-append F06 s t whole is h = rw is (IsTooLong-append s t h)
-IsOfResult-append Memory s t whole is h = h
+pub IsOfLimit-append : (e : StringFault) (limit known : ℕ) (s t whole : List ℕ) → limit ≡ known → whole ≡ s ++ t → IsOfLimit e limit (words s) → IsOfLimit e known (words whole)
+IsOfLimit-append F02 limit known s t whole same is h = h
+IsOfLimit-append F03 limit known s t whole same is h = h
+IsOfLimit-append F04 limit known s t whole same is h = h
+IsOfLimit-append F06 limit known s t whole same is h = rw (is, ← same) (IsLongerThan-append limit s t h)
+IsOfLimit-append Memory limit known s t whole same is h = h
 
 -- a list's text is as long as that of a part behind others
 pub length-nodes_text-true : (ns : Nodes) → ns ≢ no_nodes → length (nodes_text true ns) ≡ length (compact (items ns))

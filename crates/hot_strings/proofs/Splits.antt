@@ -75,5 +75,3 @@ pub length-texts-append : (ps qs : List (List ℕ)) → length (nodes_text true 
 length-texts-append [] [] = omega arith
 length-texts-append [] (q ∷ qs) = omega (arith, length-append (compact (words q)) (nodes_text true (texts qs)))
 length-texts-append (p ∷ ps) qs = omega (arith, length-texts-append ps qs, length-append (compact (words p)) (nodes_text true (texts ps)), length-append (compact (words p)) (nodes_text true (texts (ps ++ qs))))
-
-pub ruleset for_split = (AreSplit-one, joined-AreSplit)

@@ -1,7 +1,7 @@
 -- The faults' codes, and the causes of each call's faults.
 use Rattle.std.specs.Prelude.{ℕ, List, Option, Some, None, codes, ⊤}
 use Rattle.heat_value.specs.Data.{Data}
-use Rattle.hot_strings.specs.Size.{IsTooLong}
+use Rattle.hot_strings.specs.Size.{IsLongerThan}
 use Rattle.hot_strings.specs.declared.fault.StringFault.{StringFault}
 use Rattle.hot_strings.specs.declared.fault.StringFault.TheVariants.{F02, F03, F04, F06, Memory}
 
@@ -12,10 +12,14 @@ code_of F04 = Some (codes "F04")
 code_of F06 = Some (codes "F06")
 code_of Memory = None
 
--- a fault that only the result can have: it is too long, or there was no memory
+-- a fault that only the result can have: it is longer than it may be, or there was no memory
+abbrev pub IsOfLimit : StringFault → ℕ → Data → Type 0
+IsOfLimit F02 limit d = ⊥
+IsOfLimit F03 limit d = ⊥
+IsOfLimit F04 limit d = ⊥
+IsOfLimit F06 limit d = IsLongerThan limit d
+IsOfLimit Memory limit d = ⊤
+
+-- the same of a function's result
 abbrev pub IsOfResult : StringFault → Data → Type 0
-IsOfResult F02 d = ⊥
-IsOfResult F03 d = ⊥
-IsOfResult F04 d = ⊥
-IsOfResult F06 d = IsTooLong d
-IsOfResult Memory d = ⊤
+IsOfResult e d = IsOfLimit e 1048576 d

@@ -6,3 +6,5 @@ pub mod Split
 pub mod Pieces
 pub mod Digest
 pub mod Faults
+pub mod Indexes
+pub mod Answers

@@ -1,9 +1,10 @@
 -- The pieces of a template, what stands in their place, and when each fault of a replacement comes.
-use Rattle.std.specs.Prelude.{◌≡◌, ◌≢◌, ◌≤◌, ℕ, Bool, List, [], ◌∷◌, ◌++◌, length, All, Any, Contains, flat_map, encode_utf8, IsTrue, ⊤}
+use Rattle.std.specs.Prelude.{◌≡◌, ◌≢◌, ◌≤◌, ℕ, Bool, List, [], ◌∷◌, ◌++◌, length, All}
+use Rattle.std.specs.Prelude.{Any, Contains, flat_map, encode_utf8, IsTrue, ⊤}
 use Rattle.std.specs.Char.{IsScalar}
 use Rattle.heat_value.specs.Data.{words}
 use Rattle.hot_strings.specs.Places.{Begins, IsPart, Lacks}
-use Rattle.hot_strings.specs.Size.{IsTooLong}
+use Rattle.hot_strings.specs.Size.{IsLongerThan}
 use Rattle.hot_strings.specs.declared.fault.StringFault.{StringFault}
 use Rattle.hot_strings.specs.declared.fault.StringFault.TheVariants.{F02, F03, F04, F06, Memory}
 
@@ -73,9 +74,12 @@ LacksSomeKey params s = Any (λ p. Lacks p.0 s) params
 abbrev pub HasEveryKey : Params → List ℕ → Type 0
 HasEveryKey params s = All (λ p. IsPart p.0 s) params
 
--- the result passes the limit
+-- the result is longer than it may be
+abbrev pub IsReplacedLonger : ℕ → Params → List ℕ → Type 0
+IsReplacedLonger limit params s = (r : List ℕ) × IsReplaced params s r × IsLongerThan limit (words r)
+
 abbrev pub IsReplacedTooLong : Params → List ℕ → Type 0
-IsReplacedTooLong params s = (r : List ℕ) × IsReplaced params s r × IsTooLong (words r)
+IsReplacedTooLong params s = IsReplacedLonger 1048576 params s
 
 -- when each fault comes; of two the one above
 abbrev pub IsReplaceFault : StringFault → Params → List ℕ → Bool → Type 0
@@ -86,10 +90,18 @@ IsReplaceFault F06 params s strict =
     HasNoEmptyKey params × (IsTrue strict → HasEveryKey params s) × IsReplacedTooLong params s
 IsReplaceFault Memory params s strict = ⊤
 
+-- when each fault of a replacement without results' limit comes
+abbrev pub IsWithinFault : StringFault → ℕ → Params → List ℕ → Type 0
+IsWithinFault F02 limit params s = ⊥
+IsWithinFault F03 limit params s = HasEmptyKey params
+IsWithinFault F04 limit params s = ⊥
+IsWithinFault F06 limit params s = HasNoEmptyKey params × IsReplacedLonger limit params s
+IsWithinFault Memory limit params s = ⊤
+
 -- a fault that only the result can have
-abbrev pub IsOfReplaced : StringFault → Params → List ℕ → Type 0
-IsOfReplaced F02 params s = ⊥
-IsOfReplaced F03 params s = ⊥
-IsOfReplaced F04 params s = ⊥
-IsOfReplaced F06 params s = IsReplacedTooLong params s
-IsOfReplaced Memory params s = ⊤
+abbrev pub IsOfReplaced : StringFault → ℕ → Params → List ℕ → Type 0
+IsOfReplaced F02 limit params s = ⊥
+IsOfReplaced F03 limit params s = ⊥
+IsOfReplaced F04 limit params s = ⊥
+IsOfReplaced F06 limit params s = IsReplacedLonger limit params s
+IsOfReplaced Memory limit params s = ⊤

@@ -1,5 +1,6 @@
 //! Digests of a text, in hex.
-ghost use Rattle.std.specs.Prelude.{◌≡◌, ◌↔◌, IsTrue, IfOk, IfErr, string_bytes};
+ghost use Rattle.std.specs.Prelude.{◌≡◌, ◌↔◌, IsTrue, IfOk, IfErr, Some, string_bytes};
+ghost use Rattle.hot_strings.specs.Answers.{digest_of};
 ghost use Rattle.hot_strings.specs.Digest.{IsDigestName, IsDigest};
 
 use crate::StringFault;
@@ -20,9 +21,11 @@ pub fn is_digest_name(name: &Text) -> bool
 }
 
 /// The digest of that name of the text's bytes, in lower-case hex.
+#[tactic(auto, using(crate::proofs::AnswerLemmas::for_digest))]
 pub fn digest(alloc: Global, name: &Text, text: &Text) -> Result<Text, StringFault>
     requires { IsDigestName name.now }
     ensures ok { IfOk result (IsDigest name.now text.now) }
+    ensures answer { IfOk result (λ t. digest_of name.now text.now ≡ Some t) }
     ensures err { IfErr result (λ e. e ≡ StringFault.Memory) }
 {
     let hex = hex_digest(alloc, name.as_str(), text.as_str().as_bytes())?;

@@ -1,4 +1,4 @@
-//! Whether values that are there already may be results.
+//! How large values are that are there already, and whether they may be results.
 ghost use Rattle.std.specs.Prelude.{◌≡◌, ◌↔◌, ◌+◌, ◌-◌, ◌^◌, IsTrue, min, length};
 ghost use Rattle.json.specs.Print.{quoted};
 ghost use Rattle.heat_value.specs.Compact.{compact};
@@ -24,9 +24,9 @@ pub fn map_fits(map: &Props) -> bool
     map_size(map.as_slice()) <= MAX_SIZE
 }
 
-// How many bytes a value takes, as far as a `usize` counts.
+/// How many bytes of compact JSON a value takes, as far as a `usize` counts.
 #[cycle(sizes)]
-fn value_size(value: &Value) -> usize
+pub fn value_size(value: &Value) -> usize
     ensures { result ≡ min (length (compact (data_of value.now))) (2 ^ 64 - 1) }
 {
     match value {

@@ -7,6 +7,7 @@ ghost use Rattle.hot_strings.specs.Joined.{joined};
 
 use crate::StringFault;
 use crate::draft::Draft;
+use crate::size::MAX_SIZE;
 use heat_value::Text;
 use std::alloc::Global;
 
@@ -16,7 +17,7 @@ pub fn join(alloc: Global, delimiter: &Text, items: &[Text]) -> Result<Text, Str
     ensures fits { IfOk result (λ t. Fits (words t)) }
     ensures err { IfErr result (λ e. IsOfResult e (words (joined delimiter.now items.now))) }
 {
-    let mut draft = Draft::new(alloc);
+    let mut draft = Draft::new(alloc, MAX_SIZE);
     if let Some((first, others)) = items.split_first() {
         draft.push(first.as_str())?;
         for item in others {

@@ -1,21 +1,30 @@
 //! The pieces of a template, one after another.
-ghost use Rattle.std.specs.Prelude.{◌≡◌, ◌≢◌, ◌<◌, ◌++◌, [], List, ℕ, MatchBool, MatchOption, Some, slice_get, encode_utf8};
+ghost use Rattle.std.specs.Prelude.{◌≡◌, ◌≢◌, ◌<◌, ◌++◌, [], List, ℕ, MatchBool};
+ghost use Rattle.std.specs.Prelude.{MatchOption, IfSome, Some, slice_get, encode_utf8};
 ghost use Rattle.std.specs.Char.{IsScalar};
 ghost use Rattle.std.specs.Str.{IsUtf8};
+ghost use Rattle.hot_strings.specs.Indexes.{IsIndex};
 ghost use Rattle.hot_strings.specs.Places.{Begins};
-ghost use Rattle.hot_strings.specs.Pieces.{Piece, source, target, IsFirstPiece, IsLongestKey, NoKeyBegins, HasNoEmptyKey};
+ghost use Rattle.hot_strings.specs.Pieces.{Piece, source, target, IsFirstPiece, IsLongestKey};
+ghost use Rattle.hot_strings.specs.Pieces.{NoKeyBegins, HasNoEmptyKey};
 
+use crate::index::{Index, longest_listed};
 use heat_value::Text;
 
 /// What stands in place of a text's first piece, and the text behind that piece.
-pub fn first_piece<'a>(params: &'a [(Text, Text)], text: &'a str) -> (&'a str, &'a str)
+pub fn first_piece<'a>(
+    params: &'a [(Text, Text)],
+    index: &Option<Index>,
+    text: &'a str,
+) -> (&'a str, &'a str)
     requires keys { HasNoEmptyKey params.now }
+    requires index { IfSome index.now (λ x. IsIndex params.now x.lists) }
     requires some { text.now ≢ [] }
     ensures piece { (p : Piece) × (text.now ≡ source p ++ result.1.now)
         × IsFirstPiece params.now text.now p × (result.0.now ≡ target p) }
     ensures utf8 { IsUtf8 result.1.now }
 {
-    match longest_key(params, text) {
+    match longest(params, index, text) {
         Some(i) => {
             let param = &params[i];
             (param.1.as_str(), behind(text, param.0.as_str()))
@@ -25,6 +34,20 @@ pub fn first_piece<'a>(params: &'a [(Text, Text)], text: &'a str) -> (&'a str, &
 }
 
 // The place of the longest key that stands at the front of a text.
+fn longest(params: &[(Text, Text)], index: &Option<Index>, text: &str) -> Option<usize>
+    requires keys { HasNoEmptyKey params.now }
+    requires index { IfSome index.now (λ x. IsIndex params.now x.lists) }
+    ensures { MatchOption result (NoKeyBegins params.now text.now) (λ i.
+        (k : List ℕ) × (v : List ℕ) × (slice_get params.now i ≡ Some (k, v))
+        × IsLongestKey params.now text.now k v) }
+{
+    match index {
+        Some(index) => longest_listed(params, index, text),
+        None => longest_key(params, text),
+    }
+}
+
+// The same, found among all keys.
 fn longest_key(params: &[(Text, Text)], text: &str) -> Option<usize>
     requires { HasNoEmptyKey params.now }
     ensures { MatchOption result (NoKeyBegins params.now text.now) (λ i.
@@ -44,8 +67,8 @@ fn longest_key(params: &[(Text, Text)], text: &str) -> Option<usize>
     found
 }
 
-// Whether a key stands at the front of a text. The first byte rules most keys out.
-fn begins(text: &str, key: &str) -> bool
+/// Whether a key stands at the front of a text. The first byte rules most keys out.
+pub fn begins(text: &str, key: &str) -> bool
     ensures { MatchBool result (Begins key.now text.now) (¬ (Begins key.now text.now)) }
 {
     let bytes = text.as_bytes();

@@ -1,15 +1,20 @@
 //! Replacing keys in a template, in one pass.
-ghost use Rattle.std.specs.Prelude.{IsTrue, IfOk, IfErr, OnOk, MatchBool, All};
+ghost use Rattle.std.specs.Prelude.{◌≤◌, IsTrue, IfOk, IfErr, IfSome, OnOk, MatchBool, All};
 ghost use Rattle.std.specs.Str.{IsUtf8};
 ghost use Rattle.heat_value.specs.Data.{words};
+ghost use Rattle.hot_strings.specs.Answers.{HasAnswer};
+ghost use Rattle.hot_strings.specs.Indexes.{IsIndex};
 ghost use Rattle.hot_strings.specs.Only.{HoldsOfOne};
 ghost use Rattle.hot_strings.specs.Places.{IsPart, Lacks};
-ghost use Rattle.hot_strings.specs.Size.{Fits};
-ghost use Rattle.hot_strings.specs.Pieces.{ArePieces, IsReplaced, IsReplaceFault, AreDistinct, HasEmptyKey, HasNoEmptyKey, LacksSomeKey, HasEveryKey, IsOfReplaced};
+ghost use Rattle.hot_strings.specs.Size.{Fits, FitsWithin};
+ghost use Rattle.hot_strings.specs.Pieces.{ArePieces, IsReplaced, IsReplaceFault, AreDistinct, HasEmptyKey};
+ghost use Rattle.hot_strings.specs.Pieces.{HasNoEmptyKey, LacksSomeKey, HasEveryKey, IsOfReplaced, IsWithinFault};
 
 use crate::StringFault;
 use crate::draft::Draft;
+use crate::index::{Index, index_of};
 use crate::pieces::first_piece;
+use crate::size::MAX_SIZE;
 use heat_value::Text;
 use std::alloc::Global;
 
@@ -32,6 +37,9 @@ pub fn replace(
 
     // There is exactly one list of pieces.
     ensures one { HasNoEmptyKey params.now → HoldsOfOne (ArePieces params.now template.now) }
+
+    // What stands in their place is what one pass from left to right makes.
+    ensures answer { HasNoEmptyKey params.now → HasAnswer params.now template.now }
 {
     if has_empty_key(params) {
         return Err(StringFault::F03);
@@ -39,7 +47,29 @@ pub fn replace(
     if strict_fails(strict, params, template.as_str()) {
         return Err(StringFault::F04);
     }
-    filled(alloc, template.as_str(), params)
+    filled(alloc, template.as_str(), params, MAX_SIZE)
+}
+
+/// The same where the text is no function's result, with a limit of its own in bytes of JSON: F03 for
+/// an empty key, F06 for a text that takes more.
+pub fn replace_within(
+    alloc: Global,
+    template: &Text,
+    params: &[(Text, Text)],
+    limit: usize,
+) -> Result<Text, StringFault>
+    requires distinct { AreDistinct params.now }
+    requires some { 2 ≤ limit }
+    ensures ok { IfOk result (IsReplaced params.now template.now) }
+    ensures fits { IfOk result (λ t. FitsWithin limit (words t)) }
+    ensures keys { OnOk result (HasNoEmptyKey params.now) }
+    ensures err { IfErr result (λ e. IsWithinFault e limit params.now template.now) }
+    ensures answer { HasNoEmptyKey params.now → HasAnswer params.now template.now }
+{
+    if has_empty_key(params) {
+        return Err(StringFault::F03);
+    }
+    filled(alloc, template.as_str(), params, limit)
 }
 
 // Whether some key is empty; if not, each key is known as text.
@@ -83,18 +113,44 @@ fn has_part(text: &str, key: &str) -> bool
     text.contains(key)
 }
 
-// The template with the values put in.
-fn filled(alloc: Global, template: &str, params: &[(Text, Text)]) -> Result<Text, StringFault>
+// The template with the values put in, where that takes no more than it may.
+fn filled(
+    alloc: Global,
+    template: &str,
+    params: &[(Text, Text)],
+    limit: usize,
+) -> Result<Text, StringFault>
     requires keys { HasNoEmptyKey params.now }
     requires texts { All (λ p. IsUtf8 p.0) params.now }
+    requires some { 2 ≤ limit }
     ensures ok { IfOk result (IsReplaced params.now template.now) }
-    ensures fits { IfOk result (λ t. Fits (words t)) }
-    ensures err { IfErr result (λ e. IsOfReplaced e params.now template.now) }
+    ensures fits { IfOk result (λ t. FitsWithin limit (words t)) }
+    ensures err { IfErr result (λ e. IsOfReplaced e limit params.now template.now) }
 {
-    let mut draft = Draft::new(alloc);
+    let index = index_of(alloc, params)?;
+    filled_by(alloc, template, params, &index, limit)
+}
+
+// The same, with the keys found by an index.
+fn filled_by(
+    alloc: Global,
+    template: &str,
+    params: &[(Text, Text)],
+    index: &Option<Index>,
+    limit: usize,
+) -> Result<Text, StringFault>
+    requires keys { HasNoEmptyKey params.now }
+    requires texts { All (λ p. IsUtf8 p.0) params.now }
+    requires index { IfSome index.now (λ x. IsIndex params.now x.lists) }
+    requires some { 2 ≤ limit }
+    ensures ok { IfOk result (IsReplaced params.now template.now) }
+    ensures fits { IfOk result (λ t. FitsWithin limit (words t)) }
+    ensures err { IfErr result (λ e. IsOfReplaced e limit params.now template.now) }
+{
+    let mut draft = Draft::new(alloc, limit);
     let mut rest = template;
     while !rest.is_empty() {
-        let (put, tail) = first_piece(params, rest);
+        let (put, tail) = first_piece(params, index, rest);
         draft.push(put)?;
         rest = tail;
     }

@@ -1,6 +1,7 @@
 //! Cutting a text at a delimiter.
 ghost use Rattle.std.specs.Prelude.{◌≡◌, ◌≢◌, [], List, ℕ, IfOk, IfErr, OnOk, MatchOption};
 ghost use Rattle.heat_value.specs.Meaning.{data_of};
+ghost use Rattle.hot_strings.specs.Answers.{cuts};
 ghost use Rattle.hot_strings.specs.Joined.{joined};
 ghost use Rattle.hot_strings.specs.Only.{HoldsOfOne};
 ghost use Rattle.hot_strings.specs.Size.{Fits};
@@ -16,7 +17,7 @@ use std::alloc::Global;
 /// The pieces of a text, or the piece at an index. The faults come in this order: F02 for an index
 /// that is no whole number of 0 or more, F03 for an empty delimiter, F02 for an index out of range,
 /// F06 for a value that is too long.
-#[tactic(auto, using(crate::proofs::Splits::for_split))]
+#[tactic(auto, using(crate::proofs::AnswerLemmas::for_split))]
 pub fn split(
     alloc: Global,
     delimiter: &Text,
@@ -34,6 +35,10 @@ pub fn split(
     ensures one { delimiter.now ≢ [] → HoldsOfOne (AreSplit delimiter.now text.now) }
     ensures again { (ps : List (List ℕ)) → AreSplit delimiter.now text.now ps →
         joined delimiter.now ps ≡ text.now }
+
+    // It is what the text is cut into from left to right.
+    ensures answer { delimiter.now ≢ [] → (ps : List (List ℕ)) →
+        AreSplit delimiter.now text.now ps → cuts delimiter.now text.now ≡ ps }
 {
     let at = match index {
         None => None,

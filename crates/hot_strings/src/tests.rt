@@ -54,8 +54,10 @@ sha256||e3b0c44298fc1c149afbf4c8996fb92427ae41e4649b934ca495991b7852b855
 sha256|abc|ba7816bf8f01cfea414140de5dae2223b00361a396177a9cb410ff61f20015ad
 sha384||38b060a751ac96384cd9327eb1b1e36a21fdb71114be07434c0cc7bf63f6e1da274edebfe76f65fbd51ad2f14898b95b
 sha384|abc|cb00753f45a35e8bb5a03d699ac65007272c32ab0eded1631a8b605a43ff5bed8086072ba1e7cc2358baeca134c825a7
-sha512||cf83e1357eefb8bdf1542850d66d8007d620e4050b5715dc83f4a921d36ce9ce47d0d13c5d85f2b0ff8318d2877eec2f63b931bd47417a81a538327af927da3e
-sha512|abc|ddaf35a193617abacc417349ae20413112e6fa4e89a97ea20a9eeee64b55d39a2192992a274fc1a836ba3c23a3feebbd454d4423643ce80e2a9ac94fa54ca49f
+sha512||cf83e1357eefb8bdf1542850d66d8007d620e4050b5715dc83f4a921d36ce9ce\
+  47d0d13c5d85f2b0ff8318d2877eec2f63b931bd47417a81a538327af927da3e
+sha512|abc|ddaf35a193617abacc417349ae20413112e6fa4e89a97ea20a9eeee64b55d39a\
+  2192992a274fc1a836ba3c23a3feebbd454d4423643ce80e2a9ac94fa54ca49f
 sha3|abc|no digest";
 
 // The text of the answer, or the fault's code.
@@ -88,6 +90,24 @@ fn replaced(alloc: Global, template: &str, words: &str, strict: bool) -> Result<
         return Text::from_str(alloc, "a key stands twice");
     }
     told(alloc, replace(alloc, &template, params.as_slice(), strict))
+}
+
+// The same with a limit of its own, in bytes of JSON.
+fn replaced_within(
+    alloc: Global,
+    template: &str,
+    words: &str,
+    limit: usize,
+) -> Result<Text, AllocError> {
+    let template = Text::from_str(alloc, template)?;
+    let params = params(alloc, words)?;
+    if limit < 2 || !are_distinct(params.as_slice()) {
+        return Text::from_str(alloc, "off its condition");
+    }
+    told(
+        alloc,
+        replace_within(alloc, &template, params.as_slice(), limit),
+    )
 }
 
 fn parts(alloc: Global, delimiter: &str, text: &str, index: &str) -> Result<Text, AllocError> {
@@ -170,6 +190,35 @@ fn replaces_strictly(rt: HostRuntime) -> Result<(), Fail> {
     for line in REPLACED_STRICTLY.lines() {
         replaces_as(&rt, rt.alloc(), line, true)?;
     }
+    Ok(())
+}
+
+#[test]
+fn replaces_up_to_its_own_limit(rt: HostRuntime) -> Result<(), Fail> {
+    assert_eq!(rt;
+        replaced_within(rt.alloc(), "a-b", "b=cd", 6)?.as_str(),
+        "a-cd"
+    );
+    assert_eq!(rt;
+        replaced_within(rt.alloc(), "a-b", "b=cd", 5)?.as_str(),
+        "F06"
+    );
+    assert_eq!(rt;
+        replaced_within(rt.alloc(), "a-b", "=cd", 5)?.as_str(),
+        "F03"
+    );
+    Ok(())
+}
+
+// Forty keys with their values.
+const FORTY: &str =
+    "a0=A b0=B c0=C d0=D e0=E f0=F g0=G h0=H i0=I j0=J a1=K b1=L c1=M d1=N e1=O f1=P g1=Q h1=R \
+  i1=S j1=T a2=U b2=V c2=W d2=X e2=Y f2=Z a=1 b=2 c=3 d=4 e=5 f=6 g=7 h=8 i=9 é=0 éa=x a22=y →=z 0=!";
+
+#[test]
+fn many_keys_are_found_by_their_first_byte(rt: HostRuntime) -> Result<(), Fail> {
+    let told = replaced(rt.alloc(), "a0a1a2a22a3 f2e9 éaéb →k", FORTY, false)?;
+    assert_eq!(rt; told.as_str(), "AKUy13 Z59 x02 zk");
     Ok(())
 }
 

@@ -1,4 +1,5 @@
--- H22 and H24 of one condition, one resource, one output, in the values that are evaluated, by their keys in byte order.
+-- H22 and H24 of one condition, one resource, one output, in the values that are evaluated, by their keys in byte
+-- order.
 use Rattle.std.specs.Prelude.{ℕ, List, [], ◌∷◌, Option, Some, None, codes}
 use Rattle.heat_value.specs.Data.{Data, null, flag, whole, words, items, fields, Members, no_members, lookup}
 use Rattle.heat_value.specs.declared.path.Step.TheVariants.{Key}

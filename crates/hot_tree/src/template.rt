@@ -1,19 +1,22 @@
 //! A right template.
 ghost use Rattle.std.specs.Prelude.{◌≡◌, IfOk, IfErr, None};
 ghost use Rattle.heat_value.specs.Meaning.{data_of};
+ghost use Rattle.hot_parts.specs.Parts.{ArePartsOf};
 ghost use Rattle.hot_tree.specs.Template.{IsRight, IsTemplateOf, IsFaultOf};
 ghost use Rattle.hot_tree.specs.Whole.{template_flaw as the_template_flaw};
 
 use crate::HotFault;
 use crate::whole::template_flaw;
 use heat_value::{Props, TryCopy, Value};
+use hot_parts::Parts;
 use std::alloc::Global;
 use std::marker::Model;
 
-/// A template that holds none of the flaws H01 to H24, seen as its object.
+/// A template that holds none of the flaws H01 to H24, seen as its object, with its parts by type.
 #[derive(Debug, Drop)]
 pub struct Template {
     fields: Props,
+    parts: Parts,
 }
 
 impl Model for Template {
@@ -24,11 +27,12 @@ impl Model for Template {
 
     ghost coded = { members_code };
 
+    ghost use Rattle.hot_parts.specs.Parts.{ArePartsOf};
     ghost use Rattle.hot_tree.specs.Template.{IsRight};
 
     ghost view = { λ t. t.fields };
 
-    ghost invariant = { λ t. IsRight t.fields };
+    ghost invariant = { λ t. IsRight t.fields × ArePartsOf t.fields t.parts };
 }
 
 impl Template {
@@ -39,7 +43,7 @@ impl Template {
     {
         match template_flaw(alloc, value)? {
             Some(flaw) => Err(HotFault::Wrong(flaw)),
-            None => kept(value),
+            None => kept(alloc, value),
         }
     }
 
@@ -50,16 +54,24 @@ impl Template {
     {
         &self.fields
     }
+
+    /// The parameters, conditions, resources and outputs that the object has.
+    pub fn parts(&self) -> &Parts
+        ensures { ArePartsOf self.now result.now }
+    {
+        &self.parts
+    }
 }
 
 // A copy of a right value, as a template.
-fn kept(value: &Value) -> Result<Template, HotFault>
+fn kept(alloc: Global, value: &Value) -> Result<Template, HotFault>
     requires { the_template_flaw (data_of value.now) ≡ None }
     ensures ok { IfOk result (λ t. IsTemplateOf (data_of value.now) t) }
     ensures fault { IfErr result (λ e. e ≡ HotFault.Memory) }
 {
     match value {
         Value::Fields(fields) => Ok(Template {
+            parts: Parts::of(alloc, fields)?,
             fields: fields.copy()?,
         }),
         Value::Null | Value::Flag(_) | Value::Whole(_) | Value::Words(_) | Value::Items(_) => {

@@ -1,18 +1,17 @@
 //! What no clause says: templates from outside, in single quotes; each code with its path, and beside
-//! the next one.
+//! the next one. Want of memory is told as such, and asked once more.
 use crate::{HotFault, Template};
-use heat_value::Value;
+use heat_value::{Value, ValueFault};
 use std::alloc::{AllocError, Global};
 use std::test::Fail;
 
 // A fault's code and path.
 fn words_of(alloc: Global, fault: &HotFault) -> Result<String, AllocError> {
-    let mut words = String::from_str(alloc, fault.code().unwrap_or("memory"))?;
-    if let Some(path) = fault.path() {
-        words.push_str(" ")?;
-        words.push_str(path.text(alloc)?.as_str())?;
-    }
-    words.replace(alloc, "\"", "'")
+    let (Some(code), Some(path)) = (fault.code(), fault.path()) else {
+        return Err(AllocError);
+    };
+    let path = path.text(alloc)?;
+    format!(in alloc; "{} {}", code, path.as_str())?.replace(alloc, "\"", "'")
 }
 
 // What a value is read as, in words.
@@ -23,11 +22,33 @@ fn judged(alloc: Global, value: &Value) -> Result<String, AllocError> {
     }
 }
 
-fn told(alloc: Global, text: &str) -> Result<String, AllocError> {
+fn told_once(alloc: Global, text: &str) -> Result<String, AllocError> {
     let text = text.replace(alloc, "'", "\"")?;
     match Value::read(alloc, text.as_bytes()) {
         Ok(value) => judged(alloc, &value),
+        Err(ValueFault::Memory) => Err(AllocError),
         Err(_) => String::from_str(alloc, "unread"),
+    }
+}
+
+// The same, once more where memory was wanted.
+fn told(alloc: Global, text: &str) -> Result<String, AllocError> {
+    match told_once(alloc, text) {
+        Ok(told) => Ok(told),
+        Err(_) => told_once(alloc, text),
+    }
+}
+
+// A template of these sections besides its version.
+fn with_version(alloc: Global, sections: &str) -> Result<String, AllocError> {
+    format!(in alloc; "{{'heat_template_version':'rocky',{}}}", sections)
+}
+
+// What it is read as, once more where memory was wanted.
+fn section_told(alloc: Global, sections: &str) -> Result<String, AllocError> {
+    match with_version(alloc, sections) {
+        Ok(text) => told(alloc, text.as_str()),
+        Err(_) => told(alloc, with_version(alloc, sections)?.as_str()),
     }
 }
 
@@ -43,6 +64,14 @@ fn values_have_their_codes(rt: HostRuntime) -> Result<(), Fail> {
         ),
         (
             "{'heat_template_version':'2099-01-01'}",
+            "H04 ['heat_template_version']",
+        ),
+        (
+            "{'HeatTemplateFormatVersion':1,'heat_template_version':1}",
+            "H03 ['HeatTemplateFormatVersion']",
+        ),
+        (
+            "{'foo':1,'heat_template_version':'2099-01-01'}",
             "H04 ['heat_template_version']",
         ),
         (
@@ -75,15 +104,23 @@ fn entries_have_their_codes(rt: HostRuntime) -> Result<(), Fail> {
             "H09 ['parameters','a','type']",
         ),
         (
-            "'parameters':{'a':{'label':1,'type':'json'}}",
+            "'parameters':{'a':{'kind':1}}",
+            "H08 ['parameters','a','kind']",
+        ),
+        (
+            "'parameters':{'a':{'label':1,'type':1}}",
+            "H09 ['parameters','a','type']",
+        ),
+        (
+            "'parameters':{'a':{'constraints':1,'label':1,'type':'json'}}",
             "H10 ['parameters','a','label']",
         ),
         (
-            "'parameters':{'a':{'constraints':1,'type':'json'}}",
+            "'parameters':{'a':{'constraints':[{'range':{'min':1}},1],'type':'json'}}",
             "H11 ['parameters','a','constraints']",
         ),
         (
-            "'parameters':{'a':{'constraints':[{'range':{'min':1}}],'type':'json'}}",
+            "'parameters':{'a':{'constraints':[{'range':{'min':1}}],'type':'json'}},'resources':{'r':1}",
             "H12 ['parameters','a','constraints',0,'range']",
         ),
         (
@@ -132,7 +169,7 @@ fn entries_have_their_codes(rt: HostRuntime) -> Result<(), Fail> {
             "H19 ['resources','r','update_policy']",
         ),
         (
-            "'resources':{'r':{'condition':null,'type':'T'}}",
+            "'outputs':{'o':1},'resources':{'r':{'condition':null,'type':'T'}}",
             "H20 ['resources','r','condition']",
         ),
         (
@@ -146,7 +183,7 @@ fn entries_have_their_codes(rt: HostRuntime) -> Result<(), Fail> {
         ("'outputs':{'o':1}", "H21 ['outputs','o']"),
         ("'outputs':{'o':{'Value':1}}", "H21 ['outputs','o']"),
         (
-            "'outputs':{'o':{'Value':1,'value':1}}",
+            "'outputs':{'o':{'Value':1,'condition':5,'value':{'get_param':1}}}",
             "H21 ['outputs','o','Value']",
         ),
         (
@@ -155,9 +192,69 @@ fn entries_have_their_codes(rt: HostRuntime) -> Result<(), Fail> {
         ),
     ];
     for (text, wanted) in rows {
-        let text = format!(in rt.alloc(); "{{'heat_template_version':'rocky',{text}}}")?;
-        let told = told(rt.alloc(), &text)?;
+        let told = section_told(rt.alloc(), text)?;
         assert_eq!(rt; told.as_str(), wanted, "{text}");
+    }
+    Ok(())
+}
+
+#[test]
+fn versions_are_known(rt: HostRuntime) -> Result<(), Fail> {
+    let rows = [
+        ("2013-05-23", "right"),
+        ("2014-10-16", "right"),
+        ("2015-04-30", "right"),
+        ("2015-10-15", "right"),
+        ("2016-04-08", "right"),
+        ("2016-10-14", "right"),
+        ("newton", "right"),
+        ("2017-02-24", "right"),
+        ("ocata", "right"),
+        ("2017-09-01", "right"),
+        ("pike", "right"),
+        ("2018-03-02", "right"),
+        ("queens", "right"),
+        ("2018-08-31", "right"),
+        ("rocky", "right"),
+        ("mitaka", "H04 ['heat_template_version']"),
+        ("Rocky", "H04 ['heat_template_version']"),
+        ("", "H04 ['heat_template_version']"),
+    ];
+    for (version, wanted) in rows {
+        let told = match version_told(rt.alloc(), version) {
+            Ok(told) => told,
+            Err(_) => version_told(rt.alloc(), version)?,
+        };
+        assert_eq!(rt; told.as_str(), wanted, "{version}");
+    }
+    Ok(())
+}
+
+fn version_told(alloc: Global, version: &str) -> Result<String, AllocError> {
+    let text = format!(in alloc; "{{'heat_template_version':'{}'}}", version)?;
+    told_once(alloc, text.as_str())
+}
+
+// Whether a template whose output has a name of so many letters is right.
+fn named_told(alloc: Global, letters: u32) -> Result<bool, AllocError> {
+    let mut text = String::from_str(alloc, "'outputs':{'")?;
+    for _ in 0..letters {
+        text.push_str("n")?;
+    }
+    text.push_str("':{'value':1}}")?;
+    let told = told_once(alloc, with_version(alloc, text.as_str())?.as_str())?;
+    Ok(told.as_str() == "right")
+}
+
+#[test]
+fn names_have_255_bytes(rt: HostRuntime) -> Result<(), Fail> {
+    let rows = [(0, false), (1, true), (255, true), (256, false)];
+    for (letters, wanted) in rows {
+        let told = match named_told(rt.alloc(), letters) {
+            Ok(told) => told,
+            Err(_) => named_told(rt.alloc(), letters)?,
+        };
+        assert_eq!(rt; told, wanted, "{letters}");
     }
     Ok(())
 }
@@ -174,6 +271,10 @@ fn functions_have_their_codes(rt: HostRuntime) -> Result<(), Fail> {
             "H24 ['outputs','o','value','get_param']",
         ),
         (
+            "'outputs':{'o':{'value':{'if':['c',{'get_param':'p'},1,1]}}}",
+            "H22 ['outputs','o','value','if']",
+        ),
+        (
             "'outputs':{'o':{'value':{'get_param':'p'}}},'parameters':{'p':{'type':'json'}}",
             "right",
         ),
@@ -186,11 +287,13 @@ fn functions_have_their_codes(rt: HostRuntime) -> Result<(), Fail> {
             "right",
         ),
         (
-            "'outputs':{'o':{'value':{'get_param':1}}},'resources':{'r':{'condition':'c','properties':{'x':{'get_param':1}},'type':'T'}}",
+            "'outputs':{'o':{'value':{'get_param':1}}},\
+             'resources':{'r':{'condition':'c','properties':{'x':{'get_param':1}},'type':'T'}}",
             "H24 ['resources','r','condition']",
         ),
         (
-            "'outputs':{'o':{'value':{'get_param':1}}},'resources':{'r':{'properties':{'x':{'get_param':1}},'type':'T'}}",
+            "'outputs':{'o':{'value':{'get_param':1}}},\
+             'resources':{'r':{'properties':{'x':{'get_param':1}},'type':'T'}}",
             "H22 ['resources','r','properties','x','get_param']",
         ),
         (
@@ -211,8 +314,7 @@ fn functions_have_their_codes(rt: HostRuntime) -> Result<(), Fail> {
         ),
     ];
     for (text, wanted) in rows {
-        let text = format!(in rt.alloc(); "{{'heat_template_version':'rocky',{text}}}")?;
-        let told = told(rt.alloc(), &text)?;
+        let told = section_told(rt.alloc(), text)?;
         assert_eq!(rt; told.as_str(), wanted, "{text}");
     }
     Ok(())

@@ -1,3 +1,4 @@
 mod Finding
 mod JobOrders
 mod Holding
+mod Runs

@@ -1,3 +1,4 @@
 pub mod Mail
 pub mod Holders
 pub mod ByRow
+pub mod Runs

@@ -1,5 +1,5 @@
 //! Jobs, each found by its engine and by its row and stack.
-ghost use Rattle.std.specs.Prelude.{◌≡◌, ◌<◌, ◌≤◌, ◌+◌, ◌++◌, ◌∷◌, [], false, Some, IsOk, OnOk, All, nat_eq, option_map, length, remove, slice_get, slice_set};
+ghost use Rattle.std.specs.Prelude.{◌≡◌, ◌<◌, ◌≤◌, ◌+◌, ◌++◌, ◌∷◌, [], false, Some, IsOk, IfOk, OnOk, All, nat_eq, option_map, length, remove, slice_get, slice_set};
 ghost use Rattle.mail_table.specs.declared.mail.Job.{Job};
 ghost use Rattle.mail_table.specs.Mails.{job_at, job_key, put_job, cut_job};
 ghost use Rattle.indexed_mail.specs.Holders.{IsHolder};
@@ -42,6 +42,16 @@ impl JobTable {
             jobs: Table::new(alloc),
             by_row: Roomed::new(alloc),
         }
+    }
+
+    /// The same jobs, with room of its own.
+    pub(crate) fn copy(&self) -> Result<JobTable, AllocError>
+        ensures { IfOk result (λ copy. copy.items ≡ self.now.items) }
+    {
+        Ok(JobTable {
+            jobs: self.jobs.copy()?,
+            by_row: self.by_row.copied()?,
+        })
     }
 
     /// All jobs.

@@ -8,8 +8,14 @@ mod by_row;
 mod job_table;
 mod list_mails;
 mod mails;
+mod ops;
+mod run;
 mod table;
+#[cfg(test)]
+mod tests;
 
 pub use list_mails::ListMails;
 pub use mails::Mails;
+pub use ops::{MailAnswer, MailOp};
+pub use run::run_mails;
 pub use table::MailTable;

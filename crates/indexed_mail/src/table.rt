@@ -1,5 +1,5 @@
 //! The indexed form of the mail.
-ghost use Rattle.std.specs.Prelude.{◌≡◌, ◌<◌, []};
+ghost use Rattle.std.specs.Prelude.{◌≡◌, ◌<◌, [], IfOk};
 ghost use Rattle.indexed_mail.specs.Mail.{with_letter, with_job, KeepsRoom};
 
 use crate::job_table::JobTable;
@@ -42,6 +42,17 @@ impl MailTable {
             jobs: JobTable::new(alloc),
             next: 1,
         }
+    }
+
+    /// The same mail, with room of its own.
+    pub fn copy(&self) -> Result<MailTable, AllocError>
+        ensures { IfOk result (λ copy. copy.mail ≡ self.now.mail) }
+    {
+        Ok(MailTable {
+            letters: self.letters.copy()?,
+            jobs: self.jobs.copy()?,
+            next: self.next,
+        })
     }
 
     /// Writes a letter over the one of its number, or behind all others, within the room.

@@ -5,4 +5,5 @@ mod Holds
 mod Stacks
 mod Names
 mod Fits
+mod Chains
 mod Runs

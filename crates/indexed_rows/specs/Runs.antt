@@ -2,6 +2,7 @@
 use Rattle.std.specs.Prelude.{◌≡◌, ◌⊎◌, ℕ, List, [], ◌∷◌, Option, None, Some, IsSome}
 use Rattle.row_table.specs.declared.row.Row.{Row}
 use Rattle.row_table.specs.Rows.{row_at, put_row, cut_row}
+use Rattle.row_table.specs.Chains.{Leads}
 use Rattle.indexed_rows.specs.declared.ops.RowOp.{RowOp}
 use Rattle.indexed_rows.specs.declared.ops.RowOp.TheVariants as op
 use Rattle.indexed_rows.specs.declared.ops.RowAnswer.{RowAnswer}
@@ -25,10 +26,17 @@ Wrote r rows a new =
     (IsSome (row_at rows r.no) × (a ≡ gives.Done) × (new ≡ put_row r rows))
     ⊎ ((row_at rows r.no ≡ None) × IsBarred rows a new)
 
+-- the end of the row's chain of replacements is told, if the row stands
+abbrev pub TellsHead : ℕ → List Row → RowAnswer → List Row → Type 0
+TellsHead n rows a new =
+    (IsSome (row_at rows n) × ((head : ℕ) × (a ≡ gives.Head head) × Leads rows n head) × (new ≡ rows))
+    ⊎ ((row_at rows n ≡ None) × IsBarred rows a new)
+
 -- what a call does, and what it answers
 abbrev pub Does : RowOp → List Row → RowAnswer → List Row → Type 0
 Does (op.Get n) rows a new = (a ≡ gives.Got (row_at rows n)) × (new ≡ rows)
 Does (op.Current stack name) rows a new = ((o : Option ℕ) × (a ≡ gives.Current o) × IsCurrentOf rows stack name o) × (new ≡ rows)
+Does (op.Head n) rows a new = TellsHead n rows a new
 Does (op.OfStack stack) rows a new = ((nos : List ℕ) × (a ≡ gives.Rows nos) × AreOfStack rows stack nos) × (new ≡ rows)
 Does (op.Put r) rows a new = (a ≡ gives.Done) × (new ≡ put_row r rows)
 Does (op.Set r) rows a new = Wrote r rows a new

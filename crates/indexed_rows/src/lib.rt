@@ -5,6 +5,7 @@
 
 mod by_name;
 mod by_stack;
+mod chain;
 mod current;
 mod hold;
 mod list_rows;

@@ -9,6 +9,7 @@ use row_table::Row;
 pub enum RowOp {
     Get(RowNo),
     Current(StackName, ResName),
+    Head(RowNo),
     OfStack(StackName),
     Put(Row),
     Set(Row),
@@ -24,6 +25,7 @@ pub enum RowOp {
 pub enum RowAnswer {
     Got(Option<Row>),
     Current(Option<RowNo>),
+    Head(RowNo),
     Rows(Seq<RowNo>),
     Done,
     Barred,

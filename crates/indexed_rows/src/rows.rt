@@ -3,9 +3,11 @@ ghost use Rattle.std.specs.Prelude.{◌≡◌, ◌<◌, ◌≤◌, ◌+◌, None
 ghost use Rattle.keyed_table.specs.Rooms.{Roomy};
 ghost use Rattle.row_table.specs.declared.row.Row.{Row};
 ghost use Rattle.row_table.specs.Rows.{row_at, put_row, cut_row};
+ghost use Rattle.row_table.specs.Chains.{Leads};
 ghost use Rattle.indexed_rows.specs.Found.{IsCurrentOf, AreOfStack};
 ghost use Rattle.indexed_rows.specs.Locks.{IsLockable, held};
 
+use crate::chain::next_of_chain;
 use heat_plan::{EngineNo, ResName, RowNo, StackName};
 use heat_value::Seq;
 use row_table::Row;
@@ -27,6 +29,21 @@ pub trait Rows {
     /// The number of the name's current row, of several the greatest.
     fn current(&self, stack: &StackName, name: &ResName) -> Option<RowNo>
         ensures { IsCurrentOf (content self.now).items stack.now name.now result };
+
+    /// The number of the row in which the row's chain of replacements ends.
+    fn head(&self, no: RowNo) -> RowNo
+        requires { IsSome (row_at (content self.now).items no) }
+        ensures { Leads (content self.now).items no result }
+    {
+        let mut last = no;
+        while let Some(next) = next_of_chain(self.get(last)) {
+            if self.get(next).is_none() {
+                return last;
+            }
+            last = next;
+        }
+        last
+    }
 
     /// The numbers of the stack's rows, rising.
     fn of_stack(&self, alloc: Global, stack: &StackName) -> Result<Seq<RowNo>, AllocError>

@@ -4,7 +4,7 @@ ghost use Rattle.row_table.specs.declared.row.Row.{Row};
 ghost use Rattle.row_table.specs.Rows.{row_at};
 ghost use Rattle.indexed_rows.specs.declared.ops.RowAnswer.TheVariants.{Got};
 ghost use Rattle.indexed_rows.specs.Locks.{IsLockable};
-ghost use Rattle.indexed_rows.specs.Runs.{Does, Holds, Runs, Wrote};
+ghost use Rattle.indexed_rows.specs.Runs.{Does, Holds, Runs, TellsHead, Wrote};
 
 use crate::ops::{RowAnswer, RowOp};
 use crate::rows::Rows;
@@ -36,6 +36,7 @@ fn answer_of<R: Rows>(alloc: Global, rows: &mut R, op: &RowOp) -> Result<RowAnsw
     match op {
         RowOp::Get(no) => got(rows, *no),
         RowOp::Current(stack, name) => Ok(RowAnswer::Current(rows.current(stack, name))),
+        RowOp::Head(no) => Ok(head(rows, *no)),
         RowOp::OfStack(stack) => Ok(RowAnswer::Rows(rows.of_stack(alloc, stack)?)),
         RowOp::Put(row) => {
             rows.put(row.copy()?)?;
@@ -63,6 +64,16 @@ fn got<R: Rows>(rows: &R, no: RowNo) -> Result<RowAnswer, AllocError>
         Some(row) => Ok(RowAnswer::Got(Some(row.copy()?))),
         None => Ok(RowAnswer::Got(None)),
     }
+}
+
+// The end of a row's chain of replacements, if the row stands.
+fn head<R: Rows>(rows: &R, no: RowNo) -> RowAnswer
+    ensures { TellsHead no (R.content rows.now).items result (R.content rows.now).items }
+{
+    if rows.get(no).is_none() {
+        return RowAnswer::Barred;
+    }
+    RowAnswer::Head(rows.head(no))
 }
 
 // Writes a row over the one of its number, if one stands.

@@ -86,7 +86,7 @@ fn of_stack(rt: &impl AllocGlobal, ops: &mut Vec<RowOp>, letter: u8) -> Result<(
     Ok(())
 }
 
-// What is asked of one number in turn: to get it, lock it, unlock it, purge it.
+// What is asked of one number in turn: to get it, lock it, unlock it, its chain's end, purge it.
 fn each(ops: &mut Vec<RowOp>, calls: &[u8], number: u64) -> Result<(), Fail> {
     let no = no(number)?;
     for call in calls {
@@ -94,6 +94,7 @@ fn each(ops: &mut Vec<RowOp>, calls: &[u8], number: u64) -> Result<(), Fail> {
             b'g' => RowOp::Get(no),
             b'l' => RowOp::Lock(no, engine(number.saturating_add(1))?),
             b'u' => RowOp::Unlock(no),
+            b'h' => RowOp::Head(no),
             _ => RowOp::Purge(no),
         })?;
     }
@@ -117,14 +118,16 @@ fn rows_come(rt: &impl AllocGlobal, ops: &mut Vec<RowOp>) -> Result<(), Fail> {
     Ok(())
 }
 
-// The greatest is replaced, and locked then; none of number 9 stands.
+// The greatest is replaced, and locked then; another's chain ends at it; none of number 9 stands.
 fn one_is_replaced(rt: &impl AllocGlobal, ops: &mut Vec<RowOp>) -> Result<(), Fail> {
     each(ops, b"lg", 5)?;
     set(rt, ops, 5, Act::Update)?;
     current(rt, ops, (b's', b'a'))?;
-    each(ops, b"lug", 5)?;
+    each(ops, b"l", 5)?;
+    set(rt, ops, 4, Act::Update)?;
+    each(ops, b"h", 4)?;
     set(rt, ops, 9, Act::Update)?;
-    each(ops, b"gluP", 9)?;
+    each(ops, b"ghuP", 9)?;
     Ok(())
 }
 
@@ -172,6 +175,7 @@ fn same(a: &RowAnswer, b: &RowAnswer) -> bool {
     match (a, b) {
         (RowAnswer::Got(a), RowAnswer::Got(b)) => same_row(a, b),
         (RowAnswer::Current(a), RowAnswer::Current(b)) => *a == *b,
+        (RowAnswer::Head(a), RowAnswer::Head(b)) => *a == *b,
         (RowAnswer::Rows(a), RowAnswer::Rows(b)) => same_nos(a.as_slice(), b.as_slice()),
         (RowAnswer::Done, RowAnswer::Done) | (RowAnswer::Barred, RowAnswer::Barred) => true,
         _ => false,
@@ -190,12 +194,14 @@ fn all_same(a: &[RowAnswer], b: &[RowAnswer]) -> bool {
     true
 }
 
-// The numbers of the current rows that were told, 0 for none.
-fn current_nos(alloc: Global, answers: &[RowAnswer]) -> Result<Vec<u64>, Fail> {
+// The numbers of the current rows and of the chains' ends that were told, 0 for none.
+fn told_nos(alloc: Global, answers: &[RowAnswer]) -> Result<Vec<u64>, Fail> {
     let mut nos = Vec::new(alloc);
     for answer in answers {
-        if let RowAnswer::Current(current) = answer {
-            nos.push(current.map_or(0, |no| no.get()))?;
+        match answer {
+            RowAnswer::Current(current) => nos.push(current.map_or(0, |no| no.get()))?,
+            RowAnswer::Head(head) => nos.push(head.get())?,
+            _ => {}
         }
     }
     Ok(nos)
@@ -208,16 +214,16 @@ fn forty_calls_give_equal_answers_in_both_forms(rt: HostRuntime) -> Result<(), F
     let mut table = RowTable::new(rt.alloc());
     let plain = run_rows(rt.alloc(), &mut list, &ops)?;
     let indexed = run_rows(rt.alloc(), &mut table, &ops)?;
-    let nos = current_nos(rt.alloc(), indexed.as_slice())?;
+    let nos = told_nos(rt.alloc(), indexed.as_slice())?;
     assert!(rt; ops.len() == 40, "as many as are meant: {}", ops.len());
     assert!(rt;
         all_same(plain.as_slice(), indexed.as_slice()),
         "equal answers"
     );
-    let wanted: [u64; 9] = [1, 0, 5, 5, 4, 3, 0, 0, 0];
+    let wanted: [u64; 10] = [1, 0, 5, 5, 4, 5, 3, 0, 0, 0];
     assert!(rt;
         nos.as_slice() == wanted.as_slice(),
-        "the current rows: {nos:?}"
+        "the current rows and chains: {nos:?}"
     );
     Ok(())
 }

@@ -14,7 +14,7 @@ use Rattle.soundness.specs.Groups.{KeptByCommands}
 use Rattle.soundness.specs.MailFits.{IsNewest, JobsFit}
 use Rattle.soundness.specs.Sound.{Standing}
 use Rattle.table_laws.proofs.Rows.{text_or_not}
-use Rattle.frame_laws.proofs.Commands.{commands_on_one}
+use Rattle.letter_laws.proofs.Below.{commands_on_one}
 use Rattle.graph_laws.proofs.Chosen.{old_stays}
 use Rattle.graph_laws.proofs.Commands.{graphs_laid}
 use Rattle.letter_laws.proofs.Commands.{Lain, lain}

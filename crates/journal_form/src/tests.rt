@@ -8,6 +8,9 @@ const ONE: &[u8] = b"HEATJ001\x01\0\0\0\0\0\0\0\x03abc\0";
 
 const TWO: &[u8] = b"HEATJ002\x01\0\0\0\0\0\0\0\x03\0\0\0\0\0\0\0\x01abc\0";
 
+const TWICE: &[u8] =
+    b"HEATJ002\x01\0\0\0\0\0\0\0\x01\0\0\0\0\0\0\0\x01a\x01\0\0\0\0\0\0\0\x01\0\0\0\0\0\0\0\x02b\0";
+
 const BORN: &[u8] = b"HEATS001\0\0\0\0\0\0\0\x01\x01\0\0\0\0\0\0\0\x03xyz\0";
 
 const LATER: &[u8] = b"HEATS002\0\0\0\0\0\0\0\x02\x01\0\0\0\0\0\0\0\x01\0\0\0\0\0\0\0\x01q\x02";
@@ -100,28 +103,85 @@ fn a_half_that_is_not_born_is_not_read(rt: HostRuntime) -> Result<(), Fail> {
     Ok(())
 }
 
+// What is shown of each length: the last of these texts whose length it reaches.
+fn reached(rows: [(usize, &'static [u8]); 3], len: usize) -> &'static [u8] {
+    let mut want: &'static [u8] = b"";
+    for (from, text) in rows {
+        if from <= len {
+            want = text;
+        }
+    }
+    want
+}
+
+// Each front of First alone.
+fn fronts_show(
+    rt: &(impl Abort + AllocGlobal),
+    half: &[u8],
+    rows: [(usize, &'static [u8]); 3],
+) -> Result<(), AllocError> {
+    for len in 0..=half.len() {
+        shows(rt, &half[..len], b"", reached(rows, len))?;
+    }
+    Ok(())
+}
+
+// Each front of Second beside a whole First.
+fn fronts_of_second_show(
+    rt: &(impl Abort + AllocGlobal),
+    half: &[u8],
+    rows: [(usize, &'static [u8]); 3],
+) -> Result<(), AllocError> {
+    for len in 0..=half.len() {
+        shows(rt, ONE, &half[..len], reached(rows, len))?;
+    }
+    Ok(())
+}
+
 #[test]
 fn cut_at_each_length(rt: HostRuntime) -> Result<(), Fail> {
-    for len in 0..TWO.len() {
-        let want: &[u8] = if len <= 9 {
-            b""
-        } else if len < 28 {
-            b"?"
-        } else {
-            b"abc."
-        };
-        shows(&rt, &TWO[..len], b"", want)?;
+    fronts_show(&rt, ONE, [(0, b""), (10, b"?"), (20, b"abc.")])?;
+    fronts_show(&rt, TWO, [(0, b""), (10, b"?"), (28, b"abc.")])?;
+    fronts_show(&rt, BORN, [(0, b""), (10, b"?"), (28, b"xyz.")])?;
+    fronts_of_second_show(&rt, BORN, [(0, b"abc."), (18, b"?"), (28, b"xyz.")])?;
+    fronts_of_second_show(&rt, LATER, [(0, b"abc."), (18, b"?"), (34, b"q.")])?;
+    Ok(())
+}
+
+// Of all bytes at this place in First the right one alone shows a record more, or any.
+fn one_byte_shows(
+    rt: &(impl Abort + AllocGlobal),
+    half: &[u8],
+    at: usize,
+    right: u8,
+    with: &[u8],
+    without: &[u8],
+) -> Result<(), AllocError> {
+    let mut bytes = Vec::from_slice(rt.alloc(), half)?;
+    for byte in 0..=255u8 {
+        if let Some(place) = bytes.get_mut(at) {
+            *place = byte;
+        }
+        shows(rt, &bytes, b"", if byte == right { with } else { without })?;
     }
     Ok(())
 }
 
 #[test]
 fn each_gate(rt: HostRuntime) -> Result<(), Fail> {
-    let mut half = Vec::from_slice(rt.alloc(), TWO)?;
-    for gate in 0..=255u8 {
-        half[8] = gate;
-        let want: &[u8] = if gate == 1 { b"abc." } else { b"" };
-        shows(&rt, &half, b"", want)?;
-    }
+    one_byte_shows(&rt, ONE, 8, 1, b"abc.", b"")?;
+    one_byte_shows(&rt, TWO, 8, 1, b"abc.", b"")?;
+    one_byte_shows(&rt, TWICE, 26, 1, b"a.b.", b"a.")?;
+    one_byte_shows(&rt, LATER, 16, 1, b"q.", b"?")?;
+    Ok(())
+}
+
+// The last byte of a record's number.
+#[test]
+fn each_number(rt: HostRuntime) -> Result<(), Fail> {
+    one_byte_shows(&rt, TWO, 24, 1, b"abc.", b"?")?;
+    one_byte_shows(&rt, TWICE, 24, 1, b"a.b.", b"?")?;
+    one_byte_shows(&rt, TWICE, 42, 2, b"a.b.", b"?")?;
+    one_byte_shows(&rt, LATER, 32, 1, b"q.", b"?")?;
     Ok(())
 }

@@ -1,5 +1,5 @@
 //! The plain form of a table: a list that is read from the first record to the last.
-ghost use Rattle.std.specs.Prelude.{◌≡◌, ◌<◌, ◌≤◌, ◌+◌, [], OnOk, IsOk, IfSome, Some, option_map, length, slice_get, remove};
+ghost use Rattle.std.specs.Prelude.{◌≡◌, ◌<◌, ◌≤◌, ◌+◌, ◌++◌, ◌∷◌, [], OnOk, IsOk, IfOk, IfSome, Some, option_map, length, slice_get, remove};
 ghost use Rattle.std.specs.List.{position_from};
 ghost use Rattle.heat_plan.specs.Tables.{at, put, cut};
 
@@ -85,6 +85,15 @@ impl<T: Keyed> ListTable<T> {
         self.all.remove(at)
     }
 
+    /// Puts a record behind all others, be its key there or not, within the room.
+    pub fn push(&mut self, item: T)
+        requires { 0 < self.old.spare }
+        ensures items { self.new.items ≡ self.old.items ++ item ∷ [] }
+        ensures room { self.old.spare ≤ self.new.spare + 1 }
+    {
+        self.all.push(item);
+    }
+
     /// Writes a record over the one of its key, or behind all others.
     #[tactic(auto, using(crate::proofs::Puts::puts))]
     pub fn put(&mut self, item: T)
@@ -124,5 +133,16 @@ impl<T: Keyed> ListTable<T> {
                 let _ = self.all.remove(at);
             }
         }
+    }
+}
+
+impl<T: Keyed + Copy> ListTable<T> {
+    /// The same records, with room of its own.
+    pub fn copied(&self) -> Result<Self, AllocError>
+        ensures { IfOk result (λ copy. copy.items ≡ self.now.items) }
+    {
+        Ok(ListTable {
+            all: self.all.copied()?,
+        })
     }
 }

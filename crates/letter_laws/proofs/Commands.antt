@@ -18,8 +18,8 @@ use Rattle.soundness.specs.Elsewhere.{Elsewhere}
 use Rattle.soundness.specs.Groups.{KeptByCommands}
 use Rattle.soundness.specs.MailFits.{IsNewest, LettersFit}
 use Rattle.soundness.specs.Sound.{Standing}
-use Rattle.table_laws.proofs.Rows.{graph_here, same_some, stack_cut, stack_here, text_or_not}
-use Rattle.frame_laws.proofs.Commands.{commands_on_one}
+use Rattle.graph_laws.proofs.Below.{graph_here, same_some, stack_cut, stack_here, text_or_not}
+use Rattle.graph_laws.proofs.Below.{commands_on_one}
 use Rattle.graph_laws.proofs.Chosen.{put_rows}
 use Rattle.graph_laws.proofs.Commands.{comes, g, laid, st}
 use Rattle.graph_laws.proofs.Gathers.{node_at}

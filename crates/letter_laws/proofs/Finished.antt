@@ -21,7 +21,7 @@ use Rattle.step_relation.specs.Writes.{mark_complete}
 use Rattle.soundness.specs.GraphFits.{graph_of}
 use Rattle.soundness.specs.MailFits.{LettersFit}
 use Rattle.soundness.specs.Sound.{Standing}
-use Rattle.table_laws.proofs.Rows.{graph_kept, same_some, stack-key, stack_cut, text_or_not}
+use Rattle.graph_laws.proofs.Below.{graph_kept, same_some, stack-key, stack_cut, text_or_not}
 use Rattle.graph_laws.proofs.Finished.{between, comes, graph_is, its_stack, v, written_else, written_here}
 use Rattle.graph_laws.proofs.Gathers.{inputs_keep, node_at}
 use Rattle.graph_laws.proofs.Kept.{SameStacks, stacks_marked, stacks_same}

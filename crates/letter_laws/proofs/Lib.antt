@@ -1,3 +1,4 @@
+pub mod Below
 pub mod Onward
 pub mod Sent
 pub mod Finished

@@ -15,7 +15,7 @@ use Rattle.core_state.specs.declared.graph.Graph.{Graph}
 use Rattle.soundness.specs.MailFits.{LettersFit}
 use Rattle.soundness.specs.Sound.{Standing}
 use Rattle.step_relation.specs.Takes.{Relays}
-use Rattle.table_laws.proofs.Rows.{stack-key}
+use Rattle.graph_laws.proofs.Below.{stack-key}
 use Rattle.graph_laws.proofs.Kept.{stacks_same}
 use Rattle.graph_laws.proofs.Placed.{job_graph, job_ready}
 use Rattle.letter_laws.proofs.Finished.{finish_keeps, finish_marks}

@@ -11,7 +11,7 @@ use Rattle.core_state.specs.declared.graph.Graph.{Graph}
 use Rattle.core_state.specs.declared.stack.Stack.{Stack}
 use Rattle.step_relation.specs.Writes.{letter_to, letters_to}
 use Rattle.soundness.specs.MailFits.{IsNewest, LetterStands, LettersFit}
-use Rattle.table_laws.proofs.Rows.{letter_put}
+use Rattle.graph_laws.proofs.Below.{letter_put}
 use Rattle.graph_laws.proofs.Kept.{SameStacks, sent}
 
 -- a ready node stands where the letter goes

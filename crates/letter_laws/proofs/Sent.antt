@@ -23,7 +23,7 @@ use Rattle.step_relation.specs.Takes.{released_changes}
 use Rattle.step_relation.specs.Writes.{letter_to, lock, mark_failed, unlock}
 use Rattle.soundness.specs.MailFits.{LettersFit}
 use Rattle.soundness.specs.Sound.{Standing}
-use Rattle.table_laws.proofs.Rows.{letter_cut, stack-key}
+use Rattle.graph_laws.proofs.Below.{letter_cut, stack-key}
 use Rattle.graph_laws.proofs.Finished.{rows_then, unlocks}
 use Rattle.graph_laws.proofs.Kept.{SameStacks, drawn, draws, sends, sends_all, sent, stacks_marked, stacks_same}
 use Rattle.letter_laws.proofs.Onward.{Goes, GoesTo, grown_same, letters_fit, sent_found, was_same}

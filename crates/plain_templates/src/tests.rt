@@ -62,7 +62,8 @@ fn bodies_have_their_plans(rt: HostRuntime) -> Result<(), Fail> {
         ("", ""),
         ("'b':{'type':'Test::Box'},'a':{'type':'Test::Box'}", " a b"),
         (
-            "'a':{'type':'Test::Box','deletion_policy':'Retain','depends_on':['c','b','c']},'b':{'type':'Test::Box'},'c':{'type':'Test::Box'}",
+            "'a':{'type':'Test::Box','deletion_policy':'Retain','depends_on':['c','b','c']},\
+             'b':{'type':'Test::Box'},'c':{'type':'Test::Box'}",
             " a<b<c! b c",
         ),
         (
@@ -71,11 +72,13 @@ fn bodies_have_their_plans(rt: HostRuntime) -> Result<(), Fail> {
         ),
         ("'a':{'type':'Test::Box','depends_on':'a'}", "A04 ['a']"),
         (
-            "'a':{'type':'Test::Box','depends_on':'b'},'b':{'type':'Test::Box','depends_on':['d','c']},'c':{'type':'Test::Box','depends_on':'b'},'d':{'type':'Test::Box'}",
+            "'a':{'type':'Test::Box','depends_on':'b'},'b':{'type':'Test::Box','depends_on':['d','c']},\
+             'c':{'type':'Test::Box','depends_on':'b'},'d':{'type':'Test::Box'}",
             "A04 ['b','c']",
         ),
         (
-            "'b':{'type':'Test::Box','depends_on':'c'},'c':{'type':'Test::Box','depends_on':'d'},'d':{'type':'Test::Box','depends_on':['c','b']}",
+            "'b':{'type':'Test::Box','depends_on':'c'},'c':{'type':'Test::Box','depends_on':'d'},\
+             'd':{'type':'Test::Box','depends_on':['c','b']}",
             "A04 ['b','c','d']",
         ),
         (

@@ -54,7 +54,8 @@ pub record Adds (token : Token) (kind : List ℕ) (props : Members) (old new : C
   pub absent : entry_of old token ≡ None
   pub room : ¬ IsFull old kind
   pub facts : Facts
-  pub entry : entry_of new token ≡ Some (record { token = token; kind = kind; props = props; facts = facts; ready = false })
+  pub entry : entry_of new token
+      ≡ Some (record { token = token; kind = kind; props = props; facts = facts; ready = false })
   pub young : new.leaving token ≡ false
   pub others : KeepsOthers token old new
 
@@ -93,7 +94,8 @@ pub record HasProps (cloud : Cloud) (token : Token) (props : Members) : Type 0 w
 abbrev pub Takes : Token → Request → Cloud → Cloud → Type 0
 Takes token (Create kind props) old new = Adds token kind props old new ⊎ (IsAlive old token × Renews token old new)
 Takes token (Update props) old new = Sets token props old new ⊎ (HasProps old token props × Renews token old new)
-Takes token Delete old new = SendsAway token old new ⊎ ((IsAlive old token → old.leaving token ≡ true) × Renews token old new)
+Takes token Delete old new =
+    SendsAway token old new ⊎ ((IsAlive old token → old.leaving token ≡ true) × Renews token old new)
 Takes token Poll old new = ⊥
 Takes token Gone old new = ⊥
 

@@ -1,5 +1,6 @@
 -- What a cloud shows, and the words in which its calls are said.
-use Rattle.std.specs.Prelude.{◌≡◌, ◌≢◌, ◌≤◌, ℕ, List, [], Bool, Option, Some, None, IsTrue, IsSome, if◌then◌else◌, option_map, find, filter, length, bytes_eq, AllPairs}
+use Rattle.std.specs.Prelude.{◌≡◌, ◌≢◌, ◌≤◌, ℕ, List, [], Bool, Option, Some, None, IsTrue, IsSome}
+use Rattle.std.specs.Prelude.{if◌then◌else◌, option_map, find, filter, length, bytes_eq, AllPairs}
 use Rattle.heat_plan.specs.declared.token.Token.{Token}
 use Rattle.provider.specs.declared.alive.Alive.{Alive}
 use Rattle.provider.specs.declared.traced.Traced.{Traced}
@@ -34,7 +35,8 @@ HasNone cloud = cloud.alive ≡ []
 
 -- a resource as a state: the facts only where it is ready
 abbrev pub living_of : Bool → Alive → Living
-living_of leaving a = record { kind = a.kind; props = a.props; facts = if a.ready then Some a.facts else None; leaving = leaving }
+living_of leaving a =
+    record { kind = a.kind; props = a.props; facts = if a.ready then Some a.facts else None; leaving = leaving }
 
 -- the state of a token
 abbrev pub state_of : Cloud → Token → TokenState

@@ -1,7 +1,8 @@
 -- Whether two tokens, property maps, facts or states are the same.
 use Rattle.std.specs.Prelude.{Bool, true, false, not, ◌&&◌, ◌==◌, bytes_eq}
 use Rattle.std.specs.Ordering.{int_eq}
-use Rattle.heat_value.specs.Data.{Data, null, flag, whole, words, items, fields, Nodes, no_nodes, node, Members, no_members, member}
+use Rattle.heat_value.specs.Data.{Data, null, flag, whole, words, items, fields, Nodes}
+use Rattle.heat_value.specs.Data.{no_nodes, node, Members, no_members, member}
 use Rattle.heat_plan.specs.declared.token.Token.{Token}
 use Rattle.heat_plan.specs.declared.facts.Facts.{Facts}
 

@@ -1,5 +1,6 @@
 -- The states in which a token may be, and what each answer makes of them: the table of the cloud.
-use Rattle.std.specs.Prelude.{ℕ, List, [], ◌∷◌, Bool, true, false, not, ◌&&◌, bytes_eq, Option, Some, None, if◌then◌else◌, filter, flat_map}
+use Rattle.std.specs.Prelude.{ℕ, List, [], ◌∷◌, Bool, true, false, not, ◌&&◌, bytes_eq}
+use Rattle.std.specs.Prelude.{Option, Some, None, if◌then◌else◌, filter, flat_map}
 use Rattle.heat_value.specs.Data.{Members}
 use Rattle.heat_plan.specs.declared.facts.Facts.{Facts}
 use Rattle.heat_plan.specs.declared.calls.Request.{Request}
@@ -76,7 +77,8 @@ same_told a b = false
 abbrev pub same_state : TokenState → TokenState → Bool
 same_state None None = true
 same_state (Some a) (Some b) =
-    bytes_eq a.kind b.kind && (same_members a.props b.props && (same_told a.facts b.facts && same_flag a.leaving b.leaving))
+    bytes_eq a.kind b.kind
+    && (same_members a.props b.props && (same_told a.facts b.facts && same_flag a.leaving b.leaving))
 same_state a b = false
 
 -- each state once, at its first place

@@ -6,7 +6,8 @@ ghost use Rattle.heat_plan.specs.declared.calls.Request.TheVariants as ask;
 ghost use Rattle.provider.specs.declared.alive.Alive.{Alive};
 ghost use Rattle.provider.specs.Cloud.{Cloud, IsAlive, IsLawful};
 ghost use Rattle.provider.specs.Changes.{IsAsBefore};
-ghost use Rattle.provider.specs.Calls.{MayGo, HasBegun, HasFailed, IsRefused, Waits, IsReady, IsBroken, IsGone, Lingers, Lists, ListsNone};
+ghost use Rattle.provider.specs.Calls.{MayGo, HasBegun, HasFailed, IsRefused, Waits, IsReady};
+ghost use Rattle.provider.specs.Calls.{IsBroken, IsGone, Lingers, Lists, ListsNone};
 
 use crate::{Answer, Gone, Listed, Poll};
 use heat_plan::{Kind, Properties, Token};

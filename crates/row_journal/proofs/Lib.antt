@@ -11,3 +11,4 @@ pub mod Shut
 pub mod Staged
 pub mod Sides
 pub mod Turning
+pub mod Lives

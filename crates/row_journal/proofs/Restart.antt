@@ -15,7 +15,7 @@ use Rattle.journal_form.specs.Images.{ImageData, HasHeader, IsPlain, Gives, live
 use Rattle.row_journal.specs.declared.looking.Ending.TheVariants.{Short}
 use Rattle.row_journal.specs.declared.place.Place.{Place}
 use Rattle.row_journal.specs.Ends.{end_of, IsTidy, Leaves}
-use Rattle.row_journal.specs.Mends.{IsSettled, Mended}
+use Rattle.row_journal.specs.Mends.{IsSettled, HasMended, Mended}
 use Rattle.row_journal.specs.Places.{place_of}
 use Rattle.row_journal.specs.Ready.{IsReady}
 use Rattle.row_journal.proofs.Laid.{gives_half}
@@ -157,3 +157,6 @@ module _ (place : Place) (image : ImageData) (is : place ≡ place_of image) (ol
 
         pub after_ready : first.seen ≡ changed place.half (take 0) old.seen → second.seen ≡ changed place.half (overwritten 0 fresh_bytes) first.seen → OnOk three (IsReady image last)
         after_ready was_cut was_written = on_ok three (is_ready was_cut was_written) did_sync.durable
+
+        pub after_bytes : first.seen ≡ changed place.half (take 0) old.seen → second.seen ≡ changed place.half (overwritten 0 fresh_bytes) first.seen → OnOk three (HasMended image old.seen last.seen)
+        after_bytes was_cut was_written = on_ok three (λ was_all. HasMended.begun settled.ends.0 settled.ends.1 (last_is was_cut was_written was_all)) did_sync.durable

@@ -16,7 +16,7 @@ use Rattle.row_journal.specs.declared.place.Place.{Place}
 use Rattle.row_journal.specs.Places.{place_of}
 use Rattle.row_journal.specs.declared.looking.Ending.TheVariants.{Open}
 use Rattle.row_journal.specs.Ends.{end_of, behind, HasNext, IsTidy, Leaves}
-use Rattle.row_journal.specs.Mends.{other, IsSettled, Mended}
+use Rattle.row_journal.specs.Mends.{other, IsSettled, HasMended, Mended}
 use Rattle.row_journal.specs.Ready.{IsReady}
 use Rattle.row_journal.proofs.Cuts.{torn_at, no_shorter}
 use Rattle.row_journal.proofs.Laid.{gives_half, laid}
@@ -148,3 +148,6 @@ module _ (place : Place) (image : ImageData) (is : place ≡ place_of image) (ol
 
       pub last_ready : first.seen ≡ changed place.half (overwritten place.end (0 ∷ [])) old.seen → OnOk two (IsReady image last)
       last_ready was_written = on_ok two (is_ready was_written) did_sync.durable
+
+      pub last_bytes : first.seen ≡ changed place.half (overwritten place.end (0 ∷ [])) old.seen → OnOk two (HasMended image old.seen last.seen)
+      last_bytes was_written = on_ok two (λ was_all. HasMended.shut settled.ends.0 settled.ends.1 (syncs.alike.seen ∙ written was_written was_all)) did_sync.durable

@@ -6,3 +6,4 @@ pub mod Ready
 pub mod Openings
 pub mod Shown
 pub mod Snapshots
+pub mod Lives

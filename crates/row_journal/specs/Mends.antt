@@ -1,13 +1,16 @@
--- What a recovery mends, and what a crash inside it may leave.
-use Rattle.std.specs.Prelude.{◌≡◌, ◌≢◌, ◌⊎◌, ℕ, List}
+-- What a recovery mends, what it then has written, and what a crash inside it may leave.
+use Rattle.std.specs.Prelude.{◌≡◌, ◌≢◌, ◌⊎◌, ◌<◌, ◌≤◌, ℕ, List, [], ◌∷◌, ◌++◌, length}
 use Rattle.heat_disk.specs.declared.half.Half.{Half}
 use Rattle.heat_disk.specs.declared.half.Half.TheVariants.{First, Second}
-use Rattle.heat_disk.specs.Halves.{Pair, part}
+use Rattle.heat_disk.specs.Halves.{Pair, part, changed}
+use Rattle.heat_disk.specs.Images.{overwritten}
 use Rattle.heat_disk.specs.Shown.{ShownDisk, IsDurable}
+use Rattle.journal_form.specs.declared.version.Version.TheVariants.{Two}
+use Rattle.journal_form.specs.Forms.{journal_mark}
 use Rattle.journal_form.specs.Images.{ImageData, IsImage}
 use Rattle.row_journal.specs.declared.looking.Ending.{Ending}
 use Rattle.row_journal.specs.declared.place.Place.{Place}
-use Rattle.row_journal.specs.Ends.{end_of, behind, with_next, HasNext, Leaves}
+use Rattle.row_journal.specs.Ends.{end_of, behind, with_next, IsClosed, HasNext, Leaves}
 use Rattle.row_journal.specs.Found.{EndsBy}
 use Rattle.row_journal.specs.Places.{place_of}
 
@@ -37,3 +40,13 @@ pub data Mended (image : ImageData) (before halves : Pair) : Type 0 where
 -- Inside a recovery a crash leaves what it might have left before, or what the mending may leave.
 abbrev pub Recovering : ShownDisk → ImageData → Pair → Type 0
 Recovering old image halves = old.may_leave halves ⊎ Mended image old.seen halves
+
+-- the bytes of both halves after it: an empty journal in place of a First of at most 9 bytes; else as before, or, where
+-- the image didn't end at a gate 00, with one there
+pub data HasMended (image : ImageData) (before after : Pair) : Type 0 where
+  begun : image.half ≡ First → length (part image.half before) ≤ 9
+      → after ≡ (journal_mark Two ++ 0 ∷ [], before.1) → HasMended image before after
+  as_it_was : (image.half ≡ First → 9 < length (part image.half before)) → IsClosed (behind before image)
+      → after ≡ before → HasMended image before after
+  shut : (image.half ≡ First → 9 < length (part image.half before)) → (IsClosed (behind before image) → ⊥)
+      → after ≡ changed image.half (overwritten (end_of image) (0 ∷ [])) before → HasMended image before after

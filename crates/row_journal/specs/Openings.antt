@@ -5,17 +5,19 @@ use Rattle.heat_disk.specs.Shown.{ShownDisk, LeavesOnly}
 use Rattle.journal_form.specs.Images.{ImageData, IsImage}
 use Rattle.row_journal.specs.declared.place.Place.{Place}
 use Rattle.row_journal.specs.Ends.{IsTidy}
-use Rattle.row_journal.specs.Mends.{Recovering}
+use Rattle.row_journal.specs.Mends.{HasMended, Recovering}
 use Rattle.row_journal.specs.Places.{place_of}
 use Rattle.row_journal.specs.Ready.{IsReady}
 
--- The payloads are those of the image that the disk read as, and the journal is ready to go on from there.
+-- The payloads are those of the image that the disk read as, the journal is ready to go on from there, and no byte has
+-- changed but by the closed gate that was lacking.
 pub record HasOpened (old new : ShownDisk) (place : Place) (payloads : List (List ℕ)) : Type 0 where
   pub image : ImageData
   pub is_image : IsImage old.seen image
   pub payloads_are : payloads ≡ image.payloads
   pub numbers : place ≡ place_of image
   pub ready : IsReady image new
+  pub bytes : HasMended image old.seen new.seen
 
 -- where the halves were tidy, a crash at any moment since leaves one of the images that a recovery may leave
 abbrev pub Survives : ShownDisk → ShownDisk → Type 0

@@ -1,5 +1,5 @@
 //! The journal.
-ghost use Rattle.std.specs.Prelude.{◌≡◌, ◌⊎◌, ◌↔◌, ◌<◌, ◌≤◌, ◌-◌, ◌^◌, IsTrue, OnOk, length};
+ghost use Rattle.std.specs.Prelude.{◌≡◌, ◌⊎◌, ◌↔◌, ◌<◌, ◌≤◌, ◌-◌, ◌^◌, false, IsTrue, IsOk, OnOk, length};
 ghost use Rattle.heat_disk.specs.Shown.{SameContent, LeavesOnly};
 ghost use Rattle.heat_disk.specs.Calls.{ReadsAlike};
 ghost use Rattle.heat_disk.specs.Causes.{HasCause};
@@ -27,21 +27,32 @@ use journal_form::Version;
 use std::alloc::{AllocError, Global};
 use std::marker::Model;
 
-/// A journal on its disk.
+/// A journal on its disk. Until an append or a snapshot of it failed, it stands at the image that its
+/// disk reads as.
 #[derive(Drop)]
 pub struct Journal<D: Disk> {
     disk: D,
     place: Place,
     buffer: Buffer,
+    failed: bool,
 }
 
 impl<D: Disk> Model for Journal<D> {
+    ghost use Rattle.std.specs.Prelude.{◌≡◌, false, IsTrue};
+    ghost use Rattle.row_journal.specs.Ready.{StandsAt};
     ghost use Rattle.row_journal.specs.Shown.{JournalData};
-    ghost use Rattle.row_journal.specs.Snapshots.{HasSnapshotRoom, fresh_snapshot, LeavesSnapshot};
 
     ghost Value = { JournalData D };
 
-    ghost view = { λ j. record { disk = j.disk; place = j.place; room = j.buffer.room } };
+    ghost view = { λ j. record {
+      disk = j.disk;
+      place = j.place;
+      room = j.buffer.room;
+      failed = j.failed;
+    } };
+
+    ghost invariant = { λ j. j.failed ≡ false → IsTrue (D.shown j.disk).tells →
+        StandsAt j.place (D.shown j.disk) };
 }
 
 impl<D: Disk> Journal<D> {
@@ -61,7 +72,8 @@ impl<D: Disk> Journal<D> {
             ReadsAlike (D.shown disk) (D.shown d) }
 
         ensures journal { (j : JournalData D) (v : _) → result ≡ Recovered.Opened j v →
-            GoesOn (D.shown disk) (D.shown j.disk) (D.faults disk) (D.faults j.disk) }
+            GoesOn (D.shown disk) (D.shown j.disk) (D.faults disk) (D.faults j.disk)
+            × (j.failed ≡ false) }
         ensures disk { (d : D) → (result ≡ Recovered.Foreign d)
             ⊎ ((result ≡ Recovered.DiskFault d) ⊎ (result ≡ Recovered.Memory d)) →
             GoesOn (D.shown disk) (D.shown d) (D.faults disk) (D.faults d) }
@@ -73,6 +85,7 @@ impl<D: Disk> Journal<D> {
                     disk,
                     place: found.place,
                     buffer: Buffer::new(alloc),
+                    failed: false,
                 };
                 Recovered::Opened(journal, found.payloads)
             }
@@ -112,6 +125,7 @@ impl<D: Disk> Journal<D> {
             disk,
             place: _,
             buffer: _,
+            failed: _,
         } = self;
         disk
     }
@@ -124,6 +138,16 @@ impl<D: Disk> Journal<D> {
             Version::One => 1,
             Version::Two => 2,
         }
+    }
+
+    /// Whether an append or a snapshot of it failed. Then no other is made: an opening of its disk says
+    /// what stands there.
+    pub fn has_failed(&self) -> bool
+        ensures exact { result ≡ self.now.failed }
+        ensures stands { self.now.failed ≡ false → IsTrue (D.shown self.now.disk).tells →
+            StandsAt self.now.place (D.shown self.now.disk) }
+    {
+        self.failed
     }
 
     /// Whether a snapshot would make it shorter by much.
@@ -141,6 +165,7 @@ impl<D: Disk> Journal<D> {
         ensures ready { IsTrue (D.shown self.old.disk).tells → (image : ImageData) →
             IsReady image (D.shown self.old.disk) → IsReady image (D.shown self.new.disk) }
         ensures place { self.new.place ≡ self.old.place }
+        ensures failed { self.new.failed ≡ self.old.failed }
         ensures room { self.old.room ≤ self.new.room }
         ensures content { IsTrue (D.shown self.old.disk).tells →
             SameContent (D.shown self.old.disk) (D.shown self.new.disk) }
@@ -162,8 +187,7 @@ impl<D: Disk> Journal<D> {
         requires version { self.old.place.version ≡ Two }
         requires reserved { HasReserved (length bytes.now) self.old.place self.old.room
             (D.shown self.old.disk) }
-        requires ready { IsTrue (D.shown self.old.disk).tells →
-            StandsAt self.old.place (D.shown self.old.disk) }
+        requires going { self.old.failed ≡ false }
 
         // A crash at any moment of the call leaves the image with the record or without it.
         ensures any_moment { IsTrue (D.shown self.old.disk).tells → (image : ImageData) →
@@ -176,12 +200,15 @@ impl<D: Disk> Journal<D> {
             × IsReady (with_next image bytes.now) (D.shown self.new.disk)) }
 
         ensures version { self.new.place.version ≡ Two }
+        ensures going { (self.new.failed ≡ false) ↔ IsOk result }
         ensures tells { (D.shown self.new.disk).tells ≡ (D.shown self.old.disk).tells }
         ensures cause { HasCause (D.faults self.old.disk) (D.faults self.new.disk) result }
     {
+        self.failed = true;
         self.buffer.fill(self.place.count + 1, bytes);
         add_record(&mut self.disk, self.place, self.buffer.as_slice())?;
         self.place = self.place.next(bytes.len() as u64);
+        self.failed = false;
         Ok(())
     }
 
@@ -200,6 +227,7 @@ impl<D: Disk> Journal<D> {
         ensures ready { IsTrue (D.shown self.old.disk).tells → (image : ImageData) →
             IsReady image (D.shown self.old.disk) → IsReady image (D.shown self.new.disk) }
         ensures place { self.new.place ≡ self.old.place }
+        ensures failed { self.new.failed ≡ self.old.failed }
         ensures room { self.old.room ≤ self.new.room }
         ensures content { IsTrue (D.shown self.old.disk).tells →
             SameContent (D.shown self.old.disk) (D.shown self.new.disk) }
@@ -221,8 +249,7 @@ impl<D: Disk> Journal<D> {
         requires young { self.old.place.epoch < 2 ^ 62 - 1 }
         requires reserved { HasSnapshotRoom (length bytes.now) self.old.place self.old.room
             (D.shown self.old.disk) }
-        requires ready { IsTrue (D.shown self.old.disk).tells →
-            StandsAt self.old.place (D.shown self.old.disk) }
+        requires going { self.old.failed ≡ false }
 
         // A crash at any moment of the call leaves the image from before it or the snapshot's.
         ensures any_moment { IsTrue (D.shown self.old.disk).tells → (image : ImageData) →
@@ -235,12 +262,15 @@ impl<D: Disk> Journal<D> {
             × IsReady (fresh_snapshot image bytes.now) (D.shown self.new.disk)) }
 
         ensures version { OnOk result (self.new.place.version ≡ Two) }
+        ensures going { (self.new.failed ≡ false) ↔ IsOk result }
         ensures tells { (D.shown self.new.disk).tells ≡ (D.shown self.old.disk).tells }
         ensures cause { HasCause (D.faults self.old.disk) (D.faults self.new.disk) result }
     {
+        self.failed = true;
         self.buffer.fill(1, bytes);
         write_snapshot(&mut self.disk, self.place, self.buffer.as_slice())?;
         self.place = self.place.after_snapshot(bytes.len() as u64);
+        self.failed = false;
         Ok(())
     }
 }

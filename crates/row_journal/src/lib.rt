@@ -8,6 +8,7 @@ mod adding;
 mod buffer;
 mod fault;
 mod journal;
+mod laws;
 mod looking;
 mod mending;
 mod opening;
@@ -17,7 +18,10 @@ mod snapshots;
 mod taking;
 #[cfg(test)]
 mod tests;
+#[cfg(test)]
+mod worked;
 
 pub use journal::Journal;
+pub use laws::journals_survive;
 pub use opening::{Imaged, Recovered};
 pub use place::Place;

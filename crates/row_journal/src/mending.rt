@@ -7,7 +7,7 @@ ghost use Rattle.heat_disk.specs.Halves.{part};
 ghost use Rattle.heat_disk.specs.Shown.{HasRoom, IsLeft, IsAtLeast, IsDurable, LeavesOnly};
 ghost use Rattle.journal_form.specs.Images.{ImageData};
 ghost use Rattle.row_journal.specs.Ends.{IsTidy};
-ghost use Rattle.row_journal.specs.Mends.{other, IsSettled, SettlesAt, Mended};
+ghost use Rattle.row_journal.specs.Mends.{other, IsSettled, SettlesAt, HasMended, Mended};
 ghost use Rattle.row_journal.specs.Places.{place_of};
 ghost use Rattle.row_journal.specs.Ready.{IsReady};
 
@@ -56,6 +56,9 @@ pub(crate) fn mend<D: Disk>(disk: &mut D, place: Place, ending: Ending) -> Resul
     ensures ready { IsTrue (D.shown disk.old).tells → (image : ImageData) →
         place ≡ place_of image → IsSettled image ending (D.shown disk.old) →
         OnOk result (IsReady image (D.shown disk.new)) }
+    ensures bytes { IsTrue (D.shown disk.old).tells → (image : ImageData) →
+        place ≡ place_of image → IsSettled image ending (D.shown disk.old) →
+        OnOk result (HasMended image (D.shown disk.old).seen (D.shown disk.new).seen) }
     ensures tells { (D.shown disk.new).tells ≡ (D.shown disk.old).tells }
     ensures cause { HasCause (D.faults disk.old) (D.faults disk.new) result }
 {
@@ -76,6 +79,9 @@ fn restart<D: Disk>(disk: &mut D, place: Place) -> Result<(), DiskFailed>
     ensures ready { IsTrue (D.shown disk.old).tells → (image : ImageData) →
         place ≡ place_of image → IsSettled image Ending.Short (D.shown disk.old) →
         OnOk result (IsReady image (D.shown disk.new)) }
+    ensures bytes { IsTrue (D.shown disk.old).tells → (image : ImageData) →
+        place ≡ place_of image → IsSettled image Ending.Short (D.shown disk.old) →
+        OnOk result (HasMended image (D.shown disk.old).seen (D.shown disk.new).seen) }
     ensures tells { (D.shown disk.new).tells ≡ (D.shown disk.old).tells }
     ensures cause { HasCause (D.faults disk.old) (D.faults disk.new) result }
 {
@@ -97,6 +103,9 @@ fn close<D: Disk>(disk: &mut D, place: Place) -> Result<(), DiskFailed>
     ensures ready { IsTrue (D.shown disk.old).tells → (image : ImageData) →
         place ≡ place_of image → IsSettled image Ending.Open (D.shown disk.old) →
         OnOk result (IsReady image (D.shown disk.new)) }
+    ensures bytes { IsTrue (D.shown disk.old).tells → (image : ImageData) →
+        place ≡ place_of image → IsSettled image Ending.Open (D.shown disk.old) →
+        OnOk result (HasMended image (D.shown disk.old).seen (D.shown disk.new).seen) }
     ensures tells { (D.shown disk.new).tells ≡ (D.shown disk.old).tells }
     ensures cause { HasCause (D.faults disk.old) (D.faults disk.new) result }
 {

@@ -1,10 +1,6 @@
-//! Openings of worked bytes, and a stop at each disk call of appends and openings, with what a crash
-//! then leaves.
-ghost use Rattle.std.specs.Prelude.{◌≡◌, IsTrue, IfOk};
-ghost use Rattle.row_journal.specs.Ready.{StandsAt};
-
+//! A stop at each disk call of openings, appends and snapshots, and what a crash then leaves.
 use crate::{Imaged, Journal, Recovered};
-use heat_disk::{Disk, Fuse, Half, MemDisk};
+use heat_disk::{Disk, Fuse, MemDisk};
 use journal_form::Payload;
 use std::alloc::{AllocError, Global};
 use std::process::Abort;
@@ -12,12 +8,11 @@ use std::test::Fail;
 
 const ONE: &[u8] = b"HEATJ001\x01\0\0\0\0\0\0\0\x03abc\0";
 
-const TWO: &[u8] = b"HEATJ002\x01\0\0\0\0\0\0\0\x03\0\0\0\0\0\0\0\x01abc\0";
-
-const BORN: &[u8] = b"HEATS001\0\0\0\0\0\0\0\x01\x01\0\0\0\0\0\0\0\x03xyz\0";
+// First ends at a gate that a crash left torn, with the whole record `abc` behind it.
+const TORN: &[u8] = b"HEATJ002\x07\0\0\0\0\0\0\0\x03\0\0\0\0\0\0\0\x01abc\0";
 
 // The payloads, each with a stop behind it.
-fn text_of(alloc: Global, payloads: &[Payload]) -> Result<Vec<u8>, AllocError> {
+pub(crate) fn text_of(alloc: Global, payloads: &[Payload]) -> Result<Vec<u8>, AllocError> {
     let mut text = Vec::new(alloc);
     for payload in payloads {
         text.extend_from_slice(payload.as_slice())?;
@@ -26,106 +21,82 @@ fn text_of(alloc: Global, payloads: &[Payload]) -> Result<Vec<u8>, AllocError> {
     Ok(text)
 }
 
-// An opening on First and an empty Second reads this, or `?` where there is no image, and leaves this.
-fn opens(
-    rt: &(impl Abort + AllocGlobal),
-    first: &[u8],
-    second: &[u8],
-    want: &[u8],
-    left: &[u8],
-) -> Result<(), AllocError> {
-    let disk = MemDisk::holding(rt.alloc(), first, second, &[])?;
-    match Journal::recover(rt.alloc(), disk) {
-        Recovered::Opened(journal, payloads) => {
-            let text = text_of(rt.alloc(), &payloads)?;
-            assert_eq!(rt; text.as_slice(), want);
-            let disk = journal.inner();
-            assert_eq!(rt; disk.bytes(Half::First), left);
-        }
-        Recovered::Foreign(disk) => {
-            assert_eq!(rt; want, b"?".as_slice());
-            assert_eq!(rt; disk.bytes(Half::First), left);
-        }
-        Recovered::DiskFault(_disk) => assert!(rt; false),
-        Recovered::Memory(_disk) => assert!(rt; false),
-    }
-    Ok(())
-}
-
 // Adds a record, and says whether the disk took it.
-fn adds<D: Disk>(journal: &mut Journal<D>, bytes: &[u8]) -> Result<bool, AllocError>
-    requires { IsTrue (D.shown journal.old.disk).tells →
-        StandsAt journal.old.place (D.shown journal.old.disk) }
-    ensures tells { (D.shown journal.new.disk).tells ≡ (D.shown journal.old.disk).tells }
-    ensures stands { IfOk result (λ added. IsTrue added → IsTrue (D.shown journal.old.disk).tells →
-        StandsAt journal.new.place (D.shown journal.new.disk)) }
-{
-    if journal.version() != 2 {
+pub(crate) fn adds<D: Disk>(journal: &mut Journal<D>, bytes: &[u8]) -> Result<bool, AllocError> {
+    if journal.has_failed() || journal.version() != 2 {
         return Ok(false);
     }
     journal.reserve(bytes.len())?;
-    match journal.append(bytes) {
-        Ok(()) => Ok(true),
-        Err(_) => Ok(false),
-    }
+    Ok(journal.append(bytes).is_ok())
 }
 
 // Makes a snapshot, and says whether the disk took it.
-fn snaps<D: Disk>(journal: &mut Journal<D>, bytes: &[u8]) -> Result<bool, AllocError>
-    requires { IsTrue (D.shown journal.old.disk).tells →
-        StandsAt journal.old.place (D.shown journal.old.disk) }
-    ensures tells { (D.shown journal.new.disk).tells ≡ (D.shown journal.old.disk).tells }
-    ensures stands { IfOk result (λ taken. IsTrue taken → IsTrue (D.shown journal.old.disk).tells →
-        StandsAt journal.new.place (D.shown journal.new.disk)) }
-{
-    if !journal.can_snapshot() {
+pub(crate) fn snaps<D: Disk>(journal: &mut Journal<D>, bytes: &[u8]) -> Result<bool, AllocError> {
+    if journal.has_failed() || !journal.can_snapshot() {
         return Ok(false);
     }
     journal.reserve_snapshot(bytes.len())?;
-    match journal.snapshot(bytes) {
-        Ok(()) => Ok(true),
-        Err(_) => Ok(false),
+    Ok(journal.snapshot(bytes).is_ok())
+}
+
+// Makes one step: `+b` adds the record `b`, `*s` makes the snapshot `s`.
+fn makes<D: Disk>(journal: &mut Journal<D>, step: &[u8]) -> Result<bool, AllocError> {
+    match step {
+        [b'+', bytes @ ..] => adds(journal, bytes),
+        [b'*', bytes @ ..] => snaps(journal, bytes),
+        _ => Ok(false),
     }
 }
 
-// Adds `b` and `c`, makes a snapshot `s` and adds `d`. How many of the four steps the disk took.
-fn steps<D: Disk>(journal: &mut Journal<D>) -> Result<usize, AllocError>
-    requires { IsTrue (D.shown journal.old.disk).tells →
-        StandsAt journal.old.place (D.shown journal.old.disk) }
-{
-    if !adds(journal, b"b")? {
-        return Ok(0);
+// How many of the steps the disk took.
+fn steps<D: Disk>(journal: &mut Journal<D>, script: &[u8]) -> Result<usize, AllocError> {
+    let mut taken = 0usize;
+    for step in script.chunks(2) {
+        if !makes(journal, step)? {
+            break;
+        }
+        taken = taken.saturating_add(1);
     }
-    if !adds(journal, b"c")? {
-        return Ok(1);
-    }
-    if !snaps(journal, b"s")? {
-        return Ok(2);
-    }
-    if !adds(journal, b"d")? {
-        return Ok(3);
-    }
-    Ok(4)
+    Ok(taken)
 }
 
-// The disk, and how many steps were taken, where each call after so many fails.
-fn stopped(alloc: Global, first: &[u8], passes: u64) -> Result<(MemDisk, usize), AllocError> {
-    let disk = Fuse::new(MemDisk::holding(alloc, first, b"", &[])?, passes);
+// An opening and the steps, and how many of them all were taken.
+fn session(
+    alloc: Global,
+    disk: Fuse<MemDisk>,
+    script: &[u8],
+) -> Result<(Fuse<MemDisk>, usize), AllocError> {
     match Journal::recover(alloc, disk) {
         Recovered::Opened(journal, _payloads) => {
             let mut journal = journal;
-            let taken = steps(&mut journal)?;
-            Ok((journal.inner().inner(), taken))
+            let taken = steps(&mut journal, script)?;
+            Ok((journal.inner(), taken.saturating_add(1)))
         }
         Recovered::Foreign(disk) | Recovered::DiskFault(disk) | Recovered::Memory(disk) => {
-            Ok((disk.inner(), 0))
+            Ok((disk, 0))
         }
     }
 }
 
-// The texts are parted by `|`.
-fn is_among(text: &[u8], texts: &[u8]) -> bool {
-    for one in texts.split(|b| *b == b'|') {
+// Two openings, each with its steps, where each disk call after so many fails.
+fn stopped(
+    alloc: Global,
+    first: &[u8],
+    scripts: [&[u8]; 2],
+    passes: u64,
+) -> Result<(MemDisk, usize), AllocError> {
+    let disk = Fuse::new(MemDisk::holding(alloc, first, b"", &[])?, passes);
+    let (disk, before) = session(alloc, disk, scripts[0])?;
+    let (disk, then) = session(alloc, disk, scripts[1])?;
+    Ok((disk.inner(), before.saturating_add(then)))
+}
+
+// Whether the text is among those at this place. Places are parted by `;`, texts by `|`.
+fn is_among(text: &[u8], texts: &[u8], place: usize) -> bool {
+    let Some(here) = texts.split(|b| *b == b';').nth(place) else {
+        return false;
+    };
+    for one in here.split(|b| *b == b'|') {
         if one == text {
             return true;
         }
@@ -133,80 +104,73 @@ fn is_among(text: &[u8], texts: &[u8]) -> bool {
     false
 }
 
-// What a crash then leaves is the image from before the step that broke off, or after it. `opened` is
-// what an opening may leave.
+// What a crash then leaves is among the texts for so many steps.
 fn leaves_one_of(
     rt: &(impl Abort + AllocGlobal),
-    first: &[u8],
-    passes: u64,
+    disk: &MemDisk,
     fill: Option<u8>,
-    opened: &[u8],
+    texts: &[u8],
+    taken: usize,
 ) -> Result<(), AllocError> {
-    let (disk, taken) = stopped(rt.alloc(), first, passes)?;
     let mut left = disk.crash(fill)?;
     match Journal::image(rt.alloc(), &mut left) {
         Imaged::Payloads(payloads) => {
             let text = text_of(rt.alloc(), &payloads)?;
-            let texts = match taken {
-                0 => opened,
-                1 => b"b.|b.c.",
-                2 => b"b.c.|s.",
-                3 => b"s.|s.d.",
-                _ => b"s.d.",
-            };
-            assert!(rt; is_among(&text, texts), "{passes}");
+            assert!(rt; is_among(&text, texts, taken), "{taken}");
         }
         Imaged::Foreign | Imaged::DiskFault | Imaged::Memory => assert!(rt; false),
     }
     Ok(())
 }
 
-#[test]
-fn stops(rt: HostRuntime) -> Result<(), Fail> {
-    for passes in 0..=32 {
+// Stops at each call in turn, and crashes with four fills. For each number of steps that were taken,
+// the texts have what a crash may then leave: the image from before the next step, and after it.
+fn stops(
+    rt: &(impl Abort + AllocGlobal),
+    first: &[u8],
+    scripts: [&[u8]; 2],
+    texts: &[u8],
+) -> Result<(), AllocError> {
+    for passes in 0..=48 {
+        let (disk, taken) = stopped(rt.alloc(), first, scripts, passes)?;
         for fill in [None, Some(0), Some(1), Some(0xff)] {
-            leaves_one_of(&rt, b"", passes, fill, b"|b.")?;
-            leaves_one_of(&rt, b"HEATJ002\0", passes, fill, b"|b.")?;
+            leaves_one_of(rt, &disk, fill, texts, taken)?;
         }
     }
     Ok(())
 }
 
-// First ends at a gate that a crash left torn, with the whole record `abc` behind it.
+#[test]
+fn stops_in_an_empty_journal(rt: HostRuntime) -> Result<(), Fail> {
+    for first in [b"".as_slice(), b"HEATJ002\0".as_slice()] {
+        stops(
+            &rt,
+            first,
+            [b"+b+c*s", b"+d"],
+            b";|b.;b.|b.c.;b.c.|s.;s.;s.|s.d.;s.d.",
+        )?;
+    }
+    Ok(())
+}
+
+#[test]
+fn stops_in_version_one(rt: HostRuntime) -> Result<(), Fail> {
+    stops(
+        &rt,
+        ONE,
+        [b"*s+b", b"*t*u"],
+        b"abc.;abc.|s.;s.|s.b.;s.b.;s.b.|t.;t.|u.;u.",
+    )?;
+    Ok(())
+}
+
 #[test]
 fn stops_where_a_gate_was_torn(rt: HostRuntime) -> Result<(), Fail> {
-    let mut torn = Vec::from_slice(rt.alloc(), TWO)?;
-    torn[8] = 7;
-    for passes in 0..=32 {
-        for fill in [None, Some(0), Some(1), Some(0xff)] {
-            leaves_one_of(&rt, &torn, passes, fill, b"|abc.|b.")?;
-        }
-    }
-    Ok(())
-}
-
-#[test]
-fn openings(rt: HostRuntime) -> Result<(), Fail> {
-    let rows: [(&[u8], &[u8], &[u8]); 10] = [
-        (b"", b"", b"HEATJ002\0"),
-        (b"any nine!", b"", b"HEATJ002\0"),
-        (b"any other!", b"?", b"any other!"),
-        (ONE, b"abc.", ONE),
-        (TWO, b"abc.", TWO),
-        (b"HEATJ003\0\0", b"?", b"HEATJ003\0\0"),
-        (b"HEATJ002\0\0", b"", b"HEATJ002\0\0"),
-        (b"HEATJ001\x07\0\0", b"", b"HEATJ001\0\0\0"),
-        (&TWO[..28], b"abc.", TWO),
-        (
-            b"HEATJ001\x01\0\0\0\0\0\0\0\x01a",
-            b"a.",
-            b"HEATJ001\x01\0\0\0\0\0\0\0\x01a\0",
-        ),
-    ];
-    for (first, want, left) in rows {
-        opens(&rt, first, b"", want, left)?;
-    }
-    opens(&rt, ONE, BORN, b"xyz.", ONE)?;
-    opens(&rt, ONE, &BORN[..17], b"abc.", ONE)?;
+    stops(
+        &rt,
+        TORN,
+        [b"+b", b"*s+d"],
+        b"|abc.;|b.;b.;b.|s.;s.|s.d.;s.d.",
+    )?;
     Ok(())
 }

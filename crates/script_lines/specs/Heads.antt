@@ -1,7 +1,8 @@
 -- The first word of a line, by what has to stand behind it.
 use Rattle.std.specs.Prelude.{◌≡◌, ℕ, List, ◌∷◌, codes, bytes_eq, if◌then◌else◌}
 use Rattle.script_lines.specs.declared.head.Head.{Head}
-use Rattle.script_lines.specs.declared.head.Head.TheVariants.{WithBody, WithStack, WithEngine, Alone, Types, Run, Unknown}
+use Rattle.script_lines.specs.declared.head.Head.TheVariants.{WithBody, WithStack, WithEngine}
+use Rattle.script_lines.specs.declared.head.Head.TheVariants.{Alone, Types, Run, Unknown}
 use Rattle.script_lines.specs.declared.head.BodyVerb.TheVariants.{Create, Update}
 use Rattle.script_lines.specs.declared.head.StackVerb.TheVariants.{Delete, Cancel, Status, Resources, Outputs}
 use Rattle.script_lines.specs.declared.head.EngineVerb.TheVariants.{Turn, Stop}

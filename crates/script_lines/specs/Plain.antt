@@ -1,6 +1,7 @@
 -- Plain bodies: those whose templates have boxes alone, and which give neither parameters nor files.
 use Rattle.std.specs.Prelude.{◌≡◌, ◌⊎◌, ℕ, List, Option, Some, None, codes, bytes_eq, if◌then◌else◌, ⊤}
-use Rattle.heat_value.specs.Data.{Data, null, flag, whole, words, items, fields, Nodes, no_nodes, node, Members, no_members, member}
+use Rattle.heat_value.specs.Data.{Data, null, flag, whole, words, items, fields, Nodes}
+use Rattle.heat_value.specs.Data.{no_nodes, node, Members, no_members, member}
 use Rattle.heat_plan.specs.Names.{IsResName}
 use Rattle.script_lines.specs.Bodies.{HasResources, ArePlain, box_name}
 use Rattle.script_lines.specs.BodyKeys.{IsText}

@@ -1,4 +1,5 @@
--- What a line is read as: what it asks for, or what is wrong with it. One case for each row of the formats, in their order.
+-- What a line is read as: what it asks for, or what is wrong with it. One case for each row of the formats, in
+-- their order.
 use Rattle.std.specs.Prelude.{◌≡◌, ◌≢◌, ℕ, List, Result, Ok, Err, Some, None, IsUtf8, decimal}
 use Rattle.heat_value.specs.Reading.{IsReadAs}
 use Rattle.heat_value.specs.Meaning.{data_of}
@@ -20,7 +21,8 @@ use Rattle.script_lines.specs.declared.head.EngineVerb.TheVariants as numbered
 use Rattle.script_lines.specs.declared.head.LoneVerb.{LoneVerb}
 use Rattle.script_lines.specs.declared.head.LoneVerb.TheVariants as lone
 use Rattle.script_lines.specs.declared.line.Line.{Line}
-use Rattle.script_lines.specs.declared.line.Line.TheVariants.{Blank, Create, Update, Delete, Cancel, Status, Resources, Outputs, Types, Run, Turn, Stop, Start, Restart}
+use Rattle.script_lines.specs.declared.line.Line.TheVariants.{Blank, Create, Update, Delete, Cancel, Status, Resources}
+use Rattle.script_lines.specs.declared.line.Line.TheVariants.{Outputs, Types, Run, Turn, Stop, Start, Restart}
 use Rattle.script_lines.specs.declared.misread.Misread.{Misread}
 use Rattle.script_lines.specs.declared.misread.Misread.TheVariants.{L01, L02, L03, L04, L05}
 
@@ -50,23 +52,27 @@ lone_line lone.Restart = Restart
 -- behind `create` and `update`: a stack's name, and a body
 pub data ReadsBody (verb : BodyVerb) (rest : List ℕ) (r : Result Line Misread) : Type 0 where
   body_short : ((stack text : List ℕ) → ¬ IsWordAndText rest stack text) → r ≡ Err L03 → ReadsBody verb rest r
-  body_unnamed : (stack text : List ℕ) → IsWordAndText rest stack text → ¬ IsStackName stack → r ≡ Err L04 → ReadsBody verb rest r
-  body_wrong : (stack text : List ℕ) → IsWordAndText rest stack text → IsStackName stack → (why : Misread) → IsNoBody text why → r ≡ Err why
+  body_unnamed : (stack text : List ℕ) → IsWordAndText rest stack text → ¬ IsStackName stack → r ≡ Err L04
       → ReadsBody verb rest r
-  body_asked : (stack text : List ℕ) → IsWordAndText rest stack text → IsStackName stack → (body : BodyData) → IsBodyText text body
-      → r ≡ Ok (body_line verb stack body) → ReadsBody verb rest r
+  body_wrong : (stack text : List ℕ) → IsWordAndText rest stack text → IsStackName stack → (why : Misread)
+      → IsNoBody text why → r ≡ Err why → ReadsBody verb rest r
+  body_asked : (stack text : List ℕ) → IsWordAndText rest stack text → IsStackName stack → (body : BodyData)
+      → IsBodyText text body → r ≡ Ok (body_line verb stack body) → ReadsBody verb rest r
 
 -- behind `delete`, `cancel`, `status`, `resources` and `outputs`: a stack's name alone
 pub data ReadsStack (verb : StackVerb) (rest : List ℕ) (r : Result Line Misread) : Type 0 where
   stack_not_one : ((stack : List ℕ) → ¬ IsLone rest stack) → r ≡ Err L03 → ReadsStack verb rest r
   stack_unnamed : (stack : List ℕ) → IsLone rest stack → ¬ IsStackName stack → r ≡ Err L04 → ReadsStack verb rest r
-  stack_asked : (stack : List ℕ) → IsLone rest stack → IsStackName stack → r ≡ Ok (stack_line verb stack) → ReadsStack verb rest r
+  stack_asked : (stack : List ℕ) → IsLone rest stack → IsStackName stack → r ≡ Ok (stack_line verb stack)
+      → ReadsStack verb rest r
 
 -- behind `turn` and `stop`: an engine's number alone
 pub data ReadsEngine (verb : EngineVerb) (rest : List ℕ) (r : Result Line Misread) : Type 0 where
   engine_not_one : ((word : List ℕ) → ¬ IsLone rest word) → r ≡ Err L03 → ReadsEngine verb rest r
-  engine_no_number : (word : List ℕ) → IsLone rest word → ((n : ℕ) → IsNumber n → decimal n ≢ word) → r ≡ Err L05 → ReadsEngine verb rest r
-  engine_asked : (word : List ℕ) → IsLone rest word → (n : ℕ) → IsNumber n → decimal n ≡ word → r ≡ Ok (engine_line verb n) → ReadsEngine verb rest r
+  engine_no_number : (word : List ℕ) → IsLone rest word → ((n : ℕ) → IsNumber n → decimal n ≢ word) → r ≡ Err L05
+      → ReadsEngine verb rest r
+  engine_asked : (word : List ℕ) → IsLone rest word → (n : ℕ) → IsNumber n → decimal n ≡ word
+      → r ≡ Ok (engine_line verb n) → ReadsEngine verb rest r
 
 -- behind `start` and `restart`: nothing
 pub data ReadsAlone (verb : LoneVerb) (rest : List ℕ) (r : Result Line Misread) : Type 0 where
@@ -76,15 +82,19 @@ pub data ReadsAlone (verb : LoneVerb) (rest : List ℕ) (r : Result Line Misread
 -- behind `types`: a catalogue
 pub data ReadsTypes (rest : List ℕ) (r : Result Line Misread) : Type 0 where
   types_short : ((text : List ℕ) → ¬ IsText rest text) → r ≡ Err L03 → ReadsTypes rest r
-  types_wrong : (text : List ℕ) → IsText rest text → (why : Misread) → IsNoValue text why → r ≡ Err why → ReadsTypes rest r
-  types_asked : (text : List ℕ) → IsText rest text → (value : Value) → IsReadAs text (data_of value) → r ≡ Ok (Types value) → ReadsTypes rest r
+  types_wrong : (text : List ℕ) → IsText rest text → (why : Misread) → IsNoValue text why → r ≡ Err why
+      → ReadsTypes rest r
+  types_asked : (text : List ℕ) → IsText rest text → (value : Value) → IsReadAs text (data_of value)
+      → r ≡ Ok (Types value) → ReadsTypes rest r
 
 -- behind `run`: nothing, or a count of turns alone
 pub data ReadsRun (rest : List ℕ) (r : Result Line Misread) : Type 0 where
   run_too_many : ¬ AreSpaces rest → ((word : List ℕ) → ¬ IsLone rest word) → r ≡ Err L03 → ReadsRun rest r
-  run_no_count : (word : List ℕ) → IsLone rest word → ((n : ℕ) → IsCount n → decimal n ≢ word) → r ≡ Err L05 → ReadsRun rest r
+  run_no_count : (word : List ℕ) → IsLone rest word → ((n : ℕ) → IsCount n → decimal n ≢ word) → r ≡ Err L05
+      → ReadsRun rest r
   run_whole : AreSpaces rest → r ≡ Ok (Run None) → ReadsRun rest r
-  run_counted : (word : List ℕ) → IsLone rest word → (n : ℕ) → IsCount n → decimal n ≡ word → r ≡ Ok (Run (Some n)) → ReadsRun rest r
+  run_counted : (word : List ℕ) → IsLone rest word → (n : ℕ) → IsCount n → decimal n ≡ word → r ≡ Ok (Run (Some n))
+      → ReadsRun rest r
 
 -- behind a first word that asks for this
 abbrev pub ReadsBehind : Head → List ℕ → Result Line Misread → Type 0

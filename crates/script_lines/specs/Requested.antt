@@ -54,8 +54,8 @@ pub record Gives (members : Members) (body : BodyData) : Type 0 where
 -- a body's object lacks its template, or else has a first wrong key
 pub data IsMisgiven (members : Members) (path : List Step) : Type 0 where
   bare : lookup (codes "template") members ≡ None → path ≡ [] → IsMisgiven members path
-  wrong : (template : Data) → lookup (codes "template") members ≡ Some template → (key : List ℕ) → IsFirstWrong members key → path ≡ Key key ∷ []
-      → IsMisgiven members path
+  wrong : (template : Data) → lookup (codes "template") members ≡ Some template → (key : List ℕ)
+      → IsFirstWrong members key → path ≡ Key key ∷ [] → IsMisgiven members path
 
 -- why bytes are no value that is taken
 pub data IsNoValue (bytes : List ℕ) (why : Misread) : Type 0 where
@@ -73,4 +73,5 @@ pub record IsBodyText (bytes : List ℕ) (body : BodyData) : Type 0 where
 pub data IsNoBody (bytes : List ℕ) (why : Misread) : Type 0 where
   unread : IsNoValue bytes why → IsNoBody bytes why
   no_object : (d : Data) → IsReadAs bytes d → ((ms : Members) → d ≢ fields ms) → why ≡ L08 [] → IsNoBody bytes why
-  misgiven : (ms : Members) → IsReadAs bytes (fields ms) → (path : List Step) → IsMisgiven ms path → why ≡ L08 path → IsNoBody bytes why
+  misgiven : (ms : Members) → IsReadAs bytes (fields ms) → (path : List Step) → IsMisgiven ms path → why ≡ L08 path
+      → IsNoBody bytes why

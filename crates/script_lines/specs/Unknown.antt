@@ -1,6 +1,7 @@
 -- The first name in a `depends_on` that no resource of the template has.
 use Rattle.std.specs.Prelude.{◌≡◌, ◌⊎◌, ◌+◌, ℕ, List, [], ◌∷◌, Option, Some, None, IsSome, codes, ⊤}
-use Rattle.heat_value.specs.Data.{Data, null, flag, whole, words, items, fields, Nodes, no_nodes, node, Members, no_members, member, lookup}
+use Rattle.heat_value.specs.Data.{Data, null, flag, whole, words, items, fields, Nodes}
+use Rattle.heat_value.specs.Data.{no_nodes, node, Members, no_members, member, lookup}
 use Rattle.heat_value.specs.declared.path.Step.{Step}
 use Rattle.heat_value.specs.declared.path.Step.TheVariants.{Key, Index}
 use Rattle.script_lines.specs.Requested.{object_in}
@@ -21,7 +22,8 @@ AreNamed all (node d ns) = IsNamed all d × AreNamed all ns
 -- the place of the first that names none, where the list begins at the place i
 abbrev pub IsFirstUnnamed : Members → ℕ → Nodes → ℕ → Type 0
 IsFirstUnnamed all i no_nodes place = ⊥
-IsFirstUnnamed all i (node d ns) place = ((¬ IsNamed all d) × (place ≡ i)) ⊎ (IsNamed all d × IsFirstUnnamed all (i + 1) ns place)
+IsFirstUnnamed all i (node d ns) place =
+    ((¬ IsNamed all d) × (place ≡ i)) ⊎ (IsNamed all d × IsFirstUnnamed all (i + 1) ns place)
 
 -- where one is absent, or each name is a resource's
 abbrev pub NamesAll : Members → Option Data → Type 0

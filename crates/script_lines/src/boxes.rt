@@ -1,7 +1,8 @@
 //! The parts of a box that are taken.
 ghost use Rattle.std.specs.Prelude.{◌≡◌, ◌↔◌, IsTrue};
 ghost use Rattle.heat_value.specs.Meaning.{data_of};
-ghost use Rattle.script_lines.specs.Plain.{part_of as the_part_of, AreTextNodes, NamesItems, HoldsPlain, IsOfPart, IsTaken, AreParts, GivesType, IsBox};
+ghost use Rattle.script_lines.specs.Plain.{part_of as the_part_of, AreTextNodes, NamesItems, HoldsPlain};
+ghost use Rattle.script_lines.specs.Plain.{IsOfPart, IsTaken, AreParts, GivesType, IsBox};
 
 use crate::properties::are_plain;
 use crate::shapes::is_text;

@@ -1,7 +1,9 @@
 //! The forms of lines, each by its first word.
 ghost use Rattle.std.specs.Prelude.{◌≡◌, ◌≢◌, IfOk, IfErr, Ok, Err};
 ghost use Rattle.heat_plan.specs.Names.{IsStackName};
-ghost use Rattle.script_lines.specs.Readings.{body_line, stack_line, engine_line, lone_line as the_lone_line, ReadsBody, ReadsStack, ReadsEngine, ReadsAlone, ReadsTypes, ReadsRun, ReadsBehind, ReadsWords};
+ghost use Rattle.script_lines.specs.Readings.{body_line, stack_line, engine_line, lone_line as the_lone_line};
+ghost use Rattle.script_lines.specs.Readings.{ReadsBody, ReadsStack, ReadsEngine, ReadsAlone, ReadsTypes, ReadsRun};
+ghost use Rattle.script_lines.specs.Readings.{ReadsBehind, ReadsWords};
 
 use crate::behind::{count, engine_no, lone_word, text_behind, word_and_text};
 use crate::head::{BodyVerb, EngineVerb, Head, LoneVerb, StackVerb, begins_comment, head_of};

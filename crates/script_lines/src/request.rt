@@ -5,7 +5,8 @@ ghost use Rattle.heat_value.specs.Meaning.{data_of};
 ghost use Rattle.heat_value.specs.Reading.{IsReadAs};
 ghost use Rattle.heat_value.specs.declared.path.Step.{Step as step_type};
 ghost use Rattle.script_lines.specs.BodyKeys.{AreRight};
-ghost use Rattle.script_lines.specs.Requested.{object_in, rollback_in, body_with, Gives, IsMisgiven, IsNoValue, IsBodyText, IsNoBody};
+ghost use Rattle.script_lines.specs.Requested.{object_in, rollback_in, body_with, Gives, IsMisgiven};
+ghost use Rattle.script_lines.specs.Requested.{IsNoValue, IsBodyText, IsNoBody};
 
 use crate::Misread;
 use crate::shapes::fields_of;

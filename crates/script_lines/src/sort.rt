@@ -1,7 +1,8 @@
 //! The sorts of what stands under a body's keys, and the first key that is wrong.
 ghost use Rattle.std.specs.Prelude.{◌≡◌, ◌↔◌, IsTrue, MatchOption};
 ghost use Rattle.heat_value.specs.Meaning.{data_of};
-ghost use Rattle.script_lines.specs.BodyKeys.{sort_of as the_sort_of, IsText, AreTexts, HoldsTexts, IsOfSort, IsRight, AreRight, IsFirstWrong};
+ghost use Rattle.script_lines.specs.BodyKeys.{sort_of as the_sort_of, IsText, AreTexts, HoldsTexts};
+ghost use Rattle.script_lines.specs.BodyKeys.{IsOfSort, IsRight, AreRight, IsFirstWrong};
 
 use heat_value::{Member, Props, Text, Value};
 

@@ -3,7 +3,8 @@ ghost use Rattle.std.specs.Prelude.{◌≡◌, ◌↔◌, IsTrue, IfOk, MatchOpt
 ghost use Rattle.heat_value.specs.Data.{lookup};
 ghost use Rattle.heat_value.specs.Meaning.{data_of};
 ghost use Rattle.heat_value.specs.declared.path.Step.{Step as step_type};
-ghost use Rattle.script_lines.specs.Unknown.{IsNamed, AreNamed, IsFirstUnnamed, NamesAll, NamesNone, needs_in, needs_path, AreKnown, IsFirstUnknown};
+ghost use Rattle.script_lines.specs.Unknown.{IsNamed, AreNamed, IsFirstUnnamed, NamesAll, NamesNone};
+ghost use Rattle.script_lines.specs.Unknown.{needs_in, needs_path, AreKnown, IsFirstUnknown};
 
 use crate::shapes::fields_of;
 use heat_value::{Items, Path, Props, Step, Text, TryCopy, Value};

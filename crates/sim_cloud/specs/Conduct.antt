@@ -16,7 +16,8 @@ course_in faults late number =
 
 -- the polls left after an accepted request for this kind, none where its delay isn't set
 abbrev pub delay_in : List KindDelay → List ℕ → ℕ
-delay_in delays kind = unwrap_or (option_map (λ (d : KindDelay). d.polls) (find (λ (d : KindDelay). bytes_eq d.kind kind) delays)) 0
+delay_in delays kind =
+    unwrap_or (option_map (λ (d : KindDelay). d.polls) (find (λ (d : KindDelay). bytes_eq d.kind kind) delays)) 0
 
 -- the code that polls of resources of this name are broken with
 abbrev pub code_in : List NameCode → List ℕ → Option (List ℕ)

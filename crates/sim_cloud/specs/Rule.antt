@@ -23,7 +23,14 @@ facts_of names props row = record { id = id_of row; attrs = attrs_of names props
 
 -- a new resource of a kind
 abbrev pub fresh : Token → Kind → Members → Alive
-fresh token kind props = record { token = token; kind = kind.name; props = props; facts = facts_of kind.attrs props token.row; ready = false }
+fresh token kind props =
+    record {
+      token = token;
+      kind = kind.name;
+      props = props;
+      facts = facts_of kind.attrs props token.row;
+      ready = false;
+    }
 
 -- the attributes that a resource has, anew
 abbrev pub facts_again : Facts → Members → ℕ → Facts

@@ -1,5 +1,6 @@
 -- What a cloud in memory shows, and what its calls say beyond the trait.
-use Rattle.std.specs.Prelude.{◌≡◌, ◌≢◌, ◌⊎◌, ◌+◌, ◌-◌, ◌^◌, min, ℕ, List, Bool, true, false, Option, Some, None, option_map, find, bytes_eq}
+use Rattle.std.specs.Prelude.{◌≡◌, ◌≢◌, ◌⊎◌, ◌+◌, ◌-◌, ◌^◌, min, ℕ, List, Bool, true}
+use Rattle.std.specs.Prelude.{false, Option, Some, None, option_map, find, bytes_eq}
 use Rattle.heat_value.specs.Data.{Members}
 use Rattle.heat_plan.specs.declared.facts.Facts.{Facts}
 use Rattle.heat_plan.specs.declared.kind.Kind.{Kind}
@@ -47,7 +48,8 @@ pub record CountsFault {A : Type 0} (failed result : A) (before now : ℕ) : Typ
   pub raised : result ≡ failed → now ≡ min (before + 1) (2 ^ 64 - 1)
   pub same : result ≢ failed → now ≡ before
 
--- create, begun: a token that wasn't alive has its id and attributes by the rule, and so many polls left; else nothing changes
+-- create, begun: a token that wasn't alive has its id and attributes by the rule, and so many polls left; else nothing
+-- changes
 pub record IsMade (token : Token) (kind : Kind) (props : Members) (polls : ℕ) (old new : Cloud) : Type 0 where
   pub entry : entry_of old token ≡ None → entry_of new token ≡ Some (fresh token kind props)
   pub left : entry_of old token ≡ None → new.left token ≡ polls
@@ -56,7 +58,8 @@ pub record IsMade (token : Token) (kind : Kind) (props : Members) (polls : ℕ) 
 -- update, begun: other properties give the attributes anew, and so many polls left; else nothing changes
 pub record IsMadeAnew (token : Token) (props : Members) (polls : ℕ) (old new : Cloud) : Type 0 where
   pub entry : (it : Alive) → entry_of old token ≡ Some it → it.props ≢ props
-      → entry_of new token ≡ Some (record it { props = props; facts = facts_again it.facts props token.row; ready = false })
+      → entry_of new token
+      ≡ Some (record it { props = props; facts = facts_again it.facts props token.row; ready = false })
   pub left : (it : Alive) → entry_of old token ≡ Some it → it.props ≢ props → new.left token ≡ polls
   pub again : HasProps old token props → Stays old new
 

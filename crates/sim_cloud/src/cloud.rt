@@ -7,9 +7,11 @@ ghost use Rattle.heat_plan.specs.declared.calls.Request.TheVariants as ask;
 ghost use Rattle.provider.specs.declared.alive.Alive.{Alive};
 ghost use Rattle.provider.specs.Cloud.{IsAlive};
 ghost use Rattle.provider.specs.Changes.{IsAsBefore, Stays};
-ghost use Rattle.provider.specs.Calls.{MayGo, HasBegun, HasFailed, IsRefused, Waits, IsReady, IsBroken, IsGone, Lingers, Lists, ListsNone};
+ghost use Rattle.provider.specs.Calls.{MayGo, HasBegun, HasFailed, IsRefused, Waits, IsReady};
+ghost use Rattle.provider.specs.Calls.{IsBroken, IsGone, Lingers, Lists, ListsNone};
 ghost use Rattle.sim_cloud.specs.declared.course.Course.{Course};
-ghost use Rattle.sim_cloud.specs.Shown.{IsMade, IsMadeLate, IsMadeAnew, IsMadeAnewLate, IsSentAway, IsSentAwayLate, HasFacts};
+ghost use Rattle.sim_cloud.specs.Shown.{IsMade, IsMadeLate, IsMadeAnew, IsMadeAnewLate};
+ghost use Rattle.sim_cloud.specs.Shown.{IsSentAway, IsSentAwayLate, HasFacts};
 ghost use Rattle.sim_cloud.specs.Sound.{lawful_shown};
 ghost use Rattle.sim_cloud.specs.Simulated.{beside_of, cloud_of, course_of, delay_of, delay_at, code_at, Follows};
 

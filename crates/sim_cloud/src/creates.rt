@@ -1,5 +1,6 @@
 //! Creates of an inventory.
-ghost use Rattle.std.specs.Prelude.{◌≡◌, ◌-◌, ◌++◌, ◌∷◌, [], ◌<◌, ◌≤◌, ◌≢◌, false, None, Some, IfOk, OnOk, OnErr, length, take, ◌+◌, ◌^◌, min};
+ghost use Rattle.std.specs.Prelude.{◌≡◌, ◌-◌, ◌++◌, ◌∷◌, [], ◌<◌, ◌≤◌, ◌≢◌, false, None, Some};
+ghost use Rattle.std.specs.Prelude.{IfOk, OnOk, OnErr, length, take, ◌+◌, ◌^◌, min};
 ghost use Rattle.heat_plan.specs.declared.calls.Request.TheVariants as ask;
 ghost use Rattle.provider.specs.declared.traced.Traced.TheVariants.{Called};
 ghost use Rattle.provider.specs.Cloud.{IsFull, entry_of};

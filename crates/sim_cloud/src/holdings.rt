@@ -1,5 +1,6 @@
 //! The resources that the cloud holds, each token at most once. None of these calls answers for the cloud.
-ghost use Rattle.std.specs.Prelude.{◌≡◌, ◌<◌, ◌≤◌, ◌-◌, [], ◌∷◌, ◌++◌, Some, None, true, false, OnOk, OnErr, length, slice_get, slice_set, remove};
+ghost use Rattle.std.specs.Prelude.{◌≡◌, ◌<◌, ◌≤◌, ◌-◌, [], ◌∷◌, ◌++◌, Some, None, true, false};
+ghost use Rattle.std.specs.Prelude.{OnOk, OnErr, length, slice_get, slice_set, remove};
 ghost use Rattle.sim_cloud.specs.Holding.{IsHolding, place_of, whats};
 ghost use Rattle.provider.specs.Cloud.{count_of};
 

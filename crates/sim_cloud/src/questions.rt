@@ -1,6 +1,7 @@
 //! Polls, questions whether a resource is gone, and listings of an inventory. They have no effect that
 //! could be late: each course but Works fails with nothing done.
-ghost use Rattle.std.specs.Prelude.{◌≡◌, ◌≢◌, ◌⊎◌, ◌<◌, ℕ, List, option_map, true, None, Some, IfOk, OnOk, OnErr, IsTrue, IsFalse, slice_get, ◌+◌, ◌-◌, ◌^◌, min};
+ghost use Rattle.std.specs.Prelude.{◌≡◌, ◌≢◌, ◌⊎◌, ◌<◌, ℕ, List, option_map, true, None, Some, IfOk};
+ghost use Rattle.std.specs.Prelude.{OnOk, OnErr, IsTrue, IsFalse, slice_get, ◌+◌, ◌-◌, ◌^◌, min};
 ghost use Rattle.heat_plan.specs.declared.facts.Facts.{Facts as facts_type};
 ghost use Rattle.heat_plan.specs.declared.calls.Request.TheVariants as ask;
 ghost use Rattle.provider.specs.declared.alive.Alive.{Alive as alive_type};

@@ -1,3 +1,4 @@
+pub mod Below
 pub mod Rewrites
 pub mod ActLemmas
 pub mod Turns

@@ -1,5 +1,6 @@
 //! Fail: what follows from a job's failure, by whether it still has work and its stack has a mark.
-ghost use Rattle.std.specs.Prelude.{◌≡◌, ◌≤◌, ◌+◌, ◌^◌, ◌⊎◌, ◌∷◌, ◌++◌, [], IfErr, IfOk, None, Some, length, option_map};
+ghost use Rattle.std.specs.Prelude.{◌≡◌, ◌≤◌, ◌+◌, ◌^◌, ◌⊎◌, ◌∷◌, ◌++◌, [], IfErr};
+ghost use Rattle.std.specs.Prelude.{IfOk, None, Some, length, option_map};
 ghost use Rattle.heat_plan.specs.declared.phase.Status.TheVariants.{InProgress};
 ghost use Rattle.heat_plan.specs.declared.refusal.Refusal.TheVariants.{Memory, Worn};
 ghost use Rattle.row_table.specs.Rows.{row_at};

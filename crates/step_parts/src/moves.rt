@@ -1,6 +1,7 @@
 //! How a job goes on: with its row written, with its row as it is, or not at all.
 ghost use Rattle.std.specs.Prelude.{◌≡◌, IfOk};
-ghost use Rattle.step_relation.specs.Begins.{begun_changes, begun_entries, left_changes, left_entries, onward_changes, onward_entries};
+ghost use Rattle.step_relation.specs.Begins.{begun_changes, begun_entries, left_changes, left_entries};
+ghost use Rattle.step_relation.specs.Begins.{onward_changes, onward_entries};
 ghost use Rattle.step_parts.specs.Rooms.{MayRise};
 
 use crate::entries::{mail_entry, rows_entry};

@@ -47,7 +47,8 @@ pub fn replacement(
     required: &Seq<RowNo>,
     old: &Row,
 ) -> Result<Row, AllocError>
-    ensures { IfOk result (λ r. r ≡ replacement number e stack.now.trav stack.now.name item.now props.now required.now old.now) }
+    ensures { IfOk result (λ r. r ≡
+        replacement number e stack.now.trav stack.now.name item.now props.now required.now old.now) }
 {
     let required = Vec::from_slice(required.allocator(), required.as_slice())?;
     Ok(Row {

@@ -12,5 +12,7 @@ pub mod ReadyLemmas
 pub mod GatherLemmas
 pub mod ThenLemmas
 pub mod InputLemmas
+pub mod ItemLemmas
 pub mod ChainLemmas
 pub mod ResendLemmas
+pub mod CurrentLemmas

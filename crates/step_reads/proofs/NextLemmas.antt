@@ -1,34 +1,29 @@
 -- What the best of all letters and jobs is.
-use Rattle.std.proofs.Common.{◌≡◌, ℕ, List, [], Bor, None, Some, refl}
-use Rattle.std.specs.Prelude.{Contains, IfSome, IsNone, Option, option_map, ⊤}
+use Rattle.std.proofs.Common.{◌≡◌, ℕ, List, [], Bor, None, Some, refl, sym, subst}
+use Rattle.std.specs.Prelude.{Contains, IfSome, IsNone, Option, option_map}
 use Rattle.heat_plan.specs.Tables.{at}
-use Rattle.mail_table.specs.Mails.{job_key, letter_at, letter_key}
+use Rattle.mail_table.specs.Mails.{job_key, letter_at}
 use Rattle.mail_table.specs.declared.mail.Job.{Job}
 use Rattle.mail_table.specs.declared.mail.Letter.{Letter}
+use Rattle.indexed_mail.specs.Holders.{IsFirst}
 use Rattle.core_state.specs.State.{StateData}
 use Rattle.step_relation.specs.Nexts.{IsLowest}
 use Rattle.step_reads.specs.Tasks.{HasNoLetter, HasNoneLeft, IsLowestLeft}
 use Rattle.step_reads.proofs.Best.{IsBest}
 
-abbrev pub IsBestLetter : List Letter → Option Letter → Type 0
-IsBestLetter = IsBest letter_key (λ (_ : ℕ). ⊤)
-
 abbrev pub IsBestLeft : StateData → List Job → Option Job → Type 0
 IsBestLeft s = IsBest job_key (λ (f : ℕ). ¬ Contains s.live f)
 
 pub lowest_of : (letters : List Letter) (best : Option (Bor Letter))
-    → IsBestLetter letters (option_map (λ b. b.now) best)
-    → IfSome best (λ l. IsLowest letters l.now)
+    → IsFirst letters (option_map (λ b. b.now) best) → IfSome best (λ l. IsLowest letters l.now)
 lowest_of letters None h = tt
-lowest_of letters (Some l) h = record { waits = h.found; lowest = λ n x found. h.least n x found tt }
+lowest_of letters (Some l) h = record { waits = h.0; lowest = h.1 }
 
-pub none_of : (letters : List Letter) (best : Option (Bor Letter)) → IsBestLetter letters (option_map (λ b. b.now) best)
+pub none_of : (letters : List Letter) (best : Option (Bor Letter)) → IsFirst letters (option_map (λ b. b.now) best)
     → IsNone best → HasNoLetter letters
+unfolding at
 none_of letters (Some l) h e = cc
-none_of letters None h e = λ n. by n (letter_at letters n) refl where
-  by : (n : ℕ) (o : Option Letter) → letter_at letters n ≡ o → letter_at letters n ≡ None
-  by n None e = e
-  by n (Some x) e = absurd (h n x e tt)
+none_of letters None h e = λ n. subst (λ (ls : List Letter). letter_at ls n ≡ None) (sym h) refl
 
 pub left_of : (s : StateData) (best : Option (Bor Job)) → IsBestLeft s s.jobs (option_map (λ b. b.now) best)
     → IfSome best (λ j. IsLowestLeft s j.now)

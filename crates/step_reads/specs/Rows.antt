@@ -1,7 +1,6 @@
 -- What is found of rows.
 use Rattle.std.specs.Prelude.{List, Some, ℕ, ◌<◌, ◌^◌, ◌≡◌}
 use Rattle.traversal_graph.specs.declared.shape.Node.{Node}
-use Rattle.row_table.specs.Chains.{IsCurrent}
 use Rattle.row_table.specs.Rows.{row_at}
 use Rattle.row_table.specs.declared.row.Row.{Row}
 use Rattle.step_relation.specs.Targets.{IsTarget}
@@ -16,9 +15,3 @@ pub record IsBehind (rows : List Row) (r q : Row) : Type 0 where
   pub rises : r.no < q.no
   pub below : q.no < 2 ^ 62
   pub found : row_at rows q.no ≡ Some q
-
--- the row is current under this stack and name
-pub record IsCurrentAs (stack name : List ℕ) (r : Row) : Type 0 where
-  pub stack_is : r.stack ≡ stack
-  pub name_is : r.name ≡ name
-  pub current : IsCurrent r

@@ -57,7 +57,7 @@ fn is_done_then(graph: &Graph, node: u32, place: usize) -> bool
     ensures yes { OnTrue result (IsDoneThen graph.now node place) }
     ensures no_ { OnFalse result (¬ IsDoneThen graph.now node place) }
 {
-    match graph.points.as_slice().get(place) {
+    match graph.points.get(place) {
         Some(point) => point.done || place == node as usize,
         None => false,
     }

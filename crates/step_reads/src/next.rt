@@ -1,6 +1,6 @@
 //! The work that an engine does next.
 ghost use Rattle.std.specs.Prelude.{◌≡◌, ◌≤◌, IsNone, IfSome, Some, option_map, nat_le};
-ghost use Rattle.mail_table.specs.Mails.{letter_key, job_key};
+ghost use Rattle.mail_table.specs.Mails.{job_key};
 ghost use Rattle.step_relation.specs.Nexts.{IsLowest, HasLeft};
 ghost use Rattle.step_reads.specs.Tasks.{IsTask, HasNoLetter, IsLowestLeft, HasNoneLeft};
 ghost use Rattle.step_reads.specs.Best.{first_by};
@@ -34,7 +34,7 @@ pub fn next_of<'a>(s: &'a State, e: EngineNo) -> Task<'a>
     if let Some(job) = s.job(&e) {
         return Task::Work(job);
     }
-    if let Some(letter) = lowest(s.letters()) {
+    if let Some(letter) = lowest(s) {
         return Task::Take(letter);
     }
     match left(s) {
@@ -44,26 +44,11 @@ pub fn next_of<'a>(s: &'a State, e: EngineNo) -> Task<'a>
 }
 
 /// The letter with the lowest number; none where no letter waits.
-pub fn lowest(letters: &[Letter]) -> Option<&Letter>
-    ensures some { IfSome result (λ l. IsLowest letters.now l.now) }
-    ensures none { IsNone result → HasNoLetter letters.now }
+pub fn lowest(s: &State) -> Option<&Letter>
+    ensures some { IfSome result (λ l. IsLowest s.now.state.letters l.now) }
+    ensures none { IsNone result → HasNoLetter s.now.state.letters }
 {
-    let mut best: Option<&Letter> = None;
-    for letter in letters {
-        best = Some(lower_letter(best, letter));
-    }
-    best
-}
-
-// The one with the lower number, the first of two that have one number.
-fn lower_letter<'a>(best: Option<&'a Letter>, letter: &'a Letter) -> &'a Letter
-    ensures { result.now
-        ≡ first_by nat_le letter_key (option_map (λ x. x.now) best.entry) letter.now }
-{
-    match best {
-        Some(best) if best.no <= letter.no => best,
-        _ => letter,
-    }
+    s.first_letter()
 }
 
 /// The lowest stopped engine's job; none where no stopped engine has one.

@@ -15,7 +15,7 @@ use std::alloc::{AllocError, Global};
 pub fn point_of(graph: &Graph, node: u32) -> Option<&Point>
     ensures { option_map (λ p. p.now) result ≡ slice_get graph.now.points node }
 {
-    graph.points.as_slice().get(node as usize)
+    graph.points.get(node as usize)
 }
 
 /// Whether a node is done.
@@ -45,7 +45,7 @@ pub fn is_ready(alloc: Global, graph: &Graph, node: u32) -> Result<bool, AllocEr
     Ok(is_ready_with(alloc, graph, node, None)?)
 }
 
-/// Whether each edge into a node has its input, or comes from this node.
+// Whether each edge into a node has its input, or comes from this node.
 pub(crate) fn is_ready_with(
     alloc: Global,
     graph: &Graph,

@@ -5,14 +5,12 @@ ghost use Rattle.core_state.specs.Reads.{item_at};
 use heat_plan::{Item, Plan, ResName};
 
 /// The item of a name; none where the plan has none.
-#[tactic(auto, unfolding(heat_plan::specs::Tables::at))]
 pub fn item_of<'a>(plan: &'a Plan, name: &ResName) -> Option<&'a Item>
     ensures { option_map (λ i. i.now) result ≡ item_at plan.now.items name.now }
 {
-    for item in plan.items() {
-        if item.name == *name {
-            return Some(item);
-        }
+    let items = plan.items();
+    match items.binary_search_by(|item| item.name.cmp(name)) {
+        Ok(place) => Some(&items[place]),
+        Err(_) => None,
     }
-    None
 }

@@ -1,9 +1,10 @@
 //! That the calls that take memory succeed with ample memory.
 
 use crate::{known, points_passed, ready_then, required, resent, rows_of};
-use core_state::{Graph, Input, Point, State};
+use core_state::{Graph, Input, State};
 use heat_plan::{Facts, Properties, ResName, RowNo, StackName};
 use heat_value::{Seq, Text};
+use indexed_points::NodePoints;
 use std::test::Fail;
 use traversal_graph::{Node, TravGraph};
 
@@ -19,15 +20,6 @@ fn row(no: u64) -> Result<RowNo, Fail> {
     Ok(RowNo::new(no).ok_or("a number")?)
 }
 
-fn point(rt: &impl AllocGlobal, node: u32) -> Result<Point, Fail> {
-    Ok(Point {
-        stack: stack_name(rt)?,
-        node,
-        inputs: Seq::new(rt.alloc()),
-        done: false,
-    })
-}
-
 // Two clean-up nodes, the second behind the first.
 fn nodes(rt: &impl AllocGlobal) -> Result<TravGraph, Fail> {
     let first = row(1)?;
@@ -40,20 +32,16 @@ fn nodes(rt: &impl AllocGlobal) -> Result<TravGraph, Fail> {
     Ok(TravGraph { nodes, edges })
 }
 
-// A point for each of them.
-fn points(rt: &impl AllocGlobal) -> Result<Seq<Point>, Fail> {
-    let mut points = Seq::new(rt.alloc());
-    points.push(point(rt, 0)?)?;
-    points.push(point(rt, 1)?)?;
-    Ok(points)
-}
-
 // Their graph, on which nothing has been done.
 fn graph(rt: &impl AllocGlobal) -> Result<Graph, Fail> {
+    let stack = stack_name(rt)?;
+    let graph = nodes(rt)?;
+    let preds = graph.all_preds()?;
+    let points = NodePoints::new(rt.alloc(), &stack, preds.as_slice())?;
     Ok(Graph {
-        stack: stack_name(rt)?,
-        graph: nodes(rt)?,
-        points: points(rt)?,
+        stack,
+        graph,
+        points,
     })
 }
 

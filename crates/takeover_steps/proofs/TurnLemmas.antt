@@ -16,7 +16,7 @@ use Rattle.step_relation.specs.Nexts.{TakesOver}
 use Rattle.step_relation.specs.Turns.{IsWorn, plain, unfailed}
 use Rattle.step_parts.specs.Turns.{IsTurn, IsTurnRefusal, memory, worn}
 use Rattle.step_reads.specs.Work.{IsFreshOf, fresh_of}
-use Rattle.next_laws.proofs.Worn.{quiet_not_worn}
+use Rattle.step_ends.proofs.Below.{quiet_not_worn}
 use Rattle.takeover_steps.specs.Relays.{relayed_changes, relayed_entries}
 
 module _ (s : StateData) (e : ℕ) (j : Job) (st : Stack) (g : Graph) (node : Node) (row : Option Row)

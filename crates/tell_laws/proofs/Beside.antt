@@ -20,7 +20,7 @@ use Rattle.history.specs.Last.{IsLast}
 use Rattle.history.specs.Marked.{Completed, Mark, Marked, mark_of, marked_by, marked_of}
 use Rattle.history.specs.Newest.{Latest, newest, newest_by, rollback_by, rollback_of}
 use Rattle.history.specs.Opening.{Opening}
-use Rattle.soundness.specs.Tells.{IsGone, never, TellsStack, deleted}
+use Rattle.table_laws.specs.Below.{IsGone, never, TellsStack, deleted}
 use Rattle.tell_laws.proofs.Appends.{marked-append, marked_on, newest-append, newest_on, rollback-append, rollback_on}
 use Rattle.tell_laws.proofs.Lasts.{IsPassing, last_kept, passing_more, passing_silent}
 use Rattle.tell_laws.proofs.Silence.{AreUnmarking, marked_on-silent, newest_on-silent, rollback_on-silent}

@@ -21,7 +21,7 @@ use Rattle.history.specs.Last.{IsLast}
 use Rattle.history.specs.Marked.{Completed, FailedFor, Marked, mark_by_cause, marked_by, marked_of}
 use Rattle.history.specs.Newest.{latest_of}
 use Rattle.history.specs.Opening.{Opening}
-use Rattle.soundness.specs.Tells.{IsGone, deleted, TellsStack, deleted}
+use Rattle.table_laws.specs.Below.{IsGone, deleted, TellsStack, deleted}
 use Rattle.table_laws.proofs.Rows.{past_kept, stack-key, stack_cut, stack_else, stack_here, stack_kept, stack_put}
 use Rattle.table_laws.proofs.Rows.{text_or_not}
 use Rattle.tell_laws.proofs.Appends.{marked-append, newest-append, rollback-append}

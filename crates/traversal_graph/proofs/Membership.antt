@@ -19,6 +19,16 @@ ListsPairs-same Is So pairs same h = record {
   each = λ a b. (λ c. (same a b).0 ((h.each a b).0 c), λ k. (h.each a b).1 ((same a b).1 k));
 }
 
+IsBehind-map : (first : ℕ) (Is So : ℕ → ℕ → Type 0) → ((r q : ℕ) → Is r q → So r q) → (a b : ℕ)
+    → IsBehind first Is a b → IsBehind first So a b
+IsBehind-map first Is So to a b h = record {
+  r = h.r;
+  q = h.q;
+  before_is = h.before_is;
+  after_is = h.after_is;
+  rows = to h.r h.q h.rows;
+}
+
 -- the pairs of rows that a test passes
 module _ (test : RowBrief → RowBrief → Bool) (first : ℕ) (rows : List RowBrief) where
   abbrev edge_of : ℕ → RowBrief → ℕ → RowBrief → List (ℕ × ℕ)
@@ -73,6 +83,16 @@ module _ (test : RowBrief → RowBrief → Bool) (first : ℕ) (rows : List RowB
     each = λ a b. (there a b, back a b);
   }
 
+  -- the same, told by what the test says
+  pub told_pairs : (Is : ℕ → ℕ → Type 0) → ((r q : ℕ) → Passes r q ↔ Is r q)
+      → ListsPairs (IsBehind first Is) (each rows behind)
+  told_pairs Is says = ListsPairs-same (IsBehind first Passes) (IsBehind first Is) (each rows behind)
+      (λ a b. (
+        IsBehind-map first Passes Is (λ r q. (says r q).0) a b,
+        IsBehind-map first Is Passes (λ r q. (says r q).1) a b,
+      ))
+      passing_pairs
+
 -- ---- what the tests say
 
 required : (numbers : List ℕ) (n : ℕ) → list_any (λ no. no == n) numbers ≡ true → Contains numbers n
@@ -98,67 +118,43 @@ abbrev replaces_test : RowBrief → RowBrief → Bool
 replaces_test row other = option_map_or (λ no. no == other.no) row.replaces false
 
 -- 'the number of the row at q is among what the row at r requires', in rising r and q
-pub required_pairs : (first : ℕ) (rows : List RowBrief) → ListsPairs (IsBehind first (IsRequired rows)) (require_edges first rows)
-required_pairs first rows = ListsPairs-same (IsBehind first (Passes requires_test first rows)) (IsBehind first (IsRequired rows)) (require_edges first rows)
-    (λ a b. (
+pub required_pairs : (first : ℕ) (rows : List RowBrief)
+    → ListsPairs (IsBehind first (IsRequired rows)) (require_edges first rows)
+required_pairs first rows = told_pairs requires_test first rows (IsRequired rows)
+    (λ r q. (
       λ h. record {
-        r = h.r;
-        q = h.q;
-        before_is = h.before_is;
-        after_is = h.after_is;
-        rows = record {
-          row = h.rows.row;
-          other = h.rows.other;
-          row_at = h.rows.row_at;
-          other_at = h.rows.other_at;
-          requires = required h.rows.row.requires_ h.rows.other.no h.rows.passes;
-        };
+        row = h.row;
+        other = h.other;
+        row_at = h.row_at;
+        other_at = h.other_at;
+        requires = required h.row.requires_ h.other.no h.passes;
       },
       λ h. record {
-        r = h.r;
-        q = h.q;
-        before_is = h.before_is;
-        after_is = h.after_is;
-        rows = record {
-          row = h.rows.row;
-          other = h.rows.other;
-          row_at = h.rows.row_at;
-          other_at = h.rows.other_at;
-          passes = tested h.rows.row.requires_ h.rows.other.no h.rows.requires;
-        };
+        row = h.row;
+        other = h.other;
+        row_at = h.row_at;
+        other_at = h.other_at;
+        passes = tested h.row.requires_ h.other.no h.requires;
       },
     ))
-    (passing_pairs requires_test first rows)
 
 -- 'the row at r replaces the row at q', in rising r and q
-pub replaced_pairs : (first : ℕ) (rows : List RowBrief) → ListsPairs (IsBehind first (IsReplaced rows)) (replace_edges first rows)
-replaced_pairs first rows = ListsPairs-same (IsBehind first (Passes replaces_test first rows)) (IsBehind first (IsReplaced rows)) (replace_edges first rows)
-    (λ a b. (
+pub replaced_pairs : (first : ℕ) (rows : List RowBrief)
+    → ListsPairs (IsBehind first (IsReplaced rows)) (replace_edges first rows)
+replaced_pairs first rows = told_pairs replaces_test first rows (IsReplaced rows)
+    (λ r q. (
       λ h. record {
-        r = h.r;
-        q = h.q;
-        before_is = h.before_is;
-        after_is = h.after_is;
-        rows = record {
-          row = h.rows.row;
-          other = h.rows.other;
-          row_at = h.rows.row_at;
-          other_at = h.rows.other_at;
-          replaces = replaced h.rows.row.replaces h.rows.other.no h.rows.passes;
-        };
+        row = h.row;
+        other = h.other;
+        row_at = h.row_at;
+        other_at = h.other_at;
+        replaces = replaced h.row.replaces h.other.no h.passes;
       },
       λ h. record {
-        r = h.r;
-        q = h.q;
-        before_is = h.before_is;
-        after_is = h.after_is;
-        rows = record {
-          row = h.rows.row;
-          other = h.rows.other;
-          row_at = h.rows.row_at;
-          other_at = h.rows.other_at;
-          passes = replaces h.rows.row.replaces h.rows.other.no h.rows.replaces;
-        };
+        row = h.row;
+        other = h.other;
+        row_at = h.row_at;
+        other_at = h.other_at;
+        passes = replaces h.row.replaces h.other.no h.replaces;
       },
     ))
-    (passing_pairs replaces_test first rows)

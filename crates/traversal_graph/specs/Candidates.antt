@@ -26,7 +26,8 @@ place_of items name = position_or_len (λ (i : Item). bytes_eq name i.name) item
 -- 1. from each item that an item needs to that item
 abbrev pub needs_into : List Item → ℕ → Item → List (ℕ × ℕ)
 needs_into items place item =
-    each item.needs (λ (_ : ℕ) (need : List ℕ). edge_if (nat_lt (place_of items need) (length items)) (place_of items need) place)
+    each item.needs
+    (λ (_ : ℕ) (need : List ℕ). edge_if (nat_lt (place_of items need) (length items)) (place_of items need) place)
 
 abbrev pub need_edges : List Item → List (ℕ × ℕ)
 need_edges items = each items (needs_into items)
@@ -42,7 +43,8 @@ row_edges items rows = each items (rows_behind (length items) rows)
 -- 3. from a row to each row that it requires
 abbrev pub required_behind : ℕ → List RowBrief → ℕ → RowBrief → List (ℕ × ℕ)
 required_behind first rows r row =
-    each rows (λ (q : ℕ) (other : RowBrief). edge_if (list_any (λ no. no == other.no) row.requires_) (first + r) (first + q))
+    each rows
+    (λ (q : ℕ) (other : RowBrief). edge_if (list_any (λ no. no == other.no) row.requires_) (first + r) (first + q))
 
 abbrev pub require_edges : ℕ → List RowBrief → List (ℕ × ℕ)
 require_edges first rows = each rows (required_behind first rows)
@@ -50,7 +52,9 @@ require_edges first rows = each rows (required_behind first rows)
 -- 4. from a row to the row that it replaces
 abbrev pub replaced_behind : ℕ → List RowBrief → ℕ → RowBrief → List (ℕ × ℕ)
 replaced_behind first rows r row =
-    each rows (λ (q : ℕ) (other : RowBrief). edge_if (option_map_or (λ no. no == other.no) row.replaces false) (first + r) (first + q))
+    each rows
+    (λ (q : ℕ) (other : RowBrief).
+    edge_if (option_map_or (λ no. no == other.no) row.replaces false) (first + r) (first + q))
 
 abbrev pub replace_edges : ℕ → List RowBrief → List (ℕ × ℕ)
 replace_edges first rows = each rows (replaced_behind first rows)

@@ -7,7 +7,8 @@ ghost use Rattle.dep_graph.specs.Marks.{MarksAll};
 ghost use Rattle.dep_graph.specs.Paths.{HasPath};
 ghost use Rattle.heat_plan.specs.Order.{Rising};
 ghost use Rattle.heat_plan.specs.Plans.{names_of};
-ghost use Rattle.traversal_graph.specs.Candidates.{place_of, need_edges, needs_into, row_edges, rows_behind, require_edges, required_behind, replace_edges, replaced_behind};
+ghost use Rattle.traversal_graph.specs.Candidates.{place_of, need_edges, needs_into, row_edges, rows_behind};
+ghost use Rattle.traversal_graph.specs.Candidates.{require_edges, required_behind, replace_edges, replaced_behind};
 ghost use Rattle.traversal_graph.specs.Drafts.{IsDraft, Draws};
 
 use crate::RowBrief;
@@ -16,7 +17,7 @@ use dep_graph::Marks;
 use heat_plan::{Item, ResName, RowNo};
 use std::alloc::AllocError;
 
-/// From each item that an item needs to that item.
+// From each item that an item needs to that item.
 pub(crate) fn add_needs(draft: &mut Draft, items: &[Item]) -> Result<(), AllocError>
     requires rising { Rising (names_of items.now) }
     requires draft { IsDraft draft.old }
@@ -83,7 +84,7 @@ fn place_of_name(items: &[Item], name: &ResName) -> usize
     }
 }
 
-/// From each item to the rows of its name.
+// From each item to the rows of its name.
 pub(crate) fn add_rows(
     draft: &mut Draft,
     items: &[Item],
@@ -119,7 +120,7 @@ fn add_rows_behind(
     Ok(())
 }
 
-/// From each row to the rows that it requires.
+// From each row to the rows that it requires.
 pub(crate) fn add_requires(
     draft: &mut Draft,
     first: u32,
@@ -178,7 +179,7 @@ fn draw_required(
     Ok(())
 }
 
-/// From each row to the row that it replaces.
+// From each row to the row that it replaces.
 pub(crate) fn add_replaces(
     draft: &mut Draft,
     first: u32,

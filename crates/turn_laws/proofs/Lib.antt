@@ -1,3 +1,4 @@
+pub mod Below
 pub mod Decide
 pub mod Collect
 pub mod Targets

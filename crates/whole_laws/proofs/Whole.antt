@@ -1,22 +1,22 @@
 -- A standing state is kept, group by group, and so every run has the main theorem.
 use Rattle.headline_laws.specs.Kept.{StandingKept}
-use Rattle.link_laws.proofs.Laid.{links_by_commands}
-use Rattle.link_laws.proofs.Engines.{links_by_engines}
-use Rattle.link_laws.proofs.Kept.{links_by_moves}
-use Rattle.graph_laws.proofs.Commands.{graphs_laid}
-use Rattle.graph_laws.proofs.Engines.{graphs_kept}
-use Rattle.graph_laws.proofs.Moves.{graphs_moved}
+use Rattle.cover_laws.proofs.Below.{links_by_commands}
+use Rattle.cover_laws.proofs.Below.{links_by_engines}
+use Rattle.cover_laws.proofs.Below.{links_by_moves}
+use Rattle.cover_laws.proofs.Below.{graphs_laid}
+use Rattle.cover_laws.proofs.Below.{graphs_kept}
+use Rattle.cover_laws.proofs.Below.{graphs_moved}
 use Rattle.row_laws.proofs.EachRow.{each_row_commands, each_row_engines, each_row_moves}
-use Rattle.letter_laws.proofs.Commands.{letters_laid}
-use Rattle.letter_laws.proofs.Engines.{letters_kept}
-use Rattle.letter_laws.proofs.Moves.{letters_moved}
-use Rattle.job_laws.proofs.Commands.{jobs_laid}
-use Rattle.job_laws.proofs.Engines.{jobs_kept}
-use Rattle.job_laws.proofs.Moves.{jobs_moved}
-use Rattle.mark_laws.proofs.Engines.{marks_by_engines, pasts_by_engines}
-use Rattle.mark_laws.proofs.Kept.{marks_by_moves}
-use Rattle.mark_laws.proofs.Laid.{marks_by_commands, pasts_by_commands}
-use Rattle.mark_laws.proofs.Pasts.{pasts_by_moves}
+use Rattle.cover_laws.proofs.Below.{letters_laid}
+use Rattle.cover_laws.proofs.Below.{letters_kept}
+use Rattle.cover_laws.proofs.Below.{letters_moved}
+use Rattle.cover_laws.proofs.Below.{jobs_laid}
+use Rattle.cover_laws.proofs.Below.{jobs_kept}
+use Rattle.cover_laws.proofs.Below.{jobs_moved}
+use Rattle.fit_laws.proofs.Below.{marks_by_engines, pasts_by_engines}
+use Rattle.fit_laws.proofs.Below.{marks_by_moves}
+use Rattle.fit_laws.proofs.Below.{marks_by_commands, pasts_by_commands}
+use Rattle.fit_laws.proofs.Below.{pasts_by_moves}
 use Rattle.headline_laws.proofs.MainTheorem.{standing_has_headline, standing_keeps_sound, steps_keep_runs}
 use Rattle.fit_laws.proofs.Laid.{fit_by_commands}
 use Rattle.fit_laws.proofs.Own.{fit_by_engines}

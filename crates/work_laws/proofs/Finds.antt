@@ -28,9 +28,9 @@ use Rattle.soundness.specs.Headline.{MayBeAsked, create, delete, gone, poll, upd
 use Rattle.soundness.specs.MailFits.{IsNewest, IsStale, IsUnderWay}
 use Rattle.soundness.specs.RowsFit.{RowFits}
 use Rattle.soundness.specs.Sound.{Standing}
-use Rattle.table_laws.proofs.Facts.{named_fits}
-use Rattle.table_laws.proofs.Fresh.{fresh_of_newest, item_of}
-use Rattle.table_laws.proofs.Rows.{same_some, stack-key}
+use Rattle.turn_laws.proofs.Below.{named_fits}
+use Rattle.turn_laws.proofs.Below.{fresh_of_newest, item_of}
+use Rattle.turn_laws.proofs.Below.{same_some, stack-key}
 use Rattle.headline_laws.proofs.Items.{All-among}
 use Rattle.turn_laws.specs.HasTurn.{IsAskable}
 use Rattle.work_laws.specs.Found.{CallsMayBeMade, CallsStand, IsAskedAt, OldIsStale, PointsStand, SoundHasWork, asks}

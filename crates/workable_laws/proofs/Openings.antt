@@ -32,7 +32,7 @@ use Rattle.soundness.specs.MailFits.{IsUnderWay, asks, polls}
 use Rattle.table_laws.proofs.Facts.{graph_here}
 use Rattle.table_laws.proofs.Rows.{job-key, letter-key, row-key, same_some}
 use Rattle.agree_laws.proofs.Called.{only}
-use Rattle.headline_laws.proofs.Items.{All-among}
+use Rattle.work_laws.proofs.Below.{All-among}
 use Rattle.turn_laws.specs.HasTurn.{IsAskable}
 use Rattle.edge_laws.proofs.Members.{contains_at}
 use Rattle.workable_laws.specs.Laws.{AdmittedIsWorkable, SoundIsWorkable, WorkableHasWork, WorkableMayAsk}

@@ -19,7 +19,7 @@ use Rattle.history.specs.Opening.{Opening}
 use Rattle.link_laws.proofs.Engines.{links_restarted}
 use Rattle.table_laws.proofs.Rows.{job-key}
 use Rattle.agree_laws.proofs.Called.{filtered, only}
-use Rattle.headline_laws.proofs.Steps.{quiet_restart}
+use Rattle.work_laws.proofs.Below.{quiet_restart}
 use Rattle.next_laws.proofs.Listings.{cons_cases, no_member}
 use Rattle.workable_laws.specs.Admitted.{FindsNothing, IsAdmitted, IsRead, IsStill, IsTied}
 use Rattle.workable_laws.specs.Admitted.{restarted}

@@ -5,4 +5,5 @@ use Rattle.hot_strings.proofs.joining.join.Given as goal
 
 -- the draft and what is left to join
 abbrev pub invariant-loop-item : goal.invariant-loop-item
-invariant-loop-item l = l.draft ++ joined_on l.delimiter (drop l.item-index l.others) ≡ joined l.delimiter l.items
+invariant-loop-item l =
+    (l.draft.limit ≡ 1048576) × (l.draft.text ++ joined_on l.delimiter (drop l.item-index l.others) ≡ joined l.delimiter l.items)

@@ -1,5 +1,5 @@
 use Rattle.std.proofs.Common.{◌∙◌}
-use Rattle.row_journal.proofs.Settled.{at_end, first_leaves, last_leaves, last_ready}
+use Rattle.row_journal.proofs.Settled.{at_end, first_leaves, last_leaves, last_ready, last_bytes}
 use Rattle.row_journal.proofs.mending.close.Goals as goal
 
 pub write_at-requires-clause-at : goal.write_at-requires-clause-at
@@ -23,5 +23,12 @@ pub returns-clause-ready : goal.returns-clause-ready
 returns-clause-ready g c tells image is settled =
     let told = c.write_at.ensures.tells ∙ tells in
     last_ready c.args.place image is (g.D.Disk.shown c.args.disk.now) (g.met.D.Disk.lawful c.args.disk.now tells) settled
+    (g.D.Disk.shown c.write_at.new.self) c.write_at.result (c.write_at.ensures.content tells)
+    (g.D.Disk.shown c.sync.new.self) c.sync.result (c.sync.ensures.content told) (c.in_ok-write_at.ensures.content tells).written
+
+pub returns-clause-bytes : goal.returns-clause-bytes
+returns-clause-bytes g c tells image is settled =
+    let told = c.write_at.ensures.tells ∙ tells in
+    last_bytes c.args.place image is (g.D.Disk.shown c.args.disk.now) (g.met.D.Disk.lawful c.args.disk.now tells) settled
     (g.D.Disk.shown c.write_at.new.self) c.write_at.result (c.write_at.ensures.content tells)
     (g.D.Disk.shown c.sync.new.self) c.sync.result (c.sync.ensures.content told) (c.in_ok-write_at.ensures.content tells).written

@@ -1,5 +1,5 @@
 use Rattle.std.proofs.Common.{◌∙◌}
-use Rattle.row_journal.proofs.Restart.{after_cut, after_write, after_sync, after_ready}
+use Rattle.row_journal.proofs.Restart.{after_cut, after_write, after_sync, after_ready, after_bytes}
 use Rattle.row_journal.proofs.mending.restart.Goals as goal
 
 pub returns-in_err-cut-clause-any_moment : goal.returns-in_err-cut-clause-any_moment
@@ -28,6 +28,16 @@ returns-clause-ready g c tells image is settled =
     let told = c.cut.ensures.tells ∙ tells in
     let told_written = c.write_at.ensures.tells ∙ told in
     after_ready c.args.place image is (g.D.Disk.shown c.args.disk.now) (g.met.D.Disk.lawful c.args.disk.now tells) settled
+    (g.D.Disk.shown c.cut.new.self) c.cut.result (c.cut.ensures.content tells)
+    (g.D.Disk.shown c.write_at.new.self) c.write_at.result (c.write_at.ensures.content told)
+    (g.D.Disk.shown c.sync.new.self) c.sync.result (c.sync.ensures.content told_written)
+    (c.in_ok-cut.ensures.content tells).cut (c.in_ok-write_at.ensures.content told).written
+
+pub returns-clause-bytes : goal.returns-clause-bytes
+returns-clause-bytes g c tells image is settled =
+    let told = c.cut.ensures.tells ∙ tells in
+    let told_written = c.write_at.ensures.tells ∙ told in
+    after_bytes c.args.place image is (g.D.Disk.shown c.args.disk.now) (g.met.D.Disk.lawful c.args.disk.now tells) settled
     (g.D.Disk.shown c.cut.new.self) c.cut.result (c.cut.ensures.content tells)
     (g.D.Disk.shown c.write_at.new.self) c.write_at.result (c.write_at.ensures.content told)
     (g.D.Disk.shown c.sync.new.self) c.sync.result (c.sync.ensures.content told_written)

@@ -1,6 +1,7 @@
 use Rattle.std.proofs.Common.{sym, ◌∙◌, subst}
 use Rattle.heat_disk.specs.Halves.{Pair}
 use Rattle.row_journal.specs.Ends.{IsTidy}
+use Rattle.row_journal.specs.Mends.{HasMended}
 use Rattle.row_journal.proofs.Taken.{as_before, after_mend, still, settles, given}
 use Rattle.row_journal.proofs.taking.take_up.Goals as goal
 
@@ -55,4 +56,6 @@ returns-clause-taken g c tells =
       numbers = it.place;
       ready = c.in_ok-mend.ensures.ready told it.image it.place
           (still (g.D.Disk.shown c.args.disk.now).seen c.in-Ok.found (g.D.Disk.shown c.settle.new.disk) it same (c.in_ok-settle.ensures.durable roomed));
+      bytes = subst (λ (p : Pair). HasMended it.image p (g.D.Disk.shown c.mend.new.disk).seen) same (c.in_ok-mend.ensures.bytes told it.image it.place
+          (still (g.D.Disk.shown c.args.disk.now).seen c.in-Ok.found (g.D.Disk.shown c.settle.new.disk) it same (c.in_ok-settle.ensures.durable roomed)));
     }

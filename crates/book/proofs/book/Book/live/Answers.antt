@@ -8,8 +8,8 @@ use Rattle.book.proofs.book.Book.live.Goals as goal
 
 pub returns-clause-drawn : goal.returns-clause-drawn
 returns-clause-drawn g c e among = subst (λ (b : Shown g.row.P.Denot). e < b.state.next.engine) c.self.view_is
-    ((sound _ _ _ _ _ c.self.invariant).standing.links.numbered.live e
+    ((sound _ _ _ _ _ c.self.invariant.0).standing.links.numbered.live e
     (subst (λ (es : List ℕ). Contains es e) c.live.ensures among))
 
 pub returns-clause-rising : goal.returns-clause-rising
-returns-clause-rising g c = subst IsRising (sym c.live.ensures) (rising _ _ _ _ _ c.self.invariant)
+returns-clause-rising g c = subst IsRising (sym c.live.ensures) (rising _ _ _ _ _ c.self.invariant.0)

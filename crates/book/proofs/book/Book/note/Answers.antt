@@ -5,9 +5,12 @@ use Rattle.book.proofs.Growing.{kept_noted}
 use Rattle.book.proofs.book.Book.note.Goals as goal
 
 pub invariant_of-self-2 : goal.invariant_of-self-2
-invariant_of-self-2 g c = kept_noted _ _ _ _ _ _ c.args.what c.requires c.self.invariant
-    (c.push.ensures.items ∙ ap (λ (h : List Entry). h ++ record {
-      by = Main;
-      what =
-          c.args.what;
-    } ∷ []) c.reserve.ensures.same)
+invariant_of-self-2 g c = (
+  kept_noted _ _ _ _ _ _ c.args.what c.requires c.self.invariant.0
+      (c.push.ensures.items ∙ ap (λ (h : List Entry). h ++ record {
+        by = Main;
+        what =
+            c.args.what;
+      } ∷ []) c.reserve.ensures.same),
+  c.self.invariant.1,
+)

@@ -4,10 +4,10 @@ use Rattle.book.proofs.book.Book.promises.Goals as goal
 
 pub returns-clause-run : goal.returns-clause-run
 returns-clause-run g c = rw (← c.self.view_is)
-    (record { run = c.self.invariant.run; agrees = c.self.invariant.agrees; trace = c.self.invariant.trace })
+    (record { run = c.self.invariant.0.run; agrees = c.self.invariant.0.agrees; trace = c.self.invariant.0.trace })
 
 pub returns-clause-headline : goal.returns-clause-headline
-returns-clause-headline g c = rw (← c.self.view_is) (headline_of g.P.Provider.cloud _ c.self.invariant)
+returns-clause-headline g c = rw (← c.self.view_is) (headline_of g.P.Provider.cloud _ c.self.invariant.0)
 
 pub returns-clause-sound : goal.returns-clause-sound
-returns-clause-sound g c = rw (← c.self.view_is) (sound_book g.P.Provider.cloud _ c.self.invariant)
+returns-clause-sound g c = rw (← c.self.view_is) (sound_book g.P.Provider.cloud _ c.self.invariant.0)

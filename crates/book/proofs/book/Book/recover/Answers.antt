@@ -1,5 +1,5 @@
 -- An opened book has the run of no step, over the cloud as the list left it.
-use Rattle.std.proofs.Common.{[], ap, arith, subst, sym, ◌∙◌, ◌≡◌}
+use Rattle.std.proofs.Common.{[], ap, arith, refl, subst, sym, ◌∙◌, ◌≡◌}
 use Rattle.std.specs.Prelude.{length}
 use Rattle.provider.specs.Calls.{Lists}
 use Rattle.provider.specs.Cloud.{Cloud, HasNone}
@@ -21,11 +21,13 @@ returns-then-not-is_empty-clause-disagree g c p token is =
 
 pub invariant_of-result : goal.invariant_of-result
 invariant_of-result g c =
-    let zero : length c.in-Got.all ≡ 0 = grind (arith, c.is_empty.ensures, c.if-not-is_empty.false) in
-    kept_at_first _ _ c.args.workers _ _ _ c.in-Ok.ensures
-    (subst (λ (x : Cloud). HasNone x) (ap g.P.Provider.cloud (sym c.of-origin.ensures))
-    (none_listed c.in-Got.all _ _ (c.list.ensures.got c.in-Got.all c.in-Got.is) (empty_by c.in-Got.all zero)))
-    c.in-Ok-copy.ensures c.new.ensures (ap g.P.Provider.cloud c.of-origin.ensures)
+    let zero : length c.in-Got.all ≡ 0 = grind (arith, c.is_empty.ensures, c.if-not-is_empty.false) in (
+      kept_at_first _ _ c.args.workers _ _ _ c.in-Ok.ensures
+          (subst (λ (x : Cloud). HasNone x) (ap g.P.Provider.cloud (sym c.of-origin.ensures))
+          (none_listed c.in-Got.all _ _ (c.list.ensures.got c.in-Got.all c.in-Got.is) (empty_by c.in-Got.all zero)))
+          c.in-Ok-copy.ensures c.new.ensures (ap g.P.Provider.cloud c.of-origin.ensures),
+      tt,
+    )
 
 pub returns-else-not-is_empty-clause-book : goal.returns-else-not-is_empty-clause-book
 returns-else-not-is_empty-clause-book g c b is =
@@ -41,4 +43,5 @@ returns-else-not-is_empty-clause-book g c b is =
       cloud_is = sym c.of-origin.ensures;
       listed = subst (λ (x : Cloud). Lists [] (g.P.Provider.cloud c.args.cloud) x)
           (ap g.P.Provider.cloud (sym c.of-origin.ensures)) lists;
+      unhalted = refl;
     })

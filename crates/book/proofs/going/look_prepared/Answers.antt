@@ -1,0 +1,51 @@
+-- The step that was prepared for the answer is made, and the call is told.
+use Rattle.std.proofs.Common.{ap, subst, sym, ◌∙◌}
+use Rattle.std.specs.Prelude.{◌≡◌}
+use Rattle.heat_plan.specs.declared.calls.Answered.TheVariants as answer
+use Rattle.heat_plan.specs.declared.calls.Request.{Request}
+use Rattle.heat_plan.specs.declared.phase.Act.TheVariants.{Delete}
+use Rattle.row_table.specs.declared.row.Row.{Row}
+use Rattle.mail_table.specs.declared.mail.Stage.TheVariants.{Polling}
+use Rattle.book.specs.Scenes.{Told}
+use Rattle.book.proofs.Calling.{answered, going_to_look, looks_now}
+use Rattle.book.proofs.going.look_prepared.Goals as goal
+
+pub look-requires : goal.look-requires
+look-requires g c =
+    let k = c.requires.calls in
+    let p = c.requires.made in
+    going_to_look _ _ _ c.requires.sound c.args.e p.row p.called _ p.token k
+    (ap (λ (r : Row). r.act) (sym (p.called Polling k)) ∙ c.requires.goes k)
+
+pub returns-in-Gone : goal.returns-in-Gone
+returns-in-Gone g c =
+    let k = c.requires.calls in
+    let p = c.requires.made in
+    let goes : p.row.act ≡ Delete = ap (λ (r : Row). r.act) (sym (p.called Polling k)) ∙ c.requires.goes k in
+    answered _ c.args.e p.row p.called _ _ _ _ _ _ answer.Gone _ p.token p.gone c.make_within.ensures.state
+    c.make_within.ensures.entries
+    (λ r. subst (λ (a : Request). Told c.args.outcomes.token a answer.Gone (g.P.Provider.cloud c.args.cloud.now)
+    (g.P.Provider.cloud c.look.new.cloud))
+    (sym (looks_now _ c.args.e p.row p.called k goes r)) (c.look.ensures.gone c.in-Gone.is))
+
+pub returns-in-NotYet : goal.returns-in-NotYet
+returns-in-NotYet g c =
+    let k = c.requires.calls in
+    let p = c.requires.made in
+    let goes : p.row.act ≡ Delete = ap (λ (r : Row). r.act) (sym (p.called Polling k)) ∙ c.requires.goes k in
+    answered _ c.args.e p.row p.called _ _ _ _ _ _ answer.NotYet _ p.token p.not_yet
+    c.make_within-in-NotYet.ensures.state c.make_within-in-NotYet.ensures.entries
+    (λ r. subst (λ (a : Request). Told c.args.outcomes.token a answer.NotYet (g.P.Provider.cloud c.args.cloud.now)
+    (g.P.Provider.cloud c.look.new.cloud))
+    (sym (looks_now _ c.args.e p.row p.called k goes r)) (c.look.ensures.not_yet c.in-NotYet.is))
+
+pub returns-in-Failed : goal.returns-in-Failed
+returns-in-Failed g c =
+    let k = c.requires.calls in
+    let p = c.requires.made in
+    let goes : p.row.act ≡ Delete = ap (λ (r : Row). r.act) (sym (p.called Polling k)) ∙ c.requires.goes k in
+    answered _ c.args.e p.row p.called _ _ _ _ _ _ answer.Failed _ p.token p.failed
+    c.make_within-in-Failed.ensures.state c.make_within-in-Failed.ensures.entries
+    (λ r. subst (λ (a : Request). Told c.args.outcomes.token a answer.Failed (g.P.Provider.cloud c.args.cloud.now)
+    (g.P.Provider.cloud c.look.new.cloud))
+    (sym (looks_now _ c.args.e p.row p.called k goes r)) (c.look.ensures.failed c.in-Failed.is))

@@ -1,0 +1,83 @@
+//! The commit of a step that was looked at before. Where another step is next by now, it meets the
+//! fence: what was prepared is dropped, and nothing is changed.
+ghost use Rattle.std.specs.Prelude.{◌<◌, ◌≡◌};
+ghost use Rattle.provider.specs.Cloud.{Cloud};
+ghost use Rattle.check_steps.specs.Looks.{HasNext, IsWork};
+ghost use Rattle.check_steps.specs.Prepares.{IsPrepared};
+ghost use Rattle.book.specs.Commits.{Commits, MayBegin};
+ghost use Rattle.book.specs.Scenes.{scene};
+ghost use Rattle.book.specs.SoundOver.{IsSoundOver};
+ghost use Rattle.book.specs.Turned.{Turned};
+
+use crate::turning::{Turn, make_quietly, turn_of};
+use check_steps::{Prepared, Work, is_overtaken};
+use core_state::{Entry, Roomed, State};
+use heat_plan::EngineNo;
+use provider::Provider;
+use std::alloc::Global;
+use step_reads::{Task, next_of};
+
+// A step that was looked at, and what was prepared for it.
+#[derive(Drop)]
+pub(crate) struct Proposal {
+    pub work: Work,
+    pub prepared: Prepared,
+}
+
+// The step of an engine whose number was drawn, where it is still the one that was looked at.
+pub(crate) fn commit_of<P: Provider>(
+    alloc: Global,
+    state: &mut State,
+    entries: &mut Roomed<Entry>,
+    cloud: &mut P,
+    e: EngineNo,
+    proposal: Proposal,
+) -> Turn
+    requires drawn { e < state.old.state.next.engine }
+    requires sound { IsSoundOver state.old.state entries.old.items (P.cloud cloud.old) }
+    requires prepared { IsPrepared proposal.work proposal.prepared }
+    ensures committed { Commits e proposal.work
+        (scene state.old.state entries.old.items (P.cloud cloud.old))
+        (scene state.new.state entries.new.items (P.cloud cloud.new)) result }
+    ensures unprepared { proposal.prepared ≡ Prepared.Memory → HasNext state.old.state e
+        → IsWork state.old.state e proposal.work → result ≡ Turn.Memory }
+{
+    let Proposal { work, prepared } = proposal;
+    if is_overtaken(state, e, &work) {
+        return Turn::Stepped;
+    }
+    match work {
+        Work::Plain => turn_of(alloc, state, entries, cloud, e),
+        Work::Begin(_) => begin_given(alloc, state, entries, e, &prepared),
+    }
+}
+
+// The begin with what was prepared for it; an engine without a next step answers as at a turn.
+fn begin_given(
+    alloc: Global,
+    state: &mut State,
+    entries: &mut Roomed<Entry>,
+    e: EngineNo,
+    prepared: &Prepared,
+) -> Turn
+    requires drawn { e < state.old.state.next.engine }
+    requires begins { MayBegin state.old.state e prepared.now }
+    ensures turned { (c : Cloud) → Turned e
+        (scene state.old.state entries.old.items c)
+        (scene state.new.state entries.new.items c) result }
+    ensures unprepared { prepared.now ≡ Prepared.Memory → HasNext state.old.state e → result ≡ Turn.Memory }
+{
+    match next_of(state, e) {
+        Task::Lost => Turn::Lost,
+        Task::Idle => Turn::Idle,
+        Task::Take(_) => unreachable!(),
+        Task::TakeOver(_) => unreachable!(),
+        Task::Work(job) => match prepared {
+            Prepared::Memory => Turn::Memory,
+            _ => {
+                let made = check_steps::begin(alloc, state, e, job, prepared);
+                make_quietly(state, entries, made)
+            }
+        },
+    }
+}

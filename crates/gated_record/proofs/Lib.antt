@@ -1,4 +1,0 @@
-mod Blocks
-mod Crash
-mod Steps
-mod Runs

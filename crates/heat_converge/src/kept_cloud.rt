@@ -1,0 +1,76 @@
+//! The simulated cloud between two runs: a file that is read before the top call and written after it. What a
+//! file holds, and that it keeps what was synced, is trusted here, and no clause says it.
+ghost use Rattle.std.specs.Prelude.{◌≡◌};
+
+use crate::empty_cloud;
+use cloud_file::{CloudFileFault, read, text};
+use heat_value::Text;
+use sim_cloud::SimCloud;
+use std::alloc::AllocError;
+use std::fs::{self, File};
+use std::io::{self, ErrorKind, Write};
+
+/// Why the cloud file wasn't read or written.
+#[derive(Clone, Copy, Debug, PartialEq, Eq)]
+pub enum KeepFault {
+    /// It can't be read or written, or what it holds is no cloud file.
+    File,
+    /// There was no memory.
+    Memory,
+}
+
+impl From<AllocError> for KeepFault {
+    ghost use Rattle.heat_converge.specs.declared.kept_cloud.KeepFault.TheVariants.{Memory};
+
+    ghost from_gives = { λ _ e. e ≡ Memory };
+
+    fn from(_error: AllocError) -> KeepFault {
+        KeepFault::Memory
+    }
+}
+
+/// The cloud of the file at this path; an empty one where there is no such file.
+pub fn load(rt: &HostRuntime, path: &Text) -> Result<SimCloud, KeepFault> {
+    match fs::read(rt, path.as_str()) {
+        Ok(bytes) => match read(rt.alloc(), &bytes) {
+            Ok(cloud) => Ok(cloud),
+            Err(CloudFileFault::NotJson) => Err(KeepFault::File),
+            Err(CloudFileFault::Shape(_)) => Err(KeepFault::File),
+            Err(CloudFileFault::Memory) => Err(KeepFault::Memory),
+        },
+        Err(error) => match error.kind() {
+            ErrorKind::NotFound => Ok(empty_cloud(rt.alloc())?),
+            kind => Err(fault_of(kind)),
+        },
+    }
+}
+
+fn fault_of(kind: ErrorKind) -> KeepFault {
+    if kind == ErrorKind::OutOfMemory {
+        KeepFault::Memory
+    } else {
+        KeepFault::File
+    }
+}
+
+/// Replaces the file at this path by one with the cloud's text. Where this fails the old one stays: the new
+/// one is written and synced beside it, at the path with `.new` behind it, and then takes its name.
+pub fn store(rt: &HostRuntime, path: &Text, cloud: &SimCloud) -> Result<(), KeepFault> {
+    let text = text(rt.alloc(), cloud)?;
+    let beside = format!(in rt.alloc(); "{}.new", path.as_str())?;
+    match replace(rt, path.as_str(), beside.as_str(), text.as_str()) {
+        Ok(()) => Ok(()),
+        Err(error) => {
+            let _ = fs::remove_file(rt, beside.as_str());
+            Err(fault_of(error.kind()))
+        }
+    }
+}
+
+// Writes the file beside, and gives it the other's name once it is whole.
+fn replace(rt: &HostRuntime, path: &str, beside: &str, text: &str) -> io::Result<()> {
+    let mut file = File::create(rt, beside)?;
+    file.write_all(text.as_bytes())?;
+    file.sync_all()?;
+    fs::rename(rt, beside, path)
+}

@@ -1,0 +1,4 @@
+pub mod Readings
+pub mod Constraints
+pub mod Entries
+pub mod Parts

@@ -1,0 +1,35 @@
+//! All parts of a template.
+ghost use Rattle.std.specs.Prelude.{IfOk};
+ghost use Rattle.hot_parts.specs.Parts.{ArePartsOf};
+
+use crate::output::outputs_of;
+use crate::param::params_of;
+use crate::reading::entries;
+use crate::res::resources_of;
+use crate::{Out, Param, Res};
+use heat_value::{Props, Seq, TryCopy};
+use std::alloc::{AllocError, Global};
+
+/// Parameters, resources and outputs, each in byte order of the names, and the section `conditions`.
+#[derive(Debug, Drop)]
+pub struct Parts {
+    pub params: Seq<Param>,
+    pub conds: Props,
+    pub resources: Seq<Res>,
+    pub outputs: Seq<Out>,
+}
+
+impl Parts {
+    /// The parts of a template's object.
+    pub fn of(alloc: Global, template: &Props) -> Result<Parts, AllocError>
+        ensures { IfOk result (λ p. ArePartsOf template.now p) }
+    {
+        let none = Props::new(alloc);
+        Ok(Parts {
+            params: params_of(alloc, entries(alloc, "parameters", template, &none)?)?,
+            conds: entries(alloc, "conditions", template, &none)?.copy()?,
+            resources: resources_of(alloc, entries(alloc, "resources", template, &none)?)?,
+            outputs: outputs_of(alloc, entries(alloc, "outputs", template, &none)?)?,
+        })
+    }
+}

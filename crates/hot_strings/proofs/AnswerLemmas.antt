@@ -1,0 +1,236 @@
+-- The relations of the text functions have the answers that are read from left to right.
+use Rattle.std.proofs.Common.{◌≡◌, ◌≢◌, ◌+◌, ◌<◌, ◌≤◌, ℕ, zero, suc, pred, List, [], ◌∷◌, ◌++◌, length, ◌⊎◌, inl, inr, Bool, true, false, cond, ◌&&◌, ◌==◌, ◌*◌, ◌/◌, ◌%◌, Option, Some, None, refl, ap, sym, ◌∙◌, subst, arith, append_assoc}
+use lib.Utf8.{scalar, scalars, encode, next}
+use lib.Dec.{T, ltb, lt→ltb, ltb→lt}
+use Rattle.std.proofs.lemmas.Bool.{cases_lt, leb-true, le-leb}
+use Rattle.std.proofs.lemmas.Bool.Decides.{Decides-eqb}
+use Rattle.std.proofs.lemmas.List.Elements.{All-contains}
+use Rattle.std.specs.Bool.{nat_le}
+use Rattle.std.specs.Char.{encode_utf8}
+use Rattle.std.specs.List.{All, Contains}
+use Rattle.std.specs.Prelude.{codes, if◌then◌else◌, ⊤}
+use Rattle.std.specs.Str.{IsUtf8, encode_utf8_all}
+use Rattle.hot_strings.specs.Answers.{begins, cut_behind, cuts, onto_first, key_length, longest_at, put_behind, with_values, digest_of}
+use Rattle.hot_strings.specs.Digest.{IsDigestName, IsDigest}
+use Rattle.hot_strings.specs.Pieces.{Params, Piece, key, character, ArePieces, IsLongestKey, NoKeyBegins, AreDistinct, HasNoEmptyKey, replaced}
+use Rattle.hot_strings.specs.Places.{Begins, Lacks, StandsFirst}
+use Rattle.hot_strings.specs.Split.{AreSplit}
+use Rattle.hot_strings.proofs.KeyLemmas.{key_some}
+use Rattle.hot_strings.proofs.PieceLemmas.{both_true}
+use Rattle.hot_strings.proofs.PlaceLemmas.{append_same}
+use Rattle.hot_strings.proofs.Splits.{AreSplit-one, joined-AreSplit}
+
+-- ---- whether a text begins with another
+
+bool_false : (b : Bool) → (b ≡ true → ⊥) → b ≡ false
+bool_false true h = absurd (h refl)
+bool_false false h = refl
+
+begins-append : (d rest : List ℕ) → begins d (d ++ rest) ≡ true
+begins-append [] rest = refl
+begins-append (x ∷ d) rest = rw ((Decides-eqb x x).1 refl) (begins-append d rest)
+
+begins-true : (d s : List ℕ) → begins d s ≡ true → Begins d s
+begins-true [] s e = (s, refl)
+begins-true (x ∷ d) [] e = cc
+begins-true (x ∷ d) (y ∷ s) e =
+    let both = both_true (x == y) (begins d s) e in
+    let same : x ≡ y = (Decides-eqb x y).0 both.0 in
+    let more = begins-true d s both.1 in
+    let tail : s ≡ d ++ more.0 = more.1 in (more.0, cc)
+
+-- ---- the pieces between delimiters
+
+cut_skip : (d xs t : List ℕ) → cut_behind d (length xs) (xs ++ t) ≡ cut_behind d 0 t
+cut_skip d [] t = refl
+cut_skip d (x ∷ xs) t = cut_skip d xs t
+
+cut_here : (d s p rest : List ℕ) → d ≢ [] → StandsFirst d s p rest → cut_behind d 0 s ≡ p ∷ cut_behind d 0 rest
+cut_here [] s p rest some st = absurd (some refl)
+cut_here (x ∷ d) s [] rest some st = rw (st.whole, begins-append (x ∷ d) rest) (ap (λ t. [] ∷ t) (cut_skip (x ∷ d) d rest))
+cut_here (x ∷ d) [] (b ∷ p) rest some st = absurd (let e : [] ≡ b ∷ (p ++ ((x ∷ d) ++ rest)) = st.whole in cc)
+cut_here (x ∷ d) (y ∷ s) (b ∷ p) rest some st =
+    let whole : y ∷ s ≡ b ∷ (p ++ ((x ∷ d) ++ rest)) = st.whole in
+    let head : y ≡ b = cc in
+    let tail : s ≡ p ++ ((x ∷ d) ++ rest) = cc in
+    let later : StandsFirst (x ∷ d) s p rest = record {
+      whole = tail;
+      first = λ before after e. (let bound = st.first (y ∷ before) after (ap (λ (t : List ℕ). y ∷ t) e) in omega (arith, bound));
+    } in
+    let not : begins (x ∷ d) (y ∷ s) ≡ false
+    = bool_false (begins (x ∷ d) (y ∷ s)) (λ e. (let here = begins-true (x ∷ d) (y ∷ s) e in let bound = st.first [] here.0 here.1 in absurd (omega (arith, bound)))) in
+    rw (not, cut_here (x ∷ d) s p rest some later, head) refl
+
+cut_last : (d s : List ℕ) → d ≢ [] → Lacks d s → cut_behind d 0 s ≡ s ∷ []
+cut_last d [] some lacks = refl
+cut_last d (y ∷ s) some lacks =
+    let not : begins d (y ∷ s) ≡ false = bool_false (begins d (y ∷ s)) (λ e. (let here = begins-true d (y ∷ s) e in lacks [] here.0 here.1)) in
+    rw (not, cut_last d s some (λ before after e. lacks (y ∷ before) after (ap (λ (t : List ℕ). y ∷ t) e))) refl
+
+-- a text's pieces are the cuts
+pub cuts-split : (d s : List ℕ) (ps : List (List ℕ)) → d ≢ [] → AreSplit d s ps → cuts d s ≡ ps
+cuts-split d s [] some h = absurd h
+cuts-split d s (p ∷ []) some h = cut_last d s some h.1 ∙ ap (λ (t : List ℕ). t ∷ []) (sym h.0)
+cuts-split d s (p ∷ q ∷ ps) some h = cut_here d s p h.0 some h.1 ∙ ap (λ (t : List (List ℕ)). p ∷ t) (cuts-split d h.0 (q ∷ ps) some h.2)
+
+pub ruleset for_split = (AreSplit-one, joined-AreSplit, cuts-split)
+
+-- ---- the longest key at a place
+
+longest_none : (params : Params) (s : List ℕ) → NoKeyBegins params s → longest_at params s ≡ None
+longest_none [] s none = refl
+longest_none (p ∷ ps) s none =
+    let not : begins p.0 s ≡ false = bool_false (begins p.0 s) (λ e. none 0 p (omega arith) (begins-true p.0 s e)) in
+    rw (not, longest_none ps s (λ k d l. none (suc k) d (omega arith))) refl
+
+key_bound : (params : Params) (s : List ℕ) (n : ℕ) → All (λ p. Begins p.0 s → length p.0 ≤ n) params → key_length (longest_at params s) ≤ n
+key_bound [] s n all = omega arith
+key_bound (p ∷ ps) s n all = go (key_bound ps s n (λ k d l. all (suc k) d (omega arith))) (begins p.0 s && nat_le (key_length (longest_at ps s)) (length p.0)) refl
+  where
+    go : key_length (longest_at ps s) ≤ n → (c : Bool) → (begins p.0 s && nat_le (key_length (longest_at ps s)) (length p.0)) ≡ c → key_length (if c then Some p else longest_at ps s) ≤ n
+    go behind true e = all 0 p (omega arith) (begins-true p.0 s (both_true (begins p.0 s) (nat_le (key_length (longest_at ps s)) (length p.0)) e).0)
+    go behind false e = behind
+
+longest_some : (params : Params) (s k v : List ℕ) → AreDistinct params → IsLongestKey params s k v → longest_at params s ≡ Some (k, v)
+longest_some [] s k v distinct best = absurd (let l = best.listed.1 in omega (arith, l))
+longest_some (p ∷ ps) s k v distinct best =
+    by (λ listed. longest_some ps s k v distinct.1 (record { listed = listed; stands = best.stands; longest = λ i d m. best.longest (suc i) d (omega arith) })) best.listed
+  where
+    by : (Contains ps (k, v) → longest_at ps s ≡ Some (k, v)) → Contains (p ∷ ps) (k, v) → longest_at (p ∷ ps) s ≡ Some (k, v)
+    by behind (zero, l, e) =
+        let same : p ≡ (k, v) = e in
+        let stands : begins p.0 s ≡ true = rw (same, best.stands.1) (begins-append k best.stands.0) in
+        let bound : key_length (longest_at ps s) ≤ length k = key_bound ps s (length k) (λ i d m. best.longest (suc i) d (omega arith)) in
+        let longer : nat_le (key_length (longest_at ps s)) (length p.0) ≡ true = rw same (le-leb (key_length (longest_at ps s)) (length k) bound) in
+        rw (stands, longer, same) refl
+    by behind (suc i, l, e) =
+        let listed : Contains ps (k, v) = (i, omega arith, e) in
+        let rest = behind listed in
+        let not : (begins p.0 s && nat_le (length k) (length p.0)) ≡ false
+        = bool_false (begins p.0 s && nat_le (length k) (length p.0)) (λ both. (
+        let two = both_true (begins p.0 s) (nat_le (length k) (length p.0)) both in
+        let here = begins-true p.0 s two.0 in
+        let bound = best.longest 0 p (omega arith) here in
+        let other = leb-true (length k) (length p.0) two.1 in
+        let same = append_same k p.0 best.stands.0 here.0 (omega (arith, bound, other)) (sym best.stands.1 ∙ here.1) in
+        All-contains (λ (q : List ℕ × List ℕ). q.0 ≢ p.0) ps (k, v) distinct.0 listed same.0
+        )) in
+        rw (rest, not) refl
+
+-- ---- characters
+
+-- the bytes of a character behind its first
+abbrev AreInner : List ℕ → Type 0
+AreInner [] = ⊤
+AreInner (b ∷ bs) = (128 ≤ b) × (b < 192) × AreInner bs
+
+taken : {X : Type 0} (y : Bool) (a b : X) → T y → cond y a b ≡ a
+taken true a b t = refl
+taken false a b t = absurd t
+
+passed : {X : Type 0} (m n : ℕ) (a b : X) → n ≤ m → cond (ltb m n) a b ≡ b
+passed {X} m n a b le = by_test (ltb m n) refl
+  where
+    by_test : (y : Bool) → ltb m n ≡ y → cond y a b ≡ b
+    by_test true e = let lt : m < n = ltb→lt m n (subst T (sym e) tt) in absurd (omega arith)
+    by_test false e = refl
+
+one_byte : (c : ℕ) → c < 128 → encode c ≡ c ∷ []
+unfolding encode
+one_byte c h = taken (ltb c 128) _ _ (lt→ltb c 128 h)
+
+two_bytes : (c : ℕ) → 128 ≤ c → c < 2048 → encode c ≡ (192 + c / 64) ∷ next c ∷ []
+unfolding encode
+two_bytes c l h = passed c 128 _ _ l ∙ taken (ltb c 2048) _ _ (lt→ltb c 2048 h)
+
+three_bytes : (c : ℕ) → 2048 ≤ c → c < 65536 → encode c ≡ (224 + c / 4096) ∷ next (c / 64) ∷ next c ∷ []
+unfolding encode
+three_bytes c l h = passed c 128 _ _ (omega arith) ∙ passed c 2048 _ _ l ∙ taken (ltb c 65536) _ _ (lt→ltb c 65536 h)
+
+four_bytes : (c : ℕ) → 65536 ≤ c → encode c ≡ (240 + c / 262144) ∷ next (c / 4096) ∷ next (c / 64) ∷ next c ∷ []
+unfolding encode
+four_bytes c l = passed c 128 _ _ (omega arith) ∙ passed c 2048 _ _ (omega arith) ∙ passed c 65536 _ _ l
+
+-- a character's first byte, and those behind it
+abbrev CharBytes : ℕ → Type 0
+CharBytes c = (a : ℕ) × (bs : List ℕ) × (encode_utf8 c ≡ a ∷ bs) × ((a < 128) ⊎ (192 ≤ a)) × AreInner bs
+
+inner : (x : ℕ) (bs : List ℕ) → AreInner bs → AreInner (next x ∷ bs)
+inner x bs h = (omega arith, omega arith, h)
+
+char_bytes : (c : ℕ) → CharBytes c
+char_bytes c = by (cases_lt c 128) (cases_lt c 2048) (cases_lt c 65536)
+  where
+    by : (c < 128) ⊎ (128 ≤ c) → (c < 2048) ⊎ (2048 ≤ c) → (c < 65536) ⊎ (65536 ≤ c) → CharBytes c
+    by (inl h) _ _ = (c, [], one_byte c h, inl h, tt)
+    by (inr l) (inl h) _ = (192 + c / 64, next c ∷ [], two_bytes c l h, inr (omega arith), inner c [] tt)
+    by (inr _) (inr l) (inl h) = (224 + c / 4096, next (c / 64) ∷ next c ∷ [], three_bytes c l h, inr (omega arith), inner (c / 64) (next c ∷ []) (inner c [] tt))
+    by (inr _) (inr _) (inr l) =
+        (240 + c / 262144, next (c / 4096) ∷ next (c / 64) ∷ next c ∷ [], four_bytes c l, inr (omega arith), inner (c / 4096) (next (c / 64) ∷ next c ∷ []) (inner (c / 64) (next c ∷ []) (inner c [] tt)))
+
+-- no text begins behind a character's first byte
+not_inner : (k : List ℕ) (b : ℕ) (s : List ℕ) → IsUtf8 k → k ≢ [] → 128 ≤ b → b < 192 → Begins k (b ∷ s) → ⊥
+not_inner [] b s text some low high here = some refl
+not_inner (y ∷ k) b s (cs, (sc, is)) some low high (rest, e) = go cs sc is
+  where
+    same : b ≡ y
+    same = let whole : b ∷ s ≡ y ∷ (k ++ rest) = e in cc
+
+    go : (cs : List ℕ) → scalars cs ≡ true → encode_utf8_all cs ≡ y ∷ k → ⊥
+    go [] sc is = absurd (let none : [] ≡ y ∷ k = is in cc)
+    go (c ∷ cs) sc is = by (char_bytes c)
+      where
+        off : {a : ℕ} → (a < 128) ⊎ (192 ≤ a) → a ≡ b → ⊥
+        off (inl l) e = omega (arith, l, e)
+        off (inr l) e = omega (arith, l, e)
+
+        by : CharBytes c → ⊥
+        by (a, bs, bytes, side, within) =
+            let whole : a ∷ (bs ++ encode_utf8_all cs) ≡ y ∷ k = subst (λ (w : List ℕ). w ++ encode_utf8_all cs ≡ y ∷ k) bytes is in
+            let head : a ≡ y = cc in
+            off side (head ∙ sym same)
+
+-- ---- replacing
+
+module _ (params : Params) (distinct : AreDistinct params) (some : HasNoEmptyKey params) (texts : All (λ p. IsUtf8 p.0) params) where
+  put_skip : (xs t : List ℕ) → put_behind params (length xs) (xs ++ t) ≡ put_behind params 0 t
+  put_skip [] t = refl
+  put_skip (x ∷ xs) t = put_skip xs t
+
+  put_inner : (bs t : List ℕ) → AreInner bs → put_behind params 0 (bs ++ t) ≡ bs ++ put_behind params 0 t
+  put_inner [] t within = refl
+  put_inner (b ∷ bs) t within =
+      let none : longest_at params (b ∷ (bs ++ t)) ≡ None
+      = longest_none params (b ∷ (bs ++ t)) (λ k d l here. not_inner _ b (bs ++ t) (texts k d l) (some k d l) within.0 within.1 here) in
+      rw none (ap (λ (r : List ℕ). b ∷ r) (put_inner bs t within.2))
+
+  put_character : (c : ℕ) (t : List ℕ) → NoKeyBegins params (encode_utf8 c ++ t) → put_behind params 0 (encode_utf8 c ++ t) ≡ encode_utf8 c ++ put_behind params 0 t
+  put_character c t none = by (char_bytes c)
+    where
+      by : CharBytes c → put_behind params 0 (encode_utf8 c ++ t) ≡ encode_utf8 c ++ put_behind params 0 t
+      by (a, bs, bytes, side, within) =
+          let here : longest_at params (a ∷ (bs ++ t)) ≡ None = longest_none params (a ∷ (bs ++ t)) (subst (λ (w : List ℕ). NoKeyBegins params (w ++ t)) bytes none) in
+          rw (bytes, here) (ap (λ (r : List ℕ). a ∷ r) (put_inner bs t within))
+
+  -- what stands in place of a text's pieces is the text with the values
+  pub with_values-pieces : (s : List ℕ) (ps : List Piece) → ArePieces params s ps → with_values params s ≡ replaced ps
+  with_values-pieces s [] h = rw h refl
+  with_values-pieces s (key [] v ∷ ps) h = absurd (key_some params [] v some h.2.listed refl)
+  with_values-pieces s (key (x ∷ k) v ∷ ps) h =
+      let best : IsLongestKey params (x ∷ (k ++ h.0)) (x ∷ k) v = subst (λ (w : List ℕ). IsLongestKey params w (x ∷ k) v) h.1 h.2 in
+      rw (h.1, longest_some params (x ∷ (k ++ h.0)) (x ∷ k) v distinct best) (ap (λ (r : List ℕ). v ++ r) (put_skip k h.0 ∙ with_values-pieces h.0 ps h.3))
+  with_values-pieces s (character c ∷ ps) h =
+      let none : NoKeyBegins params (encode_utf8 c ++ h.0) = subst (λ (w : List ℕ). NoKeyBegins params w) h.1 h.2.1 in
+      rw h.1 (put_character c h.0 none ∙ ap (λ (r : List ℕ). encode_utf8 c ++ r) (with_values-pieces h.0 ps h.3))
+
+-- ---- digests
+
+pub digest_of-digest : (name text hex : List ℕ) → IsDigestName name → IsDigest name text hex → digest_of name text ≡ Some hex
+digest_of-digest name text hex (inl e) h = rw e (ap Some (sym (h.md5 e)))
+digest_of-digest name text hex (inr (inl e)) h = rw e (ap Some (sym (h.sha1 e)))
+digest_of-digest name text hex (inr (inr (inl e))) h = rw e (ap Some (sym (h.sha224 e)))
+digest_of-digest name text hex (inr (inr (inr (inl e)))) h = rw e (ap Some (sym (h.sha256 e)))
+digest_of-digest name text hex (inr (inr (inr (inr (inl e))))) h = rw e (ap Some (sym (h.sha384 e)))
+digest_of-digest name text hex (inr (inr (inr (inr (inr e))))) h = rw e (ap Some (sym (h.sha512 e)))
+
+pub ruleset for_digest = (digest_of-digest)

@@ -1,0 +1,42 @@
+use Rattle.std.proofs.Common.{[], ◌∷◌, ◌++◌, ◌∙◌, ap, sym, length, arith}
+use Rattle.std.proofs.lemmas.List.{append-nil}
+use Rattle.std.proofs.lemmas.Result.{err_from_is_err_and}
+use Rattle.hot_strings.specs.Pieces.{replaced}
+use Rattle.hot_strings.proofs.KeyLemmas.{is_empty_list}
+use Rattle.hot_strings.proofs.PieceLemmas.{length-behind, source_some, pieces_exist, LeadsTo-step, replaced-push, push_refused}
+use Rattle.hot_strings.proofs.replacing.filled_by.Goals as goal
+
+pub returns-in_err-push-clause-err : goal.returns-in_err-push-clause-err
+returns-in_err-push-clause-err c =
+    let p = err_from_is_err_and c.from_residual.result c.from_residual.ensures.1 in
+    let walk = c.loop-rest.invariant.2 in
+    let piece = c.first_piece.ensures.piece in
+    let more = pieces_exist (length c.first_piece.result.1.now) c.args.params.now c.first_piece.result.1.now c.requires.keys c.requires.texts c.first_piece.ensures.utf8 (omega arith) in
+    let leads = LeadsTo-step c.args.params.now c.args.template.now walk.0 c.loop-rest.rest.now piece.0 c.first_piece.result.1.now walk.2 piece.1 piece.2 in
+    rw (p.1, p.2)
+    (push_refused _ c.args.limit c.args.params.now c.args.template.now (walk.0 ++ piece.0 ∷ []) more.0 (leads more.0 more.1)
+    (rw (replaced-push walk.0 piece.0, ← walk.1, ← piece.3, ← c.loop-rest.invariant.1) c.in_err-push.ensures.err))
+
+pub loop-rest-smaller : goal.loop-rest-smaller
+loop-rest-smaller c =
+    let piece = c.first_piece.ensures.piece in
+    length-behind piece.0 c.loop-rest.rest.now c.first_piece.result.1.now (source_some c.args.params.now c.loop-rest.rest.now piece.0 c.requires.keys piece.2) piece.1
+
+pub loop-rest-preserved : goal.loop-rest-preserved
+loop-rest-preserved c =
+    let walk = c.loop-rest.invariant.2 in
+    let piece = c.first_piece.ensures.piece in (
+      c.first_piece.ensures.utf8,
+      c.push.ensures.limit ∙ c.loop-rest.invariant.1,
+      (
+        walk.0 ++ piece.0 ∷ [],
+        rw (replaced-push walk.0 piece.0, ← walk.1, ← piece.3) c.in_ok-push.ensures.ok,
+        LeadsTo-step c.args.params.now c.args.template.now walk.0 c.loop-rest.rest.now piece.0 c.first_piece.result.1.now walk.2 piece.1 piece.2,
+      ),
+    )
+
+pub returns-clause-ok : goal.returns-clause-ok
+returns-clause-ok c =
+    let walk = c.loop-rest.invariant.2 in
+    let end = is_empty_list c.loop-rest.rest.now c.loop-rest-test.ensures in
+    (walk.0 ++ [], walk.2 [] end, c.finish.ensures.text ∙ (walk.1 ∙ ap replaced (sym (append-nil walk.0))))

@@ -1,0 +1,5 @@
+mod Places
+mod Alone
+mod Counts
+mod Gathers
+mod Runs

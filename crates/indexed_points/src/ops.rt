@@ -1,0 +1,26 @@
+//! What may be asked of points, and what they answer.
+
+use crate::point::Gathered;
+use heat_value::Seq;
+use sync_points::Input;
+
+/// One call of points: the first number is the node's, the second that of the node before it.
+#[derive(Debug, Drop)]
+pub enum PointOp {
+    Gather(u32, u32, Input),
+    Inputs(u32),
+    Finish(u32),
+    IsDone(u32),
+    Set(u32, Seq<Input>, bool),
+}
+
+/// What a call gives, copied; `Done` where it gives nothing, and `Barred` where its condition doesn't hold
+/// and it isn't made.
+#[derive(Debug, Drop)]
+pub enum PointAnswer {
+    Gathered(Gathered),
+    Inputs(Seq<Input>),
+    IsDone(bool),
+    Done,
+    Barred,
+}
