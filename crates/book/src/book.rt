@@ -28,6 +28,7 @@ use crate::committing::{Proposal, commit_of};
 use crate::engines::{make_enlisting, make_stop};
 use crate::halting::Halt;
 use crate::opening::{Opened, opening_of};
+use crate::stranger::first_of;
 use crate::turning::{Turn, turn_of};
 use check_steps::{Look, Prepared, Work, look};
 use core_state::{Actor, Entry, Next, Roomed, State, What};
@@ -96,9 +97,9 @@ impl<P: Provider> Book<P> {
         };
         let mut cloud = cloud;
         match cloud.list() {
-            Listed::Got(mut all) => {
+            Listed::Got(all) => {
                 if !all.is_empty() {
-                    let first = all.remove(0);
+                    let first = first_of(all);
                     return Opened::Disagree(cloud, first.token);
                 }
                 let origin = Snapshot::of(&cloud);

@@ -22,6 +22,7 @@ mod making;
 mod opening;
 mod poll;
 mod requests;
+mod stranger;
 #[cfg(test)]
 mod takeover_tests;
 #[cfg(test)]

@@ -151,6 +151,6 @@ impl JobTable {
     {
         leave(&mut self.by_row, self.jobs.as_slice(), place);
         let _ = self.jobs.remove(place);
-        close_up(&mut self.by_row, place);
+        close_up(&mut self.by_row, place, self.jobs.as_slice().len());
     }
 }

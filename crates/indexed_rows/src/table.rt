@@ -117,8 +117,9 @@ impl RowTable {
         leave_by_name(&mut self.by_name, self.rows.as_slice(), place);
         leave_by_stack(&mut self.by_stack, self.rows.as_slice(), place);
         let _ = self.rows.remove(place);
-        close_up(&mut self.by_name, place);
-        close_up(&mut self.by_stack, place);
+        let left = self.rows.as_slice().len();
+        close_up(&mut self.by_name, place, left);
+        close_up(&mut self.by_stack, place, left);
     }
 
     // Gives the row to this engine, or to none.

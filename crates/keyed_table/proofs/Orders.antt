@@ -111,6 +111,11 @@ module _ {K : Type 0} (same below : K → K → Bool) (s : IsSorting same below)
     whole = λ p l ne. let n = length_push keys x in o.whole p (omega (arith, n, l, ne)) ne;
   }
 
+  -- no place is past the keys that are left
+  pub within_left : (out left : ℕ) (keys : List K) (places : List ℕ) → IsOrderBut below out keys places → length keys ≤ left + 1
+      → (i : ℕ) → i < length places → get_or places i 0 ≤ left
+  within_left out left keys places o n i l = omega (arith, n, (o.within i l).0)
+
   -- the key that is left out goes
   pub dropped : (out : ℕ) (keys : List K) (places : List ℕ) → out < length keys → IsOrderBut below out keys places
       → IsOrder below (remove keys out) (map (closed out) places)

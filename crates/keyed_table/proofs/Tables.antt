@@ -1,12 +1,13 @@
 -- What a table's calls do to its index, and what its definitions say where a key's place is known.
-use Rattle.std.proofs.Common.{◌≡◌, ◌≢◌, ◌<◌, ◌+◌, ◌∙◌, ℕ, zero, suc, Bool, true, false, cond, true≢false, List, [], ◌∷◌, ◌++◌, Some, None, All, length, map, get_or, set, insert, remove, not, option_map, slice_get, refl, sym, ap, subst, ⊎_elim, arith, add-one}
+use Rattle.std.proofs.Common.{◌≡◌, ◌≢◌, ◌<◌, ◌≤◌, ◌+◌, ◌∙◌, ℕ, zero, suc, Bool, true, false, cond, true≢false, List, [], ◌∷◌, ◌++◌, Some, None, All, length, map, get_or, set, insert, remove, not, option_map, slice_get, refl, sym, ap, subst, ⊎_elim, arith, add-one}
 use Rattle.std.specs.List.{position_from}
 use Rattle.std.proofs.lemmas.List.{length-map, get_or-map, get_or_append_left, get_or_default, get_or_push, length_push}
+use Rattle.std.proofs.lemmas.List.Edits.{length-remove}
 use Rattle.std.proofs.lemmas.Option.{slice_get-get_or}
 use Rattle.heat_plan.specs.Tables.{at, cut}
 use Rattle.keyed_table.proofs.Numbers.{compared}
 use Rattle.keyed_table.proofs.Finds.{position-first}
-use Rattle.keyed_table.proofs.Orders.{left_out, pushed, dropped, entered}
+use Rattle.keyed_table.proofs.Orders.{left_out, within_left, pushed, dropped, entered}
 use Rattle.keyed_table.proofs.Puts.{position_from-shift, position_from-none}
 use Rattle.keyed_table.specs.Orders.{AreApart, IsSorting, IsOrderBut, IsOrder, IsStart, closed}
 
@@ -86,6 +87,13 @@ module _ {A K : Type 0} (key : A → K) (same below : K → K → Bool) (s : IsS
   remove_keeps items' places' p at e f l lt is = as_one _ _ _ _ (sym (ap (map key) e ∙ map-remove key items p)) (sym f)
       (dropped same below s p (map key items) (remove places at) (omega (arith, l, length-map items key))
       (subst (λ q. IsOrderBut below q (map key items) (remove places at)) is (left_out same below s (map key items) places o at lt)))
+
+  -- and no entry past the records that are left
+  pub remove_within : (places' : List ℕ) (p at left : ℕ) → places' ≡ remove places at → p < length items → at < length places → get_or places at 0 ≡ p
+      → left ≡ length (remove items p) → (i : ℕ) → i < length places' → get_or places' i 0 ≤ left
+  remove_within places' p at left f l lt is n = within_left same below s p left (map key items) places'
+      (subst (λ q. IsOrderBut below q (map key items) places') is (subst (IsOrderBut below (get_or places at 0) (map key items)) (sym f) (left_out same below s (map key items) places o at lt)))
+      (omega (arith, length-map items key, length-remove items p l, n))
 
   -- the search for a record's key ends at its entry
   pub start_there : (p at : ℕ) (k : K) → p < length items → ((d : A) → key (get_or items p d) ≡ k) → IsStart (λ x. below x k) (map key items) places at

@@ -191,8 +191,9 @@ impl<T: Keyed> Table<T> {
         let items = self.all.as_slice();
         let at = start_of(&self.places, items, items[place].key());
         let _ = self.places.remove(at);
-        close_up(&mut self.places, place);
-        self.all.remove(place)
+        let item = self.all.remove(place);
+        close_up(&mut self.places, place, self.all.as_slice().len());
+        item
     }
 
     /// Takes the record of a key out; none where there is none.

@@ -12,12 +12,12 @@ use Rattle.book.proofs.book.Book.recover.Goals as goal
 
 pub returns-then-not-is_empty-clause-disagree : goal.returns-then-not-is_empty-clause-disagree
 returns-then-not-is_empty-clause-disagree g c p token is =
-    let its : c.remove-first.result.token ≡ token = same_stranger _ _ _ _ is in
+    let its : c.first_of-first.result.token ≡ token = same_stranger _ _ _ _ is in
     let cloud_is : c.list.new.self ≡ p = same_cloud _ _ _ _ is in
     subst (λ (x : g.row.P.Denot). HasStranger token (g.P.Provider.cloud c.args.cloud) (g.P.Provider.cloud x)) cloud_is
     (subst (λ (t : Token). HasStranger t (g.P.Provider.cloud c.args.cloud) (g.P.Provider.cloud c.list.new.self)) its
-    (stranger_at c.in-Got.all c.remove-first.result _ _
-    (c.list.ensures.got c.in-Got.all c.in-Got.is) c.remove-first.ensures.item))
+    (stranger_at c.in-Got.all c.first_of-first.result _ _
+    (c.list.ensures.got c.in-Got.all c.in-Got.is) c.first_of-first.ensures))
 
 pub invariant_of-result : goal.invariant_of-result
 invariant_of-result g c =

@@ -1,7 +1,7 @@
 use Rattle.std.proofs.Common.{◌≡◌, ◌<◌, ◌≤◌, ℕ, length}
 use Rattle.std.specs.Prelude.{slice_index}
 use Rattle.keyed_table.specs.Orders.{closed}
-use Rattle.keyed_table.proofs.places.close_up.Given as goal
+use Rattle.keyed_table.proofs.places.count_down.Given as goal
 
 abbrev pub invariant-loop-i : goal.invariant-loop-i
 invariant-loop-i l =
