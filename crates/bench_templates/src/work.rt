@@ -1,12 +1,15 @@
 //! How far a template is taken.
+ghost use Rattle.std.specs.Prelude.{◌≡◌};
+ghost use Rattle.hot_registry.specs.Names.{is_listed};
+ghost use Rattle.hot_registry.specs.Shipped.{flavor_test as the_flavor_test};
 
 use crate::parameters::{given, push_parameters};
 use crate::resources::push_resources;
 use anyhow::{Result, bail};
 use heat_plan::{StackName, StackNo};
-use heat_value::{Props, Value};
+use heat_value::{Props, Seq, Text, Value};
 use hot_params::{Ids, bind};
-use hot_registry::shipped_registry;
+use hot_registry::{Ask, Custom, Registry, flavor_test, is_flavor};
 use hot_tree::Template;
 use std::alloc::Global;
 
@@ -68,7 +71,7 @@ fn taken(alloc: Global, value: &Value) -> Result<Template> {
     }
 }
 
-// What the parameters are bound to.
+// What the parameters are bound to, where the test nova.flavor is registered.
 fn bound(alloc: Global, template: &Template) -> Result<Props> {
     let Some(stack) = StackName::read(alloc, b"s")? else {
         bail!("a name");
@@ -77,7 +80,17 @@ fn bound(alloc: Global, template: &Template) -> Result<Props> {
         bail!("a number");
     };
     let ids = Ids { stack, no };
-    let registry = shipped_registry(alloc)?;
+    let ask: Ask = Box::new(
+        alloc,
+        |text: &Text| -> bool
+            ensures { result ≡ is_listed the_flavor_test.allowed text.now }
+        { is_flavor(text) },
+    )?;
+    let mut customs = Seq::new(alloc);
+    customs.push(Custom::new(flavor_test(alloc)?, ask))?;
+    let Some(registry) = Registry::new(Seq::new(alloc), customs) else {
+        bail!("no registry");
+    };
     match bind(alloc, template, &given(alloc)?, &ids, &registry) {
         Ok(bound) => Ok(bound.params),
         Err(fault) => bail!("{}", fault.code().unwrap_or("no memory")),

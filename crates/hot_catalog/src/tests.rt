@@ -1,10 +1,14 @@
 //! What no clause says: catalogues from outside, in single quotes; each fault with its path, and beside
 //! the next one; the limits. Want of memory is told as such, and asked once more.
+ghost use Rattle.type_catalog.specs.Changes.{ChangeOf};
+
 use crate::{Catalog, CatalogFault};
-use heat_value::{Text, Value, ValueFault};
-use hot_registry::shipped_registry;
+use heat_plan::Properties;
+use heat_value::{Seq, Text, Value, ValueFault};
+use hot_registry::{Change, Judge, Registry, box_kind};
 use std::alloc::{AllocError, Global};
 use std::test::Fail;
+use type_catalog::{Effect, change_of};
 
 type Row = (&'static str, &'static str);
 
@@ -31,9 +35,27 @@ fn told(alloc: Global, catalog: &mut Catalog, text: &str) -> Result<String, Allo
     }
 }
 
+// The catalogue of a program that registers the judge of the shipped kind.
+fn shipped_catalog(alloc: Global) -> Result<Catalog, AllocError> {
+    let kind = box_kind(alloc)?;
+    let softs = kind.softs()?;
+    let change: Change = Box::new(
+        alloc,
+        move |old: &Properties, new: &Properties| -> Effect
+            ensures { ∥ ChangeOf softs old.now new.now result ∥₁ }
+        { change_of(softs.as_slice(), old, new) },
+    )?;
+    let mut judges = Seq::new(alloc);
+    judges.push(Judge::new(kind, change))?;
+    match Registry::new(judges, Seq::new(alloc)) {
+        Some(registry) => Catalog::new(alloc, &registry),
+        None => unreachable!(),
+    }
+}
+
 // What a text is read as into a catalogue of the shipped kinds alone.
 fn told_alone(alloc: Global, text: &str) -> Result<String, AllocError> {
-    let mut catalog = Catalog::new(alloc, &shipped_registry(alloc)?)?;
+    let mut catalog = shipped_catalog(alloc)?;
     told(alloc, &mut catalog, text)
 }
 
@@ -156,7 +178,7 @@ fn count_of(alloc: Global, catalog: &Catalog, name: &str) -> Result<Option<usize
 
 // The attributes of K after these texts were read in turn, each once more where memory was wanted.
 fn after(alloc: Global, texts: &[&str]) -> Result<Option<usize>, AllocError> {
-    let mut catalog = Catalog::new(alloc, &shipped_registry(alloc)?)?;
+    let mut catalog = shipped_catalog(alloc)?;
     for text in texts {
         if told(alloc, &mut catalog, text).is_err() {
             told(alloc, &mut catalog, text)?;

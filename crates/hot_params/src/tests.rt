@@ -1,9 +1,13 @@
 //! What no clause says: values from outside, in single quotes; each code with its path, and beside the
 //! next one; the limits. Want of memory is told as such, and asked once more.
+ghost use Rattle.std.specs.Prelude.{◌≡◌};
+ghost use Rattle.hot_registry.specs.Names.{is_listed};
+ghost use Rattle.hot_registry.specs.Shipped.{flavor_test as the_flavor_test};
+
 use crate::{Bound, Ids, ParamFault, bind};
 use heat_plan::{StackName, StackNo};
-use heat_value::{Props, Text, Value, ValueFault};
-use hot_registry::{Registry, shipped_registry};
+use heat_value::{Props, Seq, Text, Value, ValueFault};
+use hot_registry::{Ask, Custom, Registry, flavor_test, is_flavor};
 use hot_tree::{HotFault, Template};
 use std::alloc::{AllocError, Global};
 use std::test::Fail;
@@ -89,8 +93,19 @@ const REFUSED: &str = "P06 ['parameters','x','constraints',0]";
 type Row = (&'static str, &'static str, &'static str, &'static str);
 
 // The first row that is told otherwise, with what it is told; nothing where each is as it stands.
+// The test nova.flavor is registered.
 fn first_wrong(alloc: Global, rows: &[Row]) -> Result<String, AllocError> {
-    let registry = shipped_registry(alloc)?;
+    let ask: Ask = Box::new(
+        alloc,
+        |text: &Text| -> bool
+            ensures { result ≡ is_listed the_flavor_test.allowed text.now }
+        { is_flavor(text) },
+    )?;
+    let mut customs = Seq::new(alloc);
+    customs.push(Custom::new(flavor_test(alloc)?, ask))?;
+    let Some(registry) = Registry::new(Seq::new(alloc), customs) else {
+        return String::from_str(alloc, "no registry");
+    };
     for (sort, more, given, wanted) in rows {
         let params = format!(in alloc; "'x':{{'type':'{}'{}}}", *sort, *more)?;
         let given = format!(in alloc; "{{{}}}", *given)?;
@@ -350,10 +365,13 @@ fn pseudo_parameters_are_bound(rt: HostRuntime) -> Result<(), Fail> {
 
 // The value of a pseudo parameter where there is no other.
 fn pseudo(alloc: Global, name: &str) -> Result<String, AllocError> {
-    let (Some(template), Some(ids)) = (template_of(alloc, "")?, ids_of(alloc)?) else {
+    let (Some(template), Some(ids), Some(registry)) = (
+        template_of(alloc, "")?,
+        ids_of(alloc)?,
+        Registry::new(Seq::new(alloc), Seq::new(alloc)),
+    ) else {
         return String::from_str(alloc, "unread");
     };
-    let registry = shipped_registry(alloc)?;
     match bind(alloc, &template, &Props::new(alloc), &ids, &registry) {
         Ok(bound) => value_text(alloc, &bound, name),
         Err(fault) => words_of(alloc, &fault),

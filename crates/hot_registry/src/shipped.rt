@@ -1,58 +1,13 @@
-//! What the program registers itself: the judge of one kind, and one test.
-ghost use Rattle.std.specs.Prelude.{◌≡◌, ◌∷◌, [], IfOk, map};
-ghost use Rattle.type_catalog.specs.Changes.{ChangeOf};
+//! What the program registers itself. The closures are made where the registry is, since none is handed
+//! out; each calls a function of this file.
+ghost use Rattle.std.specs.Prelude.{◌≡◌, IfOk, map};
 ghost use Rattle.hot_registry.specs.Names.{is_listed};
 ghost use Rattle.hot_registry.specs.Shipped.{optional as the_optional, box_kind as the_box_kind};
 ghost use Rattle.hot_registry.specs.Shipped.{flavor_test as the_flavor_test};
 
-use crate::{Ask, Change, Custom, Judge, KindDef, NamedTest, PropDef, Registry};
-use heat_plan::Properties;
+use crate::{KindDef, NamedTest, PropDef};
 use heat_value::{Seq, Text};
 use std::alloc::{AllocError, Global};
-use type_catalog::{Effect, change_of};
-
-/// The registry that the program ships: the judge of `Test::Box`, and the test `nova.flavor`.
-pub fn shipped_registry(alloc: Global) -> Result<Registry, AllocError>
-    ensures judges { IfOk result (λ r. map (λ j. j.kind) r.judges ≡ the_box_kind ∷ []) }
-    ensures customs { IfOk result (λ r. map (λ c. c.test) r.customs ≡ the_flavor_test ∷ []) }
-{
-    let mut judges = Seq::new(alloc);
-    judges.push(box_judge(alloc)?)?;
-    let mut customs = Seq::new(alloc);
-    customs.push(flavor_custom(alloc)?)?;
-    match Registry::new(judges, customs) {
-        Some(registry) => Ok(registry),
-        None => unreachable!(),
-    }
-}
-
-// The judge of `Test::Box`.
-fn box_judge(alloc: Global) -> Result<Judge, AllocError>
-    ensures { IfOk result (λ j. j.kind ≡ the_box_kind) }
-{
-    let kind = box_kind(alloc)?;
-    let softs = kind.softs()?;
-    let change: Change = Box::new(
-        alloc,
-        move |old: &Properties, new: &Properties| -> Effect
-            ensures { ∥ ChangeOf softs old.now new.now result ∥₁ }
-        { change_of(softs.as_slice(), old, new) },
-    )?;
-    Ok(Judge::new(kind, change))
-}
-
-// The test `nova.flavor`.
-fn flavor_custom(alloc: Global) -> Result<Custom, AllocError>
-    ensures { IfOk result (λ c. c.test ≡ the_flavor_test) }
-{
-    let ask: Ask = Box::new(
-        alloc,
-        |text: &Text| -> bool
-            ensures { result ≡ is_listed the_flavor_test.allowed text.now }
-        { is_flavor(text) },
-    )?;
-    Ok(Custom::new(flavor_test(alloc)?, ask))
-}
 
 /// The kind `Test::Box`: `link` and `size` change in place, `zone` replaces, none is required; the
 /// attributes are `addr`, `link`, `size`.

@@ -1,15 +1,30 @@
-//! What no clause says: that the shipped registry is made, and that it answers; where memory is wanted, it
-//! is asked once more.
-use crate::shipped_registry;
+//! What no clause says: that a registry can be made with closures of a program, and that it answers; where
+//! memory is wanted, it is asked once more.
+ghost use Rattle.std.specs.Prelude.{◌≡◌};
+ghost use Rattle.type_catalog.specs.Changes.{ChangeOf};
+ghost use Rattle.hot_registry.specs.Names.{is_listed};
+ghost use Rattle.hot_registry.specs.Shipped.{flavor_test as the_flavor_test};
+
+use crate::{Ask, Change, Custom, Judge, Registry, box_kind, flavor_test, is_flavor};
 use heat_plan::Properties;
-use heat_value::{Text, Value, ValueFault};
+use heat_value::{Seq, Text, Value, ValueFault};
 use std::alloc::{AllocError, Global};
 use std::test::Fail;
-use type_catalog::Effect;
+use type_catalog::{Effect, change_of};
 
-// What the shipped test of this name says of a text.
+// What the test of this name says of a text, in a registry with the shipped test.
 fn told(alloc: Global, name: &str, text: &str) -> Result<&'static str, AllocError> {
-    let registry = shipped_registry(alloc)?;
+    let ask: Ask = Box::new(
+        alloc,
+        |text: &Text| -> bool
+            ensures { result ≡ is_listed the_flavor_test.allowed text.now }
+        { is_flavor(text) },
+    )?;
+    let mut customs = Seq::new(alloc);
+    customs.push(Custom::new(flavor_test(alloc)?, ask))?;
+    let Some(registry) = Registry::new(Seq::new(alloc), customs) else {
+        return Ok("no registry");
+    };
     let text = Text::from_str(alloc, text)?;
     match registry.custom(&Text::from_str(alloc, name)?) {
         Some(custom) => Ok(if custom.ask(&text) { "true" } else { "false" }),
@@ -49,10 +64,24 @@ fn properties(alloc: Global, text: &str) -> Result<Option<Properties>, AllocErro
     }
 }
 
-// What the shipped judge of this kind says of a change from the first text to the second.
+// What the judge of this kind says of a change from the first text to the second, in a registry with the
+// judge of the shipped kind.
 fn judged(alloc: Global, kind: &str, old: &str, new: &str) -> Result<Option<Effect>, AllocError> {
-    let registry = shipped_registry(alloc)?;
-    let (Some(old), Some(new)) = (properties(alloc, old)?, properties(alloc, new)?) else {
+    let shipped = box_kind(alloc)?;
+    let softs = shipped.softs()?;
+    let change: Change = Box::new(
+        alloc,
+        move |old: &Properties, new: &Properties| -> Effect
+            ensures { ∥ ChangeOf softs old.now new.now result ∥₁ }
+        { change_of(softs.as_slice(), old, new) },
+    )?;
+    let mut judges = Seq::new(alloc);
+    judges.push(Judge::new(shipped, change))?;
+    let (Some(registry), Some(old), Some(new)) = (
+        Registry::new(judges, Seq::new(alloc)),
+        properties(alloc, old)?,
+        properties(alloc, new)?,
+    ) else {
         return Ok(None);
     };
     match registry.judge(&Text::from_str(alloc, kind)?) {
