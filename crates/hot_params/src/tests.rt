@@ -314,7 +314,7 @@ fn patterns_are_matched(rt: HostRuntime) -> Result<(), Fail> {
 fn a_pattern_may_be_too_large(rt: HostRuntime) -> Result<(), Fail> {
     let large = ",'constraints':[{'allowed_pattern':'(a{1000}){1000}'}]";
     let rows: [Row; 1] = [("string", large, "'x':'a'", REFUSED)];
-    let wrong = first_wrong(rt.alloc(), &rows)?;
+    let wrong = wrong_among(rt.alloc(), &rows)?;
     assert_eq!(rt; wrong.as_str(), "");
     Ok(())
 }
