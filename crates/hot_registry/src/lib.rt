@@ -17,4 +17,4 @@ pub use judge::{Change, Judge};
 pub use kind::{KindDef, PropDef};
 pub use naming::{HasName, named};
 pub use registry::Registry;
-pub use shipped::{box_kind, flavor_test, is_flavor};
+pub use shipped::{box_kind, flavor_test, is_flavor, shipped_registry};

@@ -1,13 +1,36 @@
-//! What the program registers itself. The closures are made where the registry is, since none is handed
-//! out; each calls a function of this file.
-ghost use Rattle.std.specs.Prelude.{◌≡◌, IfOk, map};
+//! What the program registers itself. The closures are the program's: no call hands one out that it made.
+ghost use Rattle.std.specs.Prelude.{◌≡◌, ◌∷◌, [], Bool, IfOk, map};
+ghost use Rattle.type_catalog.specs.Changes.{ChangeOf};
+ghost use Rattle.type_catalog.specs.declared.effect.Effect.{Effect as effect_type};
+ghost use Rattle.hot_registry.specs.Kinds.{softs_of};
 ghost use Rattle.hot_registry.specs.Names.{is_listed};
 ghost use Rattle.hot_registry.specs.Shipped.{optional as the_optional, box_kind as the_box_kind};
 ghost use Rattle.hot_registry.specs.Shipped.{flavor_test as the_flavor_test};
 
-use crate::{KindDef, NamedTest, PropDef};
+use crate::{Ask, Change, Custom, Judge, KindDef, NamedTest, PropDef, Registry};
 use heat_value::{Seq, Text};
 use std::alloc::{AllocError, Global};
+
+/// The registry that the program ships: the judge of `Test::Box`, who asks this closure of changes, and the
+/// test `nova.flavor`, which asks this one of texts. `change_of` and `is_flavor` answer as they have to.
+pub fn shipped_registry(alloc: Global, change: Change, ask: Ask) -> Result<Registry, AllocError>
+    requires changes { Change.IsAlwaysCallable change }
+    requires judged { (old new : _) (effect : effect_type) → Change.post change old new effect
+        → ∥ ChangeOf (softs_of the_box_kind.props) old.now new.now effect ∥₁ }
+    requires asks { Ask.IsAlwaysCallable ask }
+    requires told { (t : _) (b : Bool) → Ask.post ask t b → b ≡ is_listed the_flavor_test.allowed t.now }
+    ensures judges { IfOk result (λ r. map (λ j. j.kind) r.judges ≡ the_box_kind ∷ []) }
+    ensures customs { IfOk result (λ r. map (λ c. c.test) r.customs ≡ the_flavor_test ∷ []) }
+{
+    let mut judges = Seq::new(alloc);
+    judges.push(Judge::new(box_kind(alloc)?, change))?;
+    let mut customs = Seq::new(alloc);
+    customs.push(Custom::new(flavor_test(alloc)?, ask))?;
+    match Registry::new(judges, customs) {
+        Some(registry) => Ok(registry),
+        None => unreachable!(),
+    }
+}
 
 /// The kind `Test::Box`: `link` and `size` change in place, `zone` replaces, none is required; the
 /// attributes are `addr`, `link`, `size`.
