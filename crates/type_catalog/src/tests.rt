@@ -1,20 +1,22 @@
 //! What no clause says: that each answer comes; where memory is wanted, it is asked once more.
 use crate::{Effect, change_of};
 use heat_plan::Properties;
-use heat_value::{Text, Value};
-use std::alloc::Global;
+use heat_value::{Text, Value, ValueFault};
+use std::alloc::{AllocError, Global};
 use std::test::Fail;
 
 // Properties of a text; none where it is no map.
-fn properties(alloc: Global, text: &[u8]) -> Result<Option<Properties>, Fail> {
-    match Value::read(alloc, text)? {
-        Value::Fields(props) => Ok(Properties::from_props(props)),
-        _ => Ok(None),
+fn properties(alloc: Global, text: &[u8]) -> Result<Option<Properties>, AllocError> {
+    match Value::read(alloc, text) {
+        Ok(Value::Fields(props)) => Ok(Properties::from_props(props)),
+        Ok(_) => Ok(None),
+        Err(ValueFault::Memory) => Err(AllocError),
+        Err(_) => Ok(None),
     }
 }
 
 // What the change from the first to the second asks for, where `s` and `t` change in place.
-fn effect(alloc: Global, old: &[u8], new: &[u8]) -> Result<Option<Effect>, Fail> {
+fn effect(alloc: Global, old: &[u8], new: &[u8]) -> Result<Option<Effect>, AllocError> {
     let softs = [Text::from_str(alloc, "s")?, Text::from_str(alloc, "t")?];
     let (Some(old), Some(new)) = (properties(alloc, old)?, properties(alloc, new)?) else {
         return Ok(None);
