@@ -3,7 +3,8 @@
 # the report: 250 and 1,000 resources in a chain, and in a fan where one needs all others, are created, updated
 # with nothing changed, updated with a third in place and a seventh replaced, and deleted. A phase's seconds are
 # net of the phases before it, and its peak is that of all up to it; the growth is that from 250 to 1,000 of the
-# net seconds. The least of seven runs is taken. It judges nothing.
+# net seconds. The least of seven runs is taken; /usr/bin/time tells the peak, since a child of python3 begins
+# with that of python3. It judges nothing.
 set -e
 cd "$(dirname "$0")/../crates/bench_steps"
 rt run -- chain delete 1 >/dev/null 2>&1
@@ -13,11 +14,12 @@ import os, subprocess, sys
 PHASES = ("create", "same", "change", "delete")
 
 def once(words):
-    child = subprocess.Popen([sys.argv[1], *words], stdout=subprocess.PIPE)
-    text = child.stdout.read().decode().strip()
+    command = ["/usr/bin/time", "-f", "%M", sys.argv[1], *words]
+    child = subprocess.Popen(command, stdout=subprocess.PIPE, stderr=subprocess.PIPE)
+    text, peak = (stream.read().decode().strip() for stream in (child.stdout, child.stderr))
     _, status, used = os.wait4(child.pid, 0)
     assert status == 0, words
-    return used.ru_utime + used.ru_stime, used.ru_maxrss / 1024, text
+    return used.ru_utime + used.ru_stime, int(peak) / 1024, text
 
 def measure(words):
     runs = [once(words) for _ in range(7)]
