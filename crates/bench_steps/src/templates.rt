@@ -1,0 +1,92 @@
+//! Plans of so many boxes.
+
+use anyhow::{Result, bail};
+use heat_plan::{Plan, StackName};
+use plain_templates::plain_plan;
+use script_lines::{Body, Line};
+use std::alloc::Global;
+
+/// What the boxes need.
+#[derive(Clone, Copy, Debug, PartialEq, Eq)]
+pub enum Shape {
+    /// Each needs the one before it.
+    Chain,
+    /// The last one needs all others.
+    Fan,
+}
+
+/// The stack's name and its plan; where it is changed, each third box is of another size, and each
+/// seventh in another zone.
+pub fn planned(
+    alloc: Global,
+    shape: Shape,
+    count: u32,
+    is_changed: bool,
+) -> Result<(StackName, Plan)> {
+    let line = line_of(alloc, shape, count, is_changed)?;
+    match Line::read(alloc, line.as_bytes()) {
+        Ok(Line::Create(name, body)) => Ok((name, plan_of(alloc, &body)?)),
+        _ => bail!("a line that creates"),
+    }
+}
+
+fn plan_of(alloc: Global, body: &Body) -> Result<Plan> {
+    match plain_plan(alloc, body) {
+        Ok(plan) => Ok(plan),
+        Err(_) => bail!("a plan"),
+    }
+}
+
+fn line_of(alloc: Global, shape: Shape, count: u32, is_changed: bool) -> Result<String> {
+    let mut line = String::new(alloc);
+    line.push_str("create s {\"template\":{\"heat_template_version\":\"2018-08-31\",")?;
+    line.push_str("\"resources\":{")?;
+    for place in 0..count {
+        if 0 < place {
+            line.push_str(",")?;
+        }
+        push_box(alloc, &mut line, place, is_changed)?;
+        push_needs(alloc, &mut line, first_need(shape, count, place), place)?;
+    }
+    line.push_str("}}}")?;
+    Ok(line)
+}
+
+fn push_box(alloc: Global, line: &mut String, place: u32, is_changed: bool) -> Result<()> {
+    let size = if is_changed && place % 3 == 0 { 2 } else { 1 };
+    let zone = if is_changed && place % 7 == 0 {
+        "b"
+    } else {
+        "a"
+    };
+    line.push_str(format!(in alloc;
+        "\"r{place:04}\":{{\"type\":\"Test::Box\",\"properties\":{{\"size\":{size},\"zone\":\"{zone}\"}},"
+    )?.as_str())?;
+    Ok(())
+}
+
+// The needs of a box: those from the first up to its own place.
+fn push_needs(alloc: Global, line: &mut String, first: u32, place: u32) -> Result<()> {
+    line.push_str("\"depends_on\":[")?;
+    for need in first..place {
+        if first < need {
+            line.push_str(",")?;
+        }
+        line.push_str(format!(in alloc; "\"r{need:04}\"")?.as_str())?;
+    }
+    line.push_str("]}")?;
+    Ok(())
+}
+
+fn first_need(shape: Shape, count: u32, place: u32) -> u32 {
+    match shape {
+        Shape::Chain => place.saturating_sub(1),
+        Shape::Fan => {
+            if place.saturating_add(1) < count {
+                place
+            } else {
+                0
+            }
+        }
+    }
+}

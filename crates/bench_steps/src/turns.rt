@@ -1,0 +1,113 @@
+//! The next step of an engine, as the book chooses it, with its request answered at once.
+ghost use Rattle.mail_table.specs.declared.mail.Stage.TheVariants.{Asking, Polling, Taken};
+ghost use Rattle.step_relation.specs.Nexts.{Works};
+ghost use Rattle.check_steps.specs.AtUpdate.{AtUpdate};
+ghost use Rattle.step_ends.specs.Answers.{AnswersPoll, IsCall};
+
+use crate::answers::{ask_answer, poll_answer};
+use check_steps::{finish, prepare_now, take};
+use core_state::{Job, Made, Row, Stage, State};
+use heat_plan::{Answered, EngineNo, Refusal};
+use std::alloc::Global;
+use step_ends::{asked, begin_overrun, polled};
+use step_reads::{Task, freshness, next_of, point_of};
+use takeover_steps::takeover;
+use traversal_graph::Node;
+
+/// The engine's next step; none where it is idle.
+pub fn turn(alloc: Global, s: &State, e: EngineNo) -> Result<Option<Made>, Refusal> {
+    match next_of(s, e) {
+        Task::Lost | Task::Idle => Ok(None),
+        Task::Take(letter) => Ok(Some(take(alloc, s, e, letter)?)),
+        Task::TakeOver(job) => Ok(Some(takeover(alloc, s, e, job)?)),
+        Task::Work(job) => match job.stage {
+            Stage::Taken => begin(alloc, s, e, job),
+            Stage::Asking => ask(alloc, s, e, job),
+            Stage::Polling => poll(alloc, s, e, job),
+            Stage::Ending => Ok(Some(finish(alloc, s, e, job)?)),
+        },
+    }
+}
+
+// The begin of a job, by its node.
+fn begin(alloc: Global, s: &State, e: EngineNo, job: &Job) -> Result<Option<Made>, Refusal>
+    requires { Works s.now.state e job.now Taken }
+{
+    match freshness(s, job) {
+        None => Ok(Some(begin_overrun(alloc, s, e, job)?)),
+        Some(fresh) => match fresh.node {
+            Node::C(_) => Ok(Some(cleanup_steps::begin(alloc, s, e, job)?)),
+            Node::U(_, _) => match point_of(fresh.graph, job.letter.node) {
+                Some(_) => Ok(Some(begin_update(alloc, s, e, job)?)),
+                None => Ok(None),
+            },
+        },
+    }
+}
+
+// The begin at an update node.
+fn begin_update(alloc: Global, s: &State, e: EngineNo, job: &Job) -> Result<Made, Refusal>
+    requires { AtUpdate s.now.state e job.now }
+{
+    let prepared = prepare_now(alloc, s, e, job);
+    check_steps::begin(alloc, s, e, job, &prepared)
+}
+
+// What follows from the answer to an ask.
+fn ask(alloc: Global, s: &State, e: EngineNo, job: &Job) -> Result<Option<Made>, Refusal>
+    requires { Works s.now.state e job.now Asking }
+{
+    match s.row(&job.row) {
+        Some(row) => ask_for(alloc, s, e, job, row),
+        None => Ok(None),
+    }
+}
+
+// The same of the job's row.
+fn ask_for(
+    alloc: Global,
+    s: &State,
+    e: EngineNo,
+    _job: &Job,
+    row: &Row,
+) -> Result<Option<Made>, Refusal>
+    requires { IsCall s.now.state e Asking _job.now row.now }
+{
+    match ask_answer(row.act) {
+        Some(answer) => Ok(Some(asked(alloc, s, e, &answer)?)),
+        None => Ok(None),
+    }
+}
+
+// What follows from the answer to a poll.
+fn poll(alloc: Global, s: &State, e: EngineNo, job: &Job) -> Result<Option<Made>, Refusal>
+    requires { Works s.now.state e job.now Polling }
+{
+    match s.row(&job.row) {
+        Some(row) => Ok(Some(poll_for(alloc, s, e, job, row)?)),
+        None => Ok(None),
+    }
+}
+
+// The same of the job's row.
+fn poll_for(alloc: Global, s: &State, e: EngineNo, job: &Job, row: &Row) -> Result<Made, Refusal>
+    requires { IsCall s.now.state e Polling job.now row.now }
+{
+    let answer = poll_answer(alloc, row)?;
+    poll_with(alloc, s, e, job, row, &answer)
+}
+
+// The same with the answer.
+fn poll_with(
+    alloc: Global,
+    s: &State,
+    e: EngineNo,
+    _job: &Job,
+    _row: &Row,
+    answer: &Answered,
+) -> Result<Made, Refusal>
+    requires call { IsCall s.now.state e Polling _job.now _row.now }
+    requires answer { AnswersPoll _row.now.act answer.now }
+{
+    polled(alloc, s, e, answer)
+}
