@@ -43,7 +43,7 @@ impl Holdings {
         self.all
             .as_slice()
             .iter()
-            .position(|held| held.what.token == *token)
+            .position(|held| held.what.token.row == token.row && held.what.token == *token)
     }
 
     /// The resource at this place.
