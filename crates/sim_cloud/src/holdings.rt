@@ -40,10 +40,8 @@ impl Holdings {
     pub fn place_of(&self, token: &Token) -> Option<usize>
         ensures { result ≡ place_of self.now.all token.now }
     {
-        self.all
-            .as_slice()
-            .iter()
-            .position(|held| held.what.token.row == token.row && held.what.token == *token)
+        self.all.as_slice().iter().position(|held| held.what.token.row == token.row
+            && held.what.token == *token)
     }
 
     /// The resource at this place.
