@@ -14,7 +14,7 @@ use Rattle.journal_form.specs.Forms.{journal_mark, spelled}
 use Rattle.journal_form.specs.Images.{ImageData, HasHeader, IsPlain, Gives, live, IsImage}
 use Rattle.row_journal.specs.declared.looking.Ending.TheVariants.{Short}
 use Rattle.row_journal.specs.declared.place.Place.{Place}
-use Rattle.row_journal.specs.Ends.{end_of, IsTidy, Leaves}
+use Rattle.row_journal.specs.Ends.{end_of, IsSealed, LeavesSealed}
 use Rattle.row_journal.specs.Mends.{IsSettled, HasMended, Mended}
 use Rattle.row_journal.specs.Places.{place_of}
 use Rattle.row_journal.specs.Ready.{IsReady}
@@ -71,8 +71,8 @@ module _ (halves : Pair) (image : ImageData) (is_image : IsImage halves image) (
       let all = all_of now few other in
       record { headers = is_image.headers; first = all.1; second = all.2; gives = all.3 }
 
-  pub short_leaves : (now : Pair) → length now.0 ≤ 9 → now.1 ≡ halves.1 → Leaves image now
-  short_leaves now few other = record { is_image = short_image now few other; tidy = IsTidy.short first few }
+  pub short_leaves : (now : Pair) → length now.0 ≤ 9 → now.1 ≡ halves.1 → LeavesSealed image now
+  short_leaves now few other = record { is_image = short_image now few other; sealed = IsSealed.short first few }
 
   pub is_fresh : IsFresh image
   is_fresh = (all_of halves few_first refl).0

@@ -1,5 +1,5 @@
 -- A recovery, once the image is known: the syncs, and the closed gate that is written.
-use Rattle.std.proofs.Common.{◌≡◌, ◌≢◌, ℕ, ◌+◌, ◌<◌, ◌≤◌, ⊎_elim, Bool, true, false, if◌then◌else◌, nat_lt, append_assoc, List, [], ◌∷◌, ◌++◌, length, get_or, take, drop, Option, Some, None, Result, OnOk, refl, sym, ◌∙◌, ap, subst, arith, length-append}
+use Rattle.std.proofs.Common.{◌≡◌, ◌≢◌, ℕ, ◌+◌, ◌<◌, ◌≤◌, Bool, true, false, if◌then◌else◌, nat_lt, append_assoc, List, [], ◌∷◌, ◌++◌, length, get_or, take, drop, Option, Some, None, Result, OnOk, refl, sym, ◌∙◌, ap, subst, arith, length-append}
 use Rattle.std.proofs.lemmas.List.{length-take-le, length-take}
 use Rattle.heat_disk.specs.declared.half.Half.{Half}
 use Rattle.heat_disk.specs.declared.half.Half.TheVariants.{First, Second}
@@ -15,7 +15,7 @@ use Rattle.journal_form.specs.Images.{ImageData, IsPlain, Gives, live, IsImage}
 use Rattle.row_journal.specs.declared.place.Place.{Place}
 use Rattle.row_journal.specs.Places.{place_of}
 use Rattle.row_journal.specs.declared.looking.Ending.TheVariants.{Open}
-use Rattle.row_journal.specs.Ends.{end_of, behind, HasNext, IsTidy, Leaves}
+use Rattle.row_journal.specs.Ends.{end_of, behind, HasNext, IsTidy, LeavesAjar, LeavesEither}
 use Rattle.row_journal.specs.Mends.{other, IsSettled, HasMended, Mended}
 use Rattle.row_journal.specs.Ready.{IsReady}
 use Rattle.row_journal.proofs.Cuts.{torn_at, no_shorter}
@@ -84,14 +84,18 @@ module _ (place : Place) (image : ImageData) (is : place ≡ place_of image) (ol
         gate = has.parts ∙ ap (λ (g : ℕ). g ∷ body image.version (length image.payloads + 1) payload ++ 0 ∷ has.rest) zero;
       })
 
+      mended_so : (c : Pair) → LeavesEither image payload c → Mended image old.seen c
+      mended_so c (LeavesEither.without left) = Mended.same left
+      mended_so c (LeavesEither.ajar left) = Mended.ajar gate payload shut_before has left
+      mended_so c (LeavesEither.added left) = Mended.grown gate payload shut_before has left
+
       mended : (c : Pair) → first.may_leave c → Mended image old.seen c
       mended c now =
           let from = writes.crash c now in
           let was = settled.durable from.0 from.1 in
           let torn : Torn (end_of image) 1 bytes (part image.half c) = subst (λ (d : Pair). Torn (end_of image) 1 (part image.half d) (part image.half c)) was from.2.0 in
           let tail = body image.version (length image.payloads + 1) payload ++ 0 ∷ has.rest in
-          ⊎_elim (λ same. Mended.same same) (λ more. Mended.grown gate payload shut_before has more)
-          (leaves_either old.seen image settled.is_image marked payload has.sized has.rest c (get_or (part image.half c) (end_of image) 0) (record {
+          mended_so c (leaves_either old.seen image settled.is_image marked payload has.sized has.rest c (get_or (part image.half c) (end_of image) 0) (record {
             other = from.2.1 ∙ ap (beside image.half) was;
             parts = torn_at (end_of image) bytes gate tail has.parts (part image.half c) torn;
             no_shorter = torn.no_shorter;
@@ -99,7 +103,7 @@ module _ (place : Place) (image : ImageData) (is : place ≡ place_of image) (ol
 
       at_old : SoFar old old (Mended image old.seen)
       at_old = begins old (Mended image old.seen) law
-          (λ c now. Mended.same (subst (Leaves image) (sym (settled.durable c now)) (record { is_image = settled.is_image; tidy = IsTidy.whole gate payload has })))
+          (λ c now. Mended.ajar gate payload shut_before has (subst (LeavesAjar image payload) (sym (settled.durable c now)) (record { is_image = settled.is_image; gate = gate; next = has })))
 
       pub at_first : SoFar old first (Mended image old.seen)
       at_first = next old old first (Mended image old.seen) at_old writes.time mended

@@ -29,7 +29,7 @@ module _ (image : ImageData) (payload : List ℕ) (sized : IsSized payload) (sma
     (half : Half) (here : half ≡ other image.half) (epoch : ℕ) (next_is : epoch ≡ image.epoch + 1) (old : ShownDisk) (ready : IsReady image old) where
   pub shut_leaves : (new : ShownDisk) → LeavesOnly old new (IsUnopened half old.seen) → LeavesOnly old new (LeavesSnapshot image payload)
   shut_leaves new = weaker old new (IsUnopened half old.seen) (LeavesSnapshot image payload)
-      (λ c un. inl (unopened_leaves image old ready c (subst (λ (h : Half). IsUnopened h old.seen c) here un)))
+      (λ c un. LeavesSnapshot.before (unopened_leaves image old ready c (subst (λ (h : Half). IsUnopened h old.seen c) here un)))
 
   module _ (mid : ShownDisk) (law : IsLawful mid) (first : LeavesOnly old mid (IsUnopened half old.seen)) (shut : HasShut half mid) where
     mid_ready : IsReady image mid
@@ -38,7 +38,7 @@ module _ (image : ImageData) (payload : List ℕ) (sized : IsSized payload) (sma
 
     pub fill_leaves : (new : ShownDisk) → LeavesOnly mid new (IsUnopened half mid.seen) → LeavesOnly old new (LeavesSnapshot image payload)
     fill_leaves new leaves = joined old mid new (LeavesSnapshot image payload) (IsUnopened half mid.seen) (shut_leaves mid first) leaves
-        (λ c un. inl (unopened_leaves image mid mid_ready c (subst (λ (h : Half). IsUnopened h mid.seen c) here un)))
+        (λ c un. LeavesSnapshot.before (unopened_leaves image mid mid_ready c (subst (λ (h : Half). IsUnopened h mid.seen c) here un)))
 
     module _ (staged : ShownDisk) (second : LeavesOnly mid staged (IsUnopened half mid.seen)) where
       pub open_leaves : (new : ShownDisk) → LeavesOnly staged new (IsStagedSomehow half epoch r mid.seen) → LeavesOnly old new (LeavesSnapshot image payload)
