@@ -5,7 +5,7 @@ use Rattle.heat_disk.specs.declared.half.Half.{Half}
 use Rattle.heat_disk.specs.declared.half.Half.TheVariants.{First, Second}
 use Rattle.heat_disk.specs.declared.disk.DiskFailed.{DiskFailed}
 use Rattle.heat_disk.specs.Halves.{Pair, part, beside, changed}
-use Rattle.heat_disk.specs.Images.{overwritten, Torn, Only}
+use Rattle.heat_disk.specs.Images.{overwritten, Torn, StepsAt, Only}
 use Rattle.heat_disk.specs.Shown.{ShownDisk, IsLawful}
 use Rattle.heat_disk.specs.Calls.{Writes, Syncs}
 use Rattle.heat_disk.proofs.Parts.{part-changed, beside-changed}
@@ -18,6 +18,7 @@ use Rattle.row_journal.specs.declared.looking.Ending.TheVariants.{Open}
 use Rattle.row_journal.specs.Ends.{end_of, behind, HasNext, IsTidy, LeavesAjar, LeavesEither}
 use Rattle.row_journal.specs.Mends.{other, IsSettled, HasMended, Mended}
 use Rattle.row_journal.specs.Ready.{IsReady}
+use Rattle.row_journal.specs.Unsynced.{IsLastUnsynced, gate_unsynced}
 use Rattle.row_journal.proofs.Cuts.{torn_at, no_shorter}
 use Rattle.row_journal.proofs.Laid.{gives_half, laid}
 use Rattle.row_journal.proofs.Records.{moved, on_ok}
@@ -108,13 +109,33 @@ module _ (place : Place) (image : ImageData) (is : place ≡ place_of image) (ol
       pub at_first : SoFar old first (Mended image old.seen)
       at_first = next old old first (Mended image old.seen) at_old writes.time mended
 
+      -- the gate's byte alone
+      stepped : (c : Pair) → first.may_leave c → StepsAt image.half (Torn (end_of image) 1) old.seen c
+      stepped c now =
+          let from = writes.crash c now in
+          subst (λ (d : Pair). StepsAt image.half (Torn (end_of image) 1) d c) (settled.durable from.0 from.1) from.2
+
+      later_unsynced : (last : ShownDisk) → ((c : Pair) → last.may_leave c → first.may_leave c) → IsLastUnsynced last
+      later_unsynced last fewer = gate_unsynced old.seen image gate payload settled.is_image has (λ c now. stepped c (fewer c now))
+
     -- only so it is tidy
     pub first_leaves : IsTidy old.seen image → SoFar old first (Mended image old.seen)
     first_leaves (IsTidy.short half few) = absurd (omega (arith, few, settled.ends.0 half, ap (λ (h : Half). length (part h old.seen)) half))
     first_leaves (IsTidy.closed closed) = absurd (settled.ends.1 closed)
     first_leaves (IsTidy.whole gate payload has) = at_first gate payload has
 
+    any_unsynced : (last : ShownDisk) → ((c : Pair) → last.may_leave c → first.may_leave c) → IsTidy old.seen image → IsLastUnsynced last
+    any_unsynced last fewer (IsTidy.short half few) = absurd (omega (arith, few, settled.ends.0 half, ap (λ (h : Half). length (part h old.seen)) half))
+    any_unsynced last fewer (IsTidy.closed closed) = absurd (settled.ends.1 closed)
+    any_unsynced last fewer (IsTidy.whole gate payload has) = later_unsynced gate payload has last fewer
+
+    pub first_unsynced : IsTidy old.seen image → IsLastUnsynced first
+    first_unsynced tidy = any_unsynced first (λ c now. now) tidy
+
     module _ (last : ShownDisk) (two : Result (Unit {0}) DiskFailed) (did_sync : Syncs place.half two first last) where
+      pub last_unsynced : IsTidy old.seen image → IsLastUnsynced last
+      last_unsynced tidy = any_unsynced last did_sync.alike.crash tidy
+
       syncs : Syncs image.half two first last
       syncs = moved (λ h n b. Syncs h two first last) place image is [] [] refl did_sync
 

@@ -30,6 +30,11 @@ abbrev pub SurvivesNamed : ShownDisk → ShownDisk → Type 0
 SurvivesNamed old new = (image : ImageData) → IsImage old.seen image → IsTidy old.seen image → IsLastUnsynced old
     → LeavesOnly old new (OpeningLeaves old image)
 
+-- then at most the writes of the last append, snapshot or opening are unsynced again
+abbrev pub StaysUnsynced : ShownDisk → ShownDisk → Type 0
+StaysUnsynced old new = (image : ImageData) → IsImage old.seen image → IsTidy old.seen image → IsLastUnsynced old
+    → IsLastUnsynced new
+
 -- there is no image, and nothing was written
 pub record IsForeign (old new : ShownDisk) : Type 0 where
   pub none : (image : ImageData) → ¬ IsImage old.seen image

@@ -7,7 +7,7 @@ ghost use Rattle.heat_value.specs.Counts.{Rose};
 ghost use Rattle.journal_form.specs.declared.version.Version.TheVariants.{Two};
 ghost use Rattle.journal_form.specs.Images.{ImageData, IsImage};
 ghost use Rattle.row_journal.specs.Mends.{other};
-ghost use Rattle.row_journal.specs.Openings.{HasOpened, Survives, SurvivesNamed, IsForeign, GoesOn};
+ghost use Rattle.row_journal.specs.Openings.{HasOpened, Survives, SurvivesNamed, StaysUnsynced, IsForeign, GoesOn};
 ghost use Rattle.row_journal.specs.Shown.{JournalData};
 ghost use Rattle.row_journal.specs.Snapshots.{HasSnapshotRoom, fresh_snapshot, LeavesSnapshot};
 ghost use Rattle.row_journal.specs.Ends.{with_next, LeavesEither};
@@ -68,7 +68,8 @@ impl<D: Disk> Journal<D> {
         ensures foreign { (d : D) → result ≡ Recovered.Foreign d → IsTrue (D.shown disk).tells →
             IsForeign (D.shown disk) (D.shown d) }
         ensures failed { (d : D) → result ≡ Recovered.DiskFault d → IsTrue (D.shown disk).tells →
-            Survives (D.shown disk) (D.shown d) × SurvivesNamed (D.shown disk) (D.shown d) }
+            Survives (D.shown disk) (D.shown d) × SurvivesNamed (D.shown disk) (D.shown d)
+            × StaysUnsynced (D.shown disk) (D.shown d) }
         ensures cause { (d : D) → result ≡ Recovered.DiskFault d →
             Rose (D.faults disk) (D.faults d) }
         ensures memory { (d : D) → result ≡ Recovered.Memory d → IsTrue (D.shown disk).tells →
@@ -270,6 +271,9 @@ impl<D: Disk> Journal<D> {
             self.old.place ≡ place_of image → IsReady image (D.shown self.old.disk) →
             LeavesOnly (D.shown self.old.disk) (D.shown self.new.disk)
             (LeavesSnapshot image bytes.now) }
+        ensures unsynced { IsTrue (D.shown self.old.disk).tells → (image : ImageData) →
+            self.old.place ≡ place_of image → IsReady image (D.shown self.old.disk) →
+            IsLastUnsynced (D.shown self.new.disk) }
         ensures taken { IsTrue (D.shown self.old.disk).tells → (image : ImageData) →
             self.old.place ≡ place_of image → IsReady image (D.shown self.old.disk) → OnOk result
             ((self.new.place ≡ place_of (fresh_snapshot image bytes.now))

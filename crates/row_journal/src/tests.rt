@@ -114,7 +114,7 @@ fn steps<D: Disk>(
 }
 
 // An opening, which finds what was told, and then the steps.
-fn session<D: Disk>(
+fn session<D: Disk + Drop>(
     rt: &(impl Abort + AllocGlobal),
     disk: D,
     script: &[u8],
@@ -138,7 +138,7 @@ fn session<D: Disk>(
 }
 
 // Two openings, each with its steps.
-fn sessions<D: Disk>(
+fn sessions<D: Disk + Drop>(
     rt: &(impl Abort + AllocGlobal),
     disk: D,
     scripts: [&[u8]; 2],

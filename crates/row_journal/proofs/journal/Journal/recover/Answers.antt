@@ -1,6 +1,6 @@
 use Rattle.std.proofs.Common.{◌≡◌, sym, ◌∙◌, subst, Vec, Global, false}
 use Rattle.journal_form.specs.declared.records.Payload.{Payload}
-use Rattle.row_journal.specs.Openings.{HasOpened, Survives, SurvivesNamed}
+use Rattle.row_journal.specs.Openings.{HasOpened, Survives, SurvivesNamed, StaysUnsynced}
 use Rattle.row_journal.specs.Shown.{JournalData}
 use Rattle.row_journal.proofs.Named.{named}
 use Rattle.row_journal.proofs.journal.Journal.recover.Goals as goal
@@ -10,8 +10,8 @@ returns-in-Err-Disk-clause-failed g c d same tells =
     let old = g.D.Disk.shown c.args.disk in
     let is_d : c.take_up.new.disk ≡ d = cc in
     let survives = c.take_up.ensures.any_moment tells in
-    subst (λ (e : g.row.D.Denot). Survives old (g.D.Disk.shown e) × SurvivesNamed old (g.D.Disk.shown e)) is_d
-    (survives, named old (g.D.Disk.shown c.take_up.new.disk) (g.met.D.Disk.lawful c.args.disk tells) survives)
+    subst (λ (e : g.row.D.Denot). Survives old (g.D.Disk.shown e) × SurvivesNamed old (g.D.Disk.shown e) × StaysUnsynced old (g.D.Disk.shown e)) is_d
+    (survives, named old (g.D.Disk.shown c.take_up.new.disk) (g.met.D.Disk.lawful c.args.disk tells) survives, c.take_up.ensures.unsynced tells)
 
 pub returns-in-Ok-clause-opened : goal.returns-in-Ok-clause-opened
 returns-in-Ok-clause-opened g c j v same tells =
