@@ -1,12 +1,12 @@
 //! A disk over two files of the system, as std gives them. It tells nothing of their content: that a
 //! file keeps what was synced is trusted here, and no clause says it.
-ghost use Rattle.std.specs.Prelude.{◌≡◌, ◌≤◌, length, IsTrue, IfOk, OnOk, OnErr, IsErr};
+ghost use Rattle.std.specs.Prelude.{◌≡◌, ◌≤◌, length, IsTrue, IfOk, OnOk, OnErr, IsOk, IsErr};
 ghost use Rattle.heat_disk.specs.Halves.{part, beside};
 ghost use Rattle.heat_disk.specs.Shown.{HasRoom, IsLeft, IsAtLeast, Spends, SameContent};
 ghost use Rattle.heat_disk.specs.Calls.{Measures, Reads, Writes, Cuts, Syncs};
 ghost use Rattle.heat_disk.specs.Causes.{HasCause};
 ghost use Rattle.heat_disk.specs.Memory.{no_room};
-ghost use Rattle.heat_disk.specs.Files.{files_of, files_shown, file_faults, IsLost, Reaches};
+ghost use Rattle.heat_disk.specs.Files.{files_of, files_shown, file_faults, Reaches, SyncsFile, Widens};
 
 use crate::disk::{Disk, DiskFailed};
 use crate::half::Half;
@@ -163,8 +163,7 @@ impl Disk for FileDisk {
 
     fn sync(&mut self, half: Half) -> Result<(), DiskFailed>
         requires room { HasRoom (part half (files_shown self.old).room) 0 0 }
-        ensures reaches { Reaches half result self.old self.new }
-        ensures lost { IsErr result → IsLost half self.new }
+        ensures reaches { SyncsFile half result self.old self.new }
         ensures content { IsTrue (files_shown self.old).tells →
             Syncs half result (files_shown self.old) (files_shown self.new) }
         ensures tells { (files_shown self.new).tells ≡ (files_shown self.old).tells }
@@ -178,7 +177,23 @@ impl Disk for FileDisk {
         note(&mut self.faults, outcome)
     }
 
-    fn room(&mut self, half: Half, end: u64, bytes: u64, calls: u64) -> Result<(), AllocError> {
+    /// It always succeeds, also on a half that is lost.
+    fn room(&mut self, half: Half, end: u64, bytes: u64, calls: u64) -> Result<(), AllocError>
+        ensures ok { IsOk result }
+        ensures exact { Widens half end bytes calls self.old self.new }
+        ensures made { OnOk result
+            (IsAtLeast end bytes calls (part half (files_shown self.new).room)) }
+        ensures kept { IsLeft 0 0 (part half (files_shown self.old).room)
+            (part half (files_shown self.new).room) }
+        ensures other { beside half (files_shown self.new).room
+            ≡ beside half (files_shown self.old).room }
+        ensures memory { OnErr result ((files_shown self.new).room
+            ≡ (files_shown self.old).room) }
+        ensures content { IsTrue (files_shown self.old).tells →
+            SameContent (files_shown self.old) (files_shown self.new) }
+        ensures tells { (files_shown self.new).tells ≡ (files_shown self.old).tells }
+        ensures faults { file_faults self.new ≡ file_faults self.old }
+    {
         match half {
             Half::First => self.first.widen(end, bytes, calls),
             Half::Second => self.second.widen(end, bytes, calls),

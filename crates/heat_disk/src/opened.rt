@@ -1,6 +1,6 @@
 //! One real file as a half of a disk: how it was come by, its calls, and that it is lost once a sync of
 //! it failed.
-ghost use Rattle.std.specs.Prelude.{◌≡◌, ◌≤◌, length, IfOk, IsErr};
+ghost use Rattle.std.specs.Prelude.{◌≡◌, ◌↔◌, ◌≤◌, length, IfOk, IsErr};
 ghost use Rattle.heat_disk.specs.Memory.{no_room, widened};
 ghost use Rattle.heat_disk.specs.Files.{room_of, IsLostFile};
 
@@ -84,7 +84,8 @@ impl Opened {
     }
 
     pub(crate) fn widen(&mut self, end: u64, bytes: u64, calls: u64)
-        ensures { room_of self.new ≡ widened end bytes calls (room_of self.old) }
+        ensures room { room_of self.new ≡ widened end bytes calls (room_of self.old) }
+        ensures lost { IsLostFile self.new ↔ IsLostFile self.old }
     {
         self.end = if self.end < end { end } else { self.end };
         self.bytes = if self.bytes < bytes {
@@ -137,7 +138,7 @@ impl Opened {
     pub(crate) fn sync(&mut self) -> io::Result<()>
         ensures room { room_of self.new ≡ room_of self.old }
         ensures fails { IsLostFile self.old → IsErr result }
-        ensures lost { IsErr result → IsLostFile self.new }
+        ensures lost { IsErr result ↔ IsLostFile self.new }
     {
         let outcome = self.sync_file();
         if outcome.is_err() {

@@ -2,10 +2,10 @@
 use crate::{Disk, DiskFailed, FileDisk, Fuse, Half, MemDisk};
 use heat_value::Text;
 use std::alloc::{AllocError, Global};
-use std::fs;
 use std::os::unix::fs::symlink;
 use std::process::Abort;
 use std::test::Fail;
+use std::{fs, io};
 
 // Makes one call, with just the room that it needs, and says whether it succeeded: `w1ab` writes `ab`
 // at 1, `c2` cuts to 2, `s` syncs, `l` and `r` ask for the length and read, all on First. `S` syncs
@@ -150,6 +150,16 @@ fn a_fuse_passes_so_many(rt: HostRuntime) -> Result<(), Fail> {
     Ok(())
 }
 
+// Takes away what an earlier run left at this path, and at the one with `.2` behind it.
+fn clears(rt: &HostRuntime, path: &str, second: &str) -> io::Result<()> {
+    for name in [path, second] {
+        if fs::exists(rt, name)? {
+            fs::remove_file(rt, name)?;
+        }
+    }
+    Ok(())
+}
+
 // The half is then these bytes and synced, if each call succeeds.
 fn puts(disk: &mut FileDisk, half: Half, bytes: &[u8]) -> Result<u8, AllocError> {
     let len = bytes.len() as u64;
@@ -169,6 +179,7 @@ fn puts(disk: &mut FileDisk, half: Half, bytes: &[u8]) -> Result<u8, AllocError>
 
 #[test]
 fn a_file_keeps_what_was_synced(rt: HostRuntime) -> Result<(), Fail> {
+    clears(&rt, "a_file_of_the_test", "a_file_of_the_test.2")?;
     let path = Text::from_str(rt.alloc(), "a_file_of_the_test")?;
     let mut disk = FileDisk::at(&rt, &path);
     assert_eq!(rt; puts(&mut disk, Half::First, b"abc")?, 3);
@@ -183,6 +194,7 @@ fn a_file_keeps_what_was_synced(rt: HostRuntime) -> Result<(), Fail> {
 
 #[test]
 fn second_lies_behind_the_path(rt: HostRuntime) -> Result<(), Fail> {
+    clears(&rt, "another_of_the_test", "another_of_the_test.2")?;
     let mut disk = FileDisk::at(&rt, &Text::from_str(rt.alloc(), "another_of_the_test")?);
     assert_eq!(rt; puts(&mut disk, Half::Second, b"d")?, 3);
     assert_eq!(rt;
@@ -215,6 +227,7 @@ fn four_calls(disk: &mut FileDisk) -> Result<[bool; 4], AllocError> {
 
 #[test]
 fn a_look_makes_nothing(rt: HostRuntime) -> Result<(), Fail> {
+    clears(&rt, "nothing_of_the_test", "nothing_of_the_test.2")?;
     let path = Text::from_str(rt.alloc(), "nothing_of_the_test")?;
     let mut disk = FileDisk::look_at(&rt, &path);
     assert_eq!(rt; four_calls(&mut disk)?, [true, true, false, false]);
@@ -227,6 +240,7 @@ fn a_look_makes_nothing(rt: HostRuntime) -> Result<(), Fail> {
 
 #[test]
 fn a_look_reads_what_is_there(rt: HostRuntime) -> Result<(), Fail> {
+    clears(&rt, "seen_of_the_test", "seen_of_the_test.2")?;
     fs::write(&rt, "seen_of_the_test", b"abc")?;
     let mut disk = FileDisk::look_at(&rt, &Text::from_str(rt.alloc(), "seen_of_the_test")?);
     let mut buf = [b'.'; 2];
@@ -241,9 +255,8 @@ fn a_look_reads_what_is_there(rt: HostRuntime) -> Result<(), Fail> {
 // The null device takes each write and refuses to be synced.
 #[test]
 fn a_sync_that_failed_is_the_last_call(rt: HostRuntime) -> Result<(), Fail> {
-    if !fs::exists(&rt, "null_of_the_test")? {
-        symlink(&rt, "/dev/null", "null_of_the_test")?;
-    }
+    clears(&rt, "null_of_the_test", "null_of_the_test.2")?;
+    symlink(&rt, "/dev/null", "null_of_the_test")?;
     let mut disk = FileDisk::at(&rt, &Text::from_str(rt.alloc(), "null_of_the_test")?);
     assert_eq!(rt; four_calls(&mut disk)?, [true, true, true, false]);
     assert_eq!(rt; four_calls(&mut disk)?, [false, true, false, false]);

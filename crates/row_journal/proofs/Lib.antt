@@ -3,10 +3,13 @@ pub mod Laid
 pub mod Torn
 pub mod Runs
 pub mod Records
+pub mod Gates
 pub mod Next
 pub mod Settled
 pub mod Restart
 pub mod Taken
+pub mod Tidy
+pub mod Named
 pub mod Shut
 pub mod Staged
 pub mod Sides

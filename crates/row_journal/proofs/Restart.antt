@@ -14,10 +14,11 @@ use Rattle.journal_form.specs.Forms.{journal_mark, spelled}
 use Rattle.journal_form.specs.Images.{ImageData, HasHeader, IsPlain, Gives, live, IsImage}
 use Rattle.row_journal.specs.declared.looking.Ending.TheVariants.{Short}
 use Rattle.row_journal.specs.declared.place.Place.{Place}
-use Rattle.row_journal.specs.Ends.{end_of, IsTidy, Leaves}
+use Rattle.row_journal.specs.Ends.{end_of, IsSealed, LeavesSealed}
 use Rattle.row_journal.specs.Mends.{IsSettled, HasMended, Mended}
 use Rattle.row_journal.specs.Places.{place_of}
 use Rattle.row_journal.specs.Ready.{IsReady}
+use Rattle.row_journal.specs.Unsynced.{IsLastUnsynced, start_unsynced}
 use Rattle.row_journal.proofs.Laid.{gives_half}
 use Rattle.row_journal.proofs.Records.{on_ok}
 use Rattle.row_journal.proofs.Runs.{SoFar, begins, next, synced, pair_same}
@@ -71,8 +72,8 @@ module _ (halves : Pair) (image : ImageData) (is_image : IsImage halves image) (
       let all = all_of now few other in
       record { headers = is_image.headers; first = all.1; second = all.2; gives = all.3 }
 
-  pub short_leaves : (now : Pair) → length now.0 ≤ 9 → now.1 ≡ halves.1 → Leaves image now
-  short_leaves now few other = record { is_image = short_image now few other; tidy = IsTidy.short first few }
+  pub short_leaves : (now : Pair) → length now.0 ≤ 9 → now.1 ≡ halves.1 → LeavesSealed image now
+  short_leaves now few other = record { is_image = short_image now few other; sealed = IsSealed.short first few }
 
   pub is_fresh : IsFresh image
   is_fresh = (all_of halves few_first refl).0
@@ -103,6 +104,9 @@ module _ (place : Place) (image : ImageData) (is : place ≡ place_of image) (ol
         let was = settled.durable from.0 from.1 in
         (omega (arith, few_old, ap length from.2.0.front, length-take (length c.0) from.0.0, ap (λ (p : Pair). length p.0) was), from.2.1 ∙ ap (λ (p : Pair). p.1) was)
 
+    pub cut_unsynced : IsLastUnsynced first
+    cut_unsynced = start_unsynced old.seen image settled.is_image settled.ends.0 few_old few_cut
+
     pub after_cut : SoFar old first (Mended image old.seen)
     after_cut = next old old first (Mended image old.seen) at_old cuts.time (λ c now. leaves c (few_cut c now).0 (few_cut c now).1)
 
@@ -116,12 +120,18 @@ module _ (place : Place) (image : ImageData) (is : place ≡ place_of image) (ol
           let was = few_cut from.0 from.1 in
           (omega (arith, was.0, from.2.0.no_longer), from.2.1 ∙ was.1)
 
+      pub write_unsynced : IsLastUnsynced second
+      write_unsynced = start_unsynced old.seen image settled.is_image settled.ends.0 few_old few_written
+
       pub after_write : SoFar old second (Mended image old.seen)
       after_write = next old first second (Mended image old.seen) after_cut writes.time (λ c now. leaves c (few_written c now).0 (few_written c now).1)
 
       module _ (last : ShownDisk) (three : Result (Unit {0}) DiskFailed) (did_sync : Syncs place.half three second last) where
         syncs : Syncs First three second last
         syncs = subst (λ (h : Half). Syncs h three second last) at_first did_sync
+
+        pub sync_unsynced : IsLastUnsynced last
+        sync_unsynced = start_unsynced old.seen image settled.is_image settled.ends.0 few_old (λ c now. few_written c (syncs.alike.crash c now))
 
         pub after_sync : SoFar old last (Mended image old.seen)
         after_sync = synced First three old second last (Mended image old.seen) after_write syncs

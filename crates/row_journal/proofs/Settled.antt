@@ -1,11 +1,11 @@
 -- A recovery, once the image is known: the syncs, and the closed gate that is written.
-use Rattle.std.proofs.Common.{◌≡◌, ◌≢◌, ℕ, ◌+◌, ◌<◌, ◌≤◌, ⊎_elim, Bool, true, false, if◌then◌else◌, nat_lt, append_assoc, List, [], ◌∷◌, ◌++◌, length, get_or, take, drop, Option, Some, None, Result, OnOk, refl, sym, ◌∙◌, ap, subst, arith, length-append}
+use Rattle.std.proofs.Common.{◌≡◌, ◌≢◌, ℕ, ◌+◌, ◌<◌, ◌≤◌, Bool, true, false, if◌then◌else◌, nat_lt, append_assoc, List, [], ◌∷◌, ◌++◌, length, get_or, take, drop, Option, Some, None, Result, OnOk, refl, sym, ◌∙◌, ap, subst, arith, length-append}
 use Rattle.std.proofs.lemmas.List.{length-take-le, length-take}
 use Rattle.heat_disk.specs.declared.half.Half.{Half}
 use Rattle.heat_disk.specs.declared.half.Half.TheVariants.{First, Second}
 use Rattle.heat_disk.specs.declared.disk.DiskFailed.{DiskFailed}
 use Rattle.heat_disk.specs.Halves.{Pair, part, beside, changed}
-use Rattle.heat_disk.specs.Images.{overwritten, Torn, Only}
+use Rattle.heat_disk.specs.Images.{overwritten, Torn, StepsAt, Only}
 use Rattle.heat_disk.specs.Shown.{ShownDisk, IsLawful}
 use Rattle.heat_disk.specs.Calls.{Writes, Syncs}
 use Rattle.heat_disk.proofs.Parts.{part-changed, beside-changed}
@@ -15,9 +15,10 @@ use Rattle.journal_form.specs.Images.{ImageData, IsPlain, Gives, live, IsImage}
 use Rattle.row_journal.specs.declared.place.Place.{Place}
 use Rattle.row_journal.specs.Places.{place_of}
 use Rattle.row_journal.specs.declared.looking.Ending.TheVariants.{Open}
-use Rattle.row_journal.specs.Ends.{end_of, behind, HasNext, IsTidy, Leaves}
+use Rattle.row_journal.specs.Ends.{end_of, behind, HasNext, IsTidy, LeavesAjar, LeavesEither}
 use Rattle.row_journal.specs.Mends.{other, IsSettled, HasMended, Mended}
 use Rattle.row_journal.specs.Ready.{IsReady}
+use Rattle.row_journal.specs.Unsynced.{IsLastUnsynced, gate_unsynced}
 use Rattle.row_journal.proofs.Cuts.{torn_at, no_shorter}
 use Rattle.row_journal.proofs.Laid.{gives_half, laid}
 use Rattle.row_journal.proofs.Records.{moved, on_ok}
@@ -84,14 +85,18 @@ module _ (place : Place) (image : ImageData) (is : place ≡ place_of image) (ol
         gate = has.parts ∙ ap (λ (g : ℕ). g ∷ body image.version (length image.payloads + 1) payload ++ 0 ∷ has.rest) zero;
       })
 
+      mended_so : (c : Pair) → LeavesEither image payload c → Mended image old.seen c
+      mended_so c (LeavesEither.without left) = Mended.same left
+      mended_so c (LeavesEither.ajar left) = Mended.ajar gate payload shut_before has left
+      mended_so c (LeavesEither.added left) = Mended.grown gate payload shut_before has left
+
       mended : (c : Pair) → first.may_leave c → Mended image old.seen c
       mended c now =
           let from = writes.crash c now in
           let was = settled.durable from.0 from.1 in
           let torn : Torn (end_of image) 1 bytes (part image.half c) = subst (λ (d : Pair). Torn (end_of image) 1 (part image.half d) (part image.half c)) was from.2.0 in
           let tail = body image.version (length image.payloads + 1) payload ++ 0 ∷ has.rest in
-          ⊎_elim (λ same. Mended.same same) (λ more. Mended.grown gate payload shut_before has more)
-          (leaves_either old.seen image settled.is_image marked payload has.sized has.rest c (get_or (part image.half c) (end_of image) 0) (record {
+          mended_so c (leaves_either old.seen image settled.is_image marked payload has.sized has.rest c (get_or (part image.half c) (end_of image) 0) (record {
             other = from.2.1 ∙ ap (beside image.half) was;
             parts = torn_at (end_of image) bytes gate tail has.parts (part image.half c) torn;
             no_shorter = torn.no_shorter;
@@ -99,10 +104,19 @@ module _ (place : Place) (image : ImageData) (is : place ≡ place_of image) (ol
 
       at_old : SoFar old old (Mended image old.seen)
       at_old = begins old (Mended image old.seen) law
-          (λ c now. Mended.same (subst (Leaves image) (sym (settled.durable c now)) (record { is_image = settled.is_image; tidy = IsTidy.whole gate payload has })))
+          (λ c now. Mended.ajar gate payload shut_before has (subst (LeavesAjar image payload) (sym (settled.durable c now)) (record { is_image = settled.is_image; gate = gate; next = has })))
 
       pub at_first : SoFar old first (Mended image old.seen)
       at_first = next old old first (Mended image old.seen) at_old writes.time mended
+
+      -- the gate's byte alone
+      stepped : (c : Pair) → first.may_leave c → StepsAt image.half (Torn (end_of image) 1) old.seen c
+      stepped c now =
+          let from = writes.crash c now in
+          subst (λ (d : Pair). StepsAt image.half (Torn (end_of image) 1) d c) (settled.durable from.0 from.1) from.2
+
+      later_unsynced : (last : ShownDisk) → ((c : Pair) → last.may_leave c → first.may_leave c) → IsLastUnsynced last
+      later_unsynced last fewer = gate_unsynced old.seen image gate payload settled.is_image has (λ c now. stepped c (fewer c now))
 
     -- only so it is tidy
     pub first_leaves : IsTidy old.seen image → SoFar old first (Mended image old.seen)
@@ -110,7 +124,18 @@ module _ (place : Place) (image : ImageData) (is : place ≡ place_of image) (ol
     first_leaves (IsTidy.closed closed) = absurd (settled.ends.1 closed)
     first_leaves (IsTidy.whole gate payload has) = at_first gate payload has
 
+    any_unsynced : (last : ShownDisk) → ((c : Pair) → last.may_leave c → first.may_leave c) → IsTidy old.seen image → IsLastUnsynced last
+    any_unsynced last fewer (IsTidy.short half few) = absurd (omega (arith, few, settled.ends.0 half, ap (λ (h : Half). length (part h old.seen)) half))
+    any_unsynced last fewer (IsTidy.closed closed) = absurd (settled.ends.1 closed)
+    any_unsynced last fewer (IsTidy.whole gate payload has) = later_unsynced gate payload has last fewer
+
+    pub first_unsynced : IsTidy old.seen image → IsLastUnsynced first
+    first_unsynced tidy = any_unsynced first (λ c now. now) tidy
+
     module _ (last : ShownDisk) (two : Result (Unit {0}) DiskFailed) (did_sync : Syncs place.half two first last) where
+      pub last_unsynced : IsTidy old.seen image → IsLastUnsynced last
+      last_unsynced tidy = any_unsynced last did_sync.alike.crash tidy
+
       syncs : Syncs image.half two first last
       syncs = moved (λ h n b. Syncs h two first last) place image is [] [] refl did_sync
 

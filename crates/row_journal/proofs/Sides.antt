@@ -12,7 +12,7 @@ use Rattle.journal_form.specs.declared.headers.Header.{Header}
 use Rattle.journal_form.specs.declared.version.Version.TheVariants.{Two}
 use Rattle.journal_form.specs.Forms.{number, body, spelled, IsSized, AreRecords}
 use Rattle.journal_form.specs.Images.{ImageData, IsBorn, HasHeader, Gives, live, IsImage}
-use Rattle.row_journal.specs.Ends.{end_of, behind, IsClosed, IsTidy, Leaves}
+use Rattle.row_journal.specs.Ends.{end_of, behind, IsClosed, IsSealed, LeavesSealed}
 use Rattle.row_journal.specs.Mends.{other}
 use Rattle.row_journal.specs.Ready.{IsReady}
 use Rattle.row_journal.specs.Snapshots.{IsUnopened, header_of, IsStaged, IsStagedSomehow, HasStaged, fresh_snapshot, LeavesSnapshot}
@@ -77,8 +77,8 @@ module _ (image : ImageData) (old : ShownDisk) (ready : IsReady image old) where
     closed_still : IsClosed (behind now image)
     closed_still = subst (λ (l : List ℕ). IsClosed (drop (end_of image) l)) (sym (live_same image.half old.seen now un.same)) ready.closed
 
-    pub unopened_leaves : Leaves image now
-    unopened_leaves = record { is_image = unopened_image old.seen now image ready.is_image un; tidy = IsTidy.closed closed_still }
+    pub unopened_leaves : LeavesSealed image now
+    unopened_leaves = record { is_image = unopened_image old.seen now image ready.is_image un; sealed = IsSealed.closed closed_still }
 
   pub ready_still : (new : ShownDisk) → IsUnopened (other image.half) old.seen new.seen → IsDurable new → IsReady image new
   ready_still new un durable = record {
@@ -171,8 +171,8 @@ module _ (image : ImageData) (base : ShownDisk) (ready : IsReady image base) (sm
   staged_leaves now it = ⊎_elim
       (λ (opened : it.gate ≡ 1).
       let staged = subst (λ (g : ℕ). IsStaged (other image.half) (image.epoch + 1) g r base.seen now) opened it.staged in
-      inr (record { is_image = snapshot_image now staged; tidy = IsTidy.closed (snapshot_closed now staged) }))
-      (λ (shut : it.gate ≡ 1 → ⊥). inl (unopened_leaves image base ready now (record {
+      LeavesSnapshot.turned (record { is_image = snapshot_image now staged; sealed = IsSealed.closed (snapshot_closed now staged) }))
+      (λ (shut : it.gate ≡ 1 → ⊥). LeavesSnapshot.before (unopened_leaves image base ready now (record {
         same = it.staged.same;
         header = inl (unborn_shut (part (other image.half) now) (λ opened. shut (sym (ap (λ (l : List ℕ). get_or l 16 0) it.staged.parts) ∙ opened)));
       })))

@@ -10,7 +10,9 @@ use Rattle.row_journal.specs.declared.looking.Found.{Found}
 use Rattle.row_journal.specs.Ends.{end_of}
 use Rattle.row_journal.specs.Found.{EndsBy, IsFound}
 use Rattle.row_journal.specs.Mends.{IsSettled, SettlesAt, Mended, Recovering}
+use Rattle.row_journal.specs.Openings.{StaysUnsynced}
 use Rattle.row_journal.specs.Places.{place_of}
+use Rattle.row_journal.specs.Unsynced.{IsLastUnsynced, all_synced, record_unsynced, gate_unsynced, start_unsynced, filling_unsynced, snapshot_unsynced}
 use Rattle.row_journal.proofs.Runs.{SoFar, begins, next}
 
 pub as_before : (old read roomed settled : ShownDisk) → ReadsAlike old read → SameContent read roomed → ReadsAlike roomed settled → settled.seen ≡ old.seen
@@ -56,3 +58,24 @@ pub given : (halves : Pair) (found : Found) (disk : ShownDisk) → IsFound halve
 given halves found disk it same durable image is_image =
     let one : it.image ≡ image = image_same halves it.image image it.is_image is_image in
     (it.place ∙ ap place_of one, subst (λ (i : ImageData). IsSettled i found.ending disk) one (still halves found disk it same durable))
+
+-- where a crash leaves no more, no more is unsynced
+fewer_unsynced : (old new : ShownDisk) → new.seen ≡ old.seen → ((c : Pair) → new.may_leave c → old.may_leave c) → IsLastUnsynced old → IsLastUnsynced new
+fewer_unsynced old new same fewer (all_synced durable) = all_synced (λ c now. durable c (fewer c now) ∙ sym same)
+fewer_unsynced old new same fewer (record_unsynced before image n rest each) = record_unsynced before image n rest (λ c now. each c (fewer c now))
+fewer_unsynced old new same fewer (gate_unsynced before image gate payload is next each) = gate_unsynced before image gate payload is next (λ c now. each c (fewer c now))
+fewer_unsynced old new same fewer (start_unsynced before image is first few each) = start_unsynced before image is first few (λ c now. each c (fewer c now))
+fewer_unsynced old new same fewer (filling_unsynced before image rest each) = filling_unsynced before image rest (λ c now. each c (fewer c now))
+fewer_unsynced old new same fewer (snapshot_unsynced before image payload rest sized small each) =
+    snapshot_unsynced before image payload rest sized small (λ c now. each c (fewer c now))
+
+pub read_unsynced : (old read : ShownDisk) → ReadsAlike old read → StaysUnsynced old read
+read_unsynced old read reads image is_image tidy last = fewer_unsynced old read reads.seen reads.crash last
+
+pub room_unsynced : (old read roomed : ShownDisk) → ReadsAlike old read → SameContent read roomed → StaysUnsynced old roomed
+room_unsynced old read roomed reads same image is_image tidy last =
+    fewer_unsynced old roomed (same.seen ∙ reads.seen) (λ c now. reads.crash c ((same.crash c).0 now)) last
+
+pub sync_unsynced : (old read roomed settled : ShownDisk) → ReadsAlike old read → SameContent read roomed → ReadsAlike roomed settled → StaysUnsynced old settled
+sync_unsynced old read roomed settled reads same syncs image is_image tidy last =
+    fewer_unsynced old settled (as_before old read roomed settled reads same syncs) (λ c now. reads.crash c ((same.crash c).0 (syncs.crash c now))) last

@@ -7,7 +7,7 @@ use Rattle.heat_disk.specs.Halves.{Pair, part, beside}
 use Rattle.journal_form.specs.Forms.{journal_mark, body, record_of, spelled, IsSized}
 use Rattle.journal_form.specs.Images.{ImageData, IsImage}
 use Rattle.journal_form.proofs.Spelled.{spelled-push}
-use Rattle.row_journal.specs.Ends.{end_of, behind, with_next, IsClosed, IsTidy, Leaves, LeavesEither}
+use Rattle.row_journal.specs.Ends.{end_of, behind, with_next, IsClosed, IsSealed, LeavesSealed, LeavesEither}
 use Rattle.row_journal.proofs.Cuts.{behind_more}
 use Rattle.row_journal.proofs.Laid.{laid, relaid}
 
@@ -50,10 +50,10 @@ module _ (halves : Pair) (image : ImageData) (is_image : IsImage halves image) (
       let whole : part image.half now ≡ front ++ (records ++ tail) = lies_so now tail new ∙ append_assoc front records tail in
       ap (take 8) whole ∙ take_at front (records ++ tail) 8 (long ∙ start) ∙ ap (λ (n : ℕ). take n (part image.half halves)) start ∙ marked start
 
-  pub leaves_closed : (now : Pair) (rest : List ℕ) → IsBehind halves now image (0 ∷ rest) → Leaves image now
+  pub leaves_closed : (now : Pair) (rest : List ℕ) → IsBehind halves now image (0 ∷ rest) → LeavesSealed image now
   leaves_closed now rest new = record {
     is_image = shut now 0 rest (omega arith) new;
-    tidy = IsTidy.closed (record { rest = rest; gate = tail_is now (0 ∷ rest) new });
+    sealed = IsSealed.closed (record { rest = rest; gate = tail_is now (0 ∷ rest) new });
   }
 
   module _ (payload : List ℕ) (sized : IsSized payload) (rest : List ℕ) where
@@ -91,15 +91,16 @@ module _ (halves : Pair) (image : ImageData) (is_image : IsImage halves image) (
     }
 
     -- behind 01 it counts
-    pub leaves_next : (now : Pair) → IsBehind halves now image (next_behind 1) → Leaves (with_next image payload) now
-    leaves_next now new = record { is_image = image_next now new; tidy = IsTidy.closed (closed_next now new) }
+    pub leaves_next : (now : Pair) → IsBehind halves now image (next_behind 1) → LeavesSealed (with_next image payload) now
+    leaves_next now new = record { is_image = image_next now new; sealed = IsSealed.closed (closed_next now new) }
 
     -- behind any gate it counts or it doesn't
     pub leaves_either : (now : Pair) (gate : ℕ) → IsBehind halves now image (next_behind gate) → LeavesEither image payload now
     leaves_either now gate new = elim (cases_eq gate 1) [
-      | inl is_open ↦ inr (leaves_next now (subst (λ (g : ℕ). IsBehind halves now image (next_behind g)) is_open new))
-      | inr is_shut ↦ inl (record {
+      | inl is_open ↦ LeavesEither.added (leaves_next now (subst (λ (g : ℕ). IsBehind halves now image (next_behind g)) is_open new))
+      | inr is_shut ↦ LeavesEither.ajar (record {
         is_image = shut now gate (body image.version (length image.payloads + 1) payload ++ 0 ∷ rest) is_shut new;
-        tidy = IsTidy.whole gate payload (record { rest = rest; parts = tail_is now (next_behind gate) new; sized = sized });
+        gate = gate;
+        next = record { rest = rest; parts = tail_is now (next_behind gate) new; sized = sized };
       })
     ]

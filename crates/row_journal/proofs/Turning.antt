@@ -10,6 +10,8 @@ use Rattle.journal_form.specs.Images.{ImageData}
 use Rattle.row_journal.specs.Mends.{other}
 use Rattle.row_journal.specs.Ready.{IsReady}
 use Rattle.row_journal.specs.Snapshots.{IsUnopened, HasShut, header_of, IsStagedSomehow, HasStaged, HasFilled, fresh_snapshot, LeavesSnapshot}
+use Rattle.row_journal.specs.Unsynced.{IsLastUnsynced, filling_unsynced, snapshot_unsynced}
+use Rattle.row_journal.proofs.Records.{rest_of}
 use Rattle.row_journal.proofs.Shut.{left_now}
 use Rattle.row_journal.proofs.Sides.{unopened_leaves, ready_still, staged_leaves, snapshot_ready}
 
@@ -29,7 +31,11 @@ module _ (image : ImageData) (payload : List ℕ) (sized : IsSized payload) (sma
     (half : Half) (here : half ≡ other image.half) (epoch : ℕ) (next_is : epoch ≡ image.epoch + 1) (old : ShownDisk) (ready : IsReady image old) where
   pub shut_leaves : (new : ShownDisk) → LeavesOnly old new (IsUnopened half old.seen) → LeavesOnly old new (LeavesSnapshot image payload)
   shut_leaves new = weaker old new (IsUnopened half old.seen) (LeavesSnapshot image payload)
-      (λ c un. inl (unopened_leaves image old ready c (subst (λ (h : Half). IsUnopened h old.seen c) here un)))
+      (λ c un. LeavesSnapshot.before (unopened_leaves image old ready c (subst (λ (h : Half). IsUnopened h old.seen c) here un)))
+
+  pub shut_unsynced : (new : ShownDisk) → IsLawful new → LeavesOnly old new (IsUnopened half old.seen) → IsLastUnsynced new
+  shut_unsynced new law leaves = filling_unsynced old.seen image (rest_of image old ready)
+      (λ c now. subst (λ (h : Half). IsUnopened h old.seen c) here (left_now old new (IsUnopened half old.seen) law leaves c now))
 
   module _ (mid : ShownDisk) (law : IsLawful mid) (first : LeavesOnly old mid (IsUnopened half old.seen)) (shut : HasShut half mid) where
     mid_ready : IsReady image mid
@@ -38,13 +44,23 @@ module _ (image : ImageData) (payload : List ℕ) (sized : IsSized payload) (sma
 
     pub fill_leaves : (new : ShownDisk) → LeavesOnly mid new (IsUnopened half mid.seen) → LeavesOnly old new (LeavesSnapshot image payload)
     fill_leaves new leaves = joined old mid new (LeavesSnapshot image payload) (IsUnopened half mid.seen) (shut_leaves mid first) leaves
-        (λ c un. inl (unopened_leaves image mid mid_ready c (subst (λ (h : Half). IsUnopened h mid.seen c) here un)))
+        (λ c un. LeavesSnapshot.before (unopened_leaves image mid mid_ready c (subst (λ (h : Half). IsUnopened h mid.seen c) here un)))
+
+    pub fill_unsynced : (new : ShownDisk) → IsLawful new → LeavesOnly mid new (IsUnopened half mid.seen) → IsLastUnsynced new
+    fill_unsynced new law_new leaves = filling_unsynced mid.seen image (rest_of image mid mid_ready)
+        (λ c now. subst (λ (h : Half). IsUnopened h mid.seen c) here (left_now mid new (IsUnopened half mid.seen) law_new leaves c now))
 
     module _ (staged : ShownDisk) (second : LeavesOnly mid staged (IsUnopened half mid.seen)) where
       pub open_leaves : (new : ShownDisk) → LeavesOnly staged new (IsStagedSomehow half epoch r mid.seen) → LeavesOnly old new (LeavesSnapshot image payload)
       open_leaves new leaves = joined old staged new (LeavesSnapshot image payload) (IsStagedSomehow half epoch r mid.seen) (fill_leaves staged second) leaves
           (λ c it. staged_leaves image mid mid_ready small payload sized r r_is c
           (subst (λ (e : ℕ). IsStagedSomehow (other image.half) e r mid.seen c) next_is (subst (λ (h : Half). IsStagedSomehow h epoch r mid.seen c) here it)))
+
+      pub open_unsynced : (new : ShownDisk) → IsLawful new → LeavesOnly staged new (IsStagedSomehow half epoch r mid.seen) → IsLastUnsynced new
+      open_unsynced new law_new leaves = snapshot_unsynced mid.seen image payload (rest_of image mid mid_ready) sized small
+          (λ c now. subst (λ (b : List ℕ). IsStagedSomehow (other image.half) (image.epoch + 1) b mid.seen c) r_is
+          (subst (λ (e : ℕ). IsStagedSomehow (other image.half) e r mid.seen c) next_is
+          (subst (λ (h : Half). IsStagedSomehow h epoch r mid.seen c) here (left_now staged new (IsStagedSomehow half epoch r mid.seen) law_new leaves c now))))
 
       pub open_ready : (new : ShownDisk) → HasStaged half epoch 1 r mid.seen new → IsReady (fresh_snapshot image payload) new
       open_ready new has = snapshot_ready image mid mid_ready small payload sized r r_is new

@@ -1,5 +1,5 @@
 -- Where an image ends, the image with one record more, and what a crash may leave of it.
-use Rattle.std.specs.Prelude.{◌≡◌, ◌⊎◌, ◌+◌, ◌≤◌, ℕ, List, [], ◌∷◌, ◌++◌, length, drop}
+use Rattle.std.specs.Prelude.{◌≡◌, ◌+◌, ◌≤◌, ℕ, List, [], ◌∷◌, ◌++◌, length, drop}
 use Rattle.heat_disk.specs.declared.half.Half.TheVariants.{First}
 use Rattle.heat_disk.specs.Halves.{Pair, part}
 use Rattle.journal_form.specs.Forms.{body, spelled, IsSized}
@@ -40,6 +40,26 @@ pub record Leaves (image : ImageData) (halves : Pair) : Type 0 where
   pub is_image : IsImage halves image
   pub tidy : IsTidy halves image
 
--- they have it with this record or without
-abbrev pub LeavesEither : ImageData → List ℕ → Pair → Type 0
-LeavesEither image payload halves = Leaves image halves ⊎ Leaves (with_next image payload) halves
+-- nothing stands behind the image that could come to count: First is live and has at most 9 bytes, or it ends at a gate
+-- byte 00
+pub data IsSealed (halves : Pair) (image : ImageData) : Type 0 where
+  short : image.half ≡ First → length halves.0 ≤ 9 → IsSealed halves image
+  closed : IsClosed (behind halves image) → IsSealed halves image
+
+-- these halves have the image, with nothing behind it that could come to count
+pub record LeavesSealed (image : ImageData) (halves : Pair) : Type 0 where
+  pub is_image : IsImage halves image
+  pub sealed : IsSealed halves image
+
+-- They have it, and what stands behind its gate, which isn't open, is this record, whole, and a byte 00. So if that gate
+-- came to be open, no other would count.
+pub record LeavesAjar (image : ImageData) (payload : List ℕ) (halves : Pair) : Type 0 where
+  pub is_image : IsImage halves image
+  pub gate : ℕ
+  pub next : HasNext image gate payload (behind halves image)
+
+-- the image without this record, with nothing behind it or with this record behind its gate; or the image with it
+pub data LeavesEither (image : ImageData) (payload : List ℕ) (halves : Pair) : Type 0 where
+  without : LeavesSealed image halves → LeavesEither image payload halves
+  ajar : LeavesAjar image payload halves → LeavesEither image payload halves
+  added : LeavesSealed (with_next image payload) halves → LeavesEither image payload halves

@@ -3,7 +3,8 @@ pub mod Places
 pub mod Found
 pub mod Mends
 pub mod Ready
-pub mod Openings
 pub mod Shown
 pub mod Snapshots
+pub mod Unsynced
+pub mod Openings
 pub mod Lives

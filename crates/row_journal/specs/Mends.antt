@@ -10,7 +10,7 @@ use Rattle.journal_form.specs.Forms.{journal_mark}
 use Rattle.journal_form.specs.Images.{ImageData, IsImage}
 use Rattle.row_journal.specs.declared.looking.Ending.{Ending}
 use Rattle.row_journal.specs.declared.place.Place.{Place}
-use Rattle.row_journal.specs.Ends.{end_of, behind, with_next, IsClosed, HasNext, Leaves}
+use Rattle.row_journal.specs.Ends.{end_of, behind, with_next, IsClosed, HasNext, LeavesSealed, LeavesAjar}
 use Rattle.row_journal.specs.Found.{EndsBy}
 use Rattle.row_journal.specs.Places.{place_of}
 
@@ -31,11 +31,14 @@ pub record SettlesAt (place : Place) (ending : Ending) (disk : ShownDisk) : Type
   pub numbers : place ≡ place_of image
   pub settled : IsSettled image ending disk
 
--- the image; or, where a gate other than 00 with a whole record behind it ended the image before, with that record
+-- The image; or, where a gate other than 00 with a whole record behind it ended the image before, the image with this
+-- record. Where another gate that isn't open ends it, that record and no other stands behind it still.
 pub data Mended (image : ImageData) (before halves : Pair) : Type 0 where
-  same : Leaves image halves → Mended image before halves
+  same : LeavesSealed image halves → Mended image before halves
+  ajar : (gate : ℕ) (payload : List ℕ) → gate ≢ 0 → HasNext image gate payload (behind before image)
+      → LeavesAjar image payload halves → Mended image before halves
   grown : (gate : ℕ) (payload : List ℕ) → gate ≢ 0 → HasNext image gate payload (behind before image)
-      → Leaves (with_next image payload) halves → Mended image before halves
+      → LeavesSealed (with_next image payload) halves → Mended image before halves
 
 -- Inside a recovery a crash leaves what it might have left before, or what the mending may leave.
 abbrev pub Recovering : ShownDisk → ImageData → Pair → Type 0

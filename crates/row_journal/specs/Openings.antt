@@ -8,6 +8,7 @@ use Rattle.row_journal.specs.Ends.{IsTidy}
 use Rattle.row_journal.specs.Mends.{HasMended, Recovering}
 use Rattle.row_journal.specs.Places.{place_of}
 use Rattle.row_journal.specs.Ready.{IsReady}
+use Rattle.row_journal.specs.Unsynced.{IsLastUnsynced, OpeningLeaves}
 
 -- The payloads are those of the image that the disk read as, the journal is ready to go on from there, and no byte has
 -- changed but by the closed gate that was lacking.
@@ -23,6 +24,16 @@ pub record HasOpened (old new : ShownDisk) (place : Place) (payloads : List (Lis
 abbrev pub Survives : ShownDisk → ShownDisk → Type 0
 Survives old new = (image : ImageData) → IsImage old.seen image → IsTidy old.seen image
     → LeavesOnly old new (Recovering old image)
+
+-- where besides at most the writes of the last append, snapshot or opening were unsynced, these are named
+abbrev pub SurvivesNamed : ShownDisk → ShownDisk → Type 0
+SurvivesNamed old new = (image : ImageData) → IsImage old.seen image → IsTidy old.seen image → IsLastUnsynced old
+    → LeavesOnly old new (OpeningLeaves old image)
+
+-- then at most the writes of the last append, snapshot or opening are unsynced again
+abbrev pub StaysUnsynced : ShownDisk → ShownDisk → Type 0
+StaysUnsynced old new = (image : ImageData) → IsImage old.seen image → IsTidy old.seen image → IsLastUnsynced old
+    → IsLastUnsynced new
 
 -- there is no image, and nothing was written
 pub record IsForeign (old new : ShownDisk) : Type 0 where

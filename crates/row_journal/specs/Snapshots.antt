@@ -8,7 +8,7 @@ use Rattle.journal_form.specs.declared.version.Version.TheVariants.{Two}
 use Rattle.journal_form.specs.Forms.{word, snapshot_mark}
 use Rattle.journal_form.specs.Images.{ImageData, HasHeader}
 use Rattle.row_journal.specs.declared.place.Place.{Place}
-use Rattle.row_journal.specs.Ends.{Leaves}
+use Rattle.row_journal.specs.Ends.{LeavesSealed}
 use Rattle.row_journal.specs.Mends.{other}
 
 -- The other half is live, in version 2 and the next epoch, and this is its one record.
@@ -21,9 +21,10 @@ fresh_snapshot image payload = record {
   payloads = payload ∷ [];
 }
 
--- these halves have the image from before the snapshot or the snapshot's, and are tidy
-abbrev pub LeavesSnapshot : ImageData → List ℕ → Pair → Type 0
-LeavesSnapshot image payload halves = Leaves image halves ⊎ Leaves (fresh_snapshot image payload) halves
+-- these halves have the image from before the snapshot or the snapshot's, with nothing behind it that could come to count
+pub data LeavesSnapshot (image : ImageData) (payload : List ℕ) (halves : Pair) : Type 0 where
+  before : LeavesSealed image halves → LeavesSnapshot image payload halves
+  turned : LeavesSealed (fresh_snapshot image payload) halves → LeavesSnapshot image payload halves
 
 -- this half isn't born, or has the header that it had; the other half is as before
 pub record IsUnopened (half : Half) (before halves : Pair) : Type 0 where

@@ -1,17 +1,19 @@
 //! The journal.
-ghost use Rattle.std.specs.Prelude.{◌≡◌, ◌⊎◌, ◌↔◌, ◌<◌, ◌≤◌, ◌-◌, ◌^◌, false, IsTrue, IsOk, OnOk, length};
+ghost use Rattle.std.specs.Prelude.{◌≡◌, ◌⊎◌, ◌↔◌, ◌<◌, ◌≤◌, ◌-◌, ◌^◌, false, IsTrue, IsOk, OnOk, OnErr, length};
 ghost use Rattle.heat_disk.specs.Shown.{SameContent, LeavesOnly};
 ghost use Rattle.heat_disk.specs.Calls.{ReadsAlike};
 ghost use Rattle.heat_disk.specs.Causes.{HasCause};
 ghost use Rattle.heat_value.specs.Counts.{Rose};
 ghost use Rattle.journal_form.specs.declared.version.Version.TheVariants.{Two};
 ghost use Rattle.journal_form.specs.Images.{ImageData, IsImage};
-ghost use Rattle.row_journal.specs.Openings.{HasOpened, Survives, IsForeign, GoesOn};
+ghost use Rattle.row_journal.specs.Mends.{other};
+ghost use Rattle.row_journal.specs.Openings.{HasOpened, Survives, SurvivesNamed, StaysUnsynced, IsForeign, GoesOn};
 ghost use Rattle.row_journal.specs.Shown.{JournalData};
 ghost use Rattle.row_journal.specs.Snapshots.{HasSnapshotRoom, fresh_snapshot, LeavesSnapshot};
 ghost use Rattle.row_journal.specs.Ends.{with_next, LeavesEither};
 ghost use Rattle.row_journal.specs.Places.{place_of, digit, IsLong};
-ghost use Rattle.row_journal.specs.Ready.{IsReady, StandsAt, HasReserved};
+ghost use Rattle.row_journal.specs.Ready.{IsReady, StandsAt, HasReserved, KeepsRoom};
+ghost use Rattle.row_journal.specs.Unsynced.{IsLastUnsynced};
 
 use crate::adding::add_record;
 use crate::buffer::Buffer;
@@ -61,11 +63,13 @@ impl<D: Disk> Journal<D> {
         ensures opened { (j : JournalData D) (v : _) → result ≡ Recovered.Opened j v →
             IsTrue (D.shown disk).tells →
             HasOpened (D.shown disk) (D.shown j.disk) j.place v.items
-            × Survives (D.shown disk) (D.shown j.disk) }
+            × Survives (D.shown disk) (D.shown j.disk)
+            × SurvivesNamed (D.shown disk) (D.shown j.disk) }
         ensures foreign { (d : D) → result ≡ Recovered.Foreign d → IsTrue (D.shown disk).tells →
             IsForeign (D.shown disk) (D.shown d) }
         ensures failed { (d : D) → result ≡ Recovered.DiskFault d → IsTrue (D.shown disk).tells →
-            Survives (D.shown disk) (D.shown d) }
+            Survives (D.shown disk) (D.shown d) × SurvivesNamed (D.shown disk) (D.shown d)
+            × StaysUnsynced (D.shown disk) (D.shown d) }
         ensures cause { (d : D) → result ≡ Recovered.DiskFault d →
             Rose (D.faults disk) (D.faults d) }
         ensures memory { (d : D) → result ≡ Recovered.Memory d → IsTrue (D.shown disk).tells →
@@ -169,6 +173,10 @@ impl<D: Disk> Journal<D> {
         ensures room { self.old.room ≤ self.new.room }
         ensures content { IsTrue (D.shown self.old.disk).tells →
             SameContent (D.shown self.old.disk) (D.shown self.new.disk) }
+        ensures kept { KeepsRoom self.old.place.half
+            (D.shown self.old.disk) (D.shown self.new.disk) }
+        ensures memory { OnErr result
+            ((D.shown self.new.disk).room ≡ (D.shown self.old.disk).room) }
         ensures tells { (D.shown self.new.disk).tells ≡ (D.shown self.old.disk).tells }
         ensures faults { D.faults self.new.disk ≡ D.faults self.old.disk }
     {
@@ -194,6 +202,9 @@ impl<D: Disk> Journal<D> {
             self.old.place ≡ place_of image → IsReady image (D.shown self.old.disk) →
             LeavesOnly (D.shown self.old.disk) (D.shown self.new.disk)
             (LeavesEither image bytes.now) }
+        ensures unsynced { IsTrue (D.shown self.old.disk).tells → (image : ImageData) →
+            self.old.place ≡ place_of image → IsReady image (D.shown self.old.disk) →
+            IsLastUnsynced (D.shown self.new.disk) }
         ensures acknowledged { IsTrue (D.shown self.old.disk).tells → (image : ImageData) →
             self.old.place ≡ place_of image → IsReady image (D.shown self.old.disk) → OnOk result
             ((self.new.place ≡ place_of (with_next image bytes.now))
@@ -231,6 +242,10 @@ impl<D: Disk> Journal<D> {
         ensures room { self.old.room ≤ self.new.room }
         ensures content { IsTrue (D.shown self.old.disk).tells →
             SameContent (D.shown self.old.disk) (D.shown self.new.disk) }
+        ensures kept { KeepsRoom (other self.old.place.half)
+            (D.shown self.old.disk) (D.shown self.new.disk) }
+        ensures memory { OnErr result
+            ((D.shown self.new.disk).room ≡ (D.shown self.old.disk).room) }
         ensures tells { (D.shown self.new.disk).tells ≡ (D.shown self.old.disk).tells }
         ensures faults { D.faults self.new.disk ≡ D.faults self.old.disk }
     {
@@ -256,6 +271,9 @@ impl<D: Disk> Journal<D> {
             self.old.place ≡ place_of image → IsReady image (D.shown self.old.disk) →
             LeavesOnly (D.shown self.old.disk) (D.shown self.new.disk)
             (LeavesSnapshot image bytes.now) }
+        ensures unsynced { IsTrue (D.shown self.old.disk).tells → (image : ImageData) →
+            self.old.place ≡ place_of image → IsReady image (D.shown self.old.disk) →
+            IsLastUnsynced (D.shown self.new.disk) }
         ensures taken { IsTrue (D.shown self.old.disk).tells → (image : ImageData) →
             self.old.place ≡ place_of image → IsReady image (D.shown self.old.disk) → OnOk result
             ((self.new.place ≡ place_of (fresh_snapshot image bytes.now))

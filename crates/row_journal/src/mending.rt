@@ -10,6 +10,7 @@ ghost use Rattle.row_journal.specs.Ends.{IsTidy};
 ghost use Rattle.row_journal.specs.Mends.{other, IsSettled, SettlesAt, HasMended, Mended};
 ghost use Rattle.row_journal.specs.Places.{place_of};
 ghost use Rattle.row_journal.specs.Ready.{IsReady};
+ghost use Rattle.row_journal.specs.Unsynced.{IsLastUnsynced};
 
 use crate::looking::Ending;
 use crate::place::Place;
@@ -53,6 +54,9 @@ pub(crate) fn mend<D: Disk>(disk: &mut D, place: Place, ending: Ending) -> Resul
         place ≡ place_of image → IsSettled image ending (D.shown disk.old) →
         IsTidy (D.shown disk.old).seen image →
         LeavesOnly (D.shown disk.old) (D.shown disk.new) (Mended image (D.shown disk.old).seen) }
+    ensures unsynced { IsTrue (D.shown disk.old).tells → (image : ImageData) →
+        place ≡ place_of image → IsSettled image ending (D.shown disk.old) →
+        IsTidy (D.shown disk.old).seen image → IsLastUnsynced (D.shown disk.new) }
     ensures ready { IsTrue (D.shown disk.old).tells → (image : ImageData) →
         place ≡ place_of image → IsSettled image ending (D.shown disk.old) →
         OnOk result (IsReady image (D.shown disk.new)) }
@@ -76,6 +80,9 @@ fn restart<D: Disk>(disk: &mut D, place: Place) -> Result<(), DiskFailed>
     ensures any_moment { IsTrue (D.shown disk.old).tells → (image : ImageData) →
         place ≡ place_of image → IsSettled image Ending.Short (D.shown disk.old) →
         LeavesOnly (D.shown disk.old) (D.shown disk.new) (Mended image (D.shown disk.old).seen) }
+    ensures unsynced { IsTrue (D.shown disk.old).tells → (image : ImageData) →
+        place ≡ place_of image → IsSettled image Ending.Short (D.shown disk.old) →
+        IsLastUnsynced (D.shown disk.new) }
     ensures ready { IsTrue (D.shown disk.old).tells → (image : ImageData) →
         place ≡ place_of image → IsSettled image Ending.Short (D.shown disk.old) →
         OnOk result (IsReady image (D.shown disk.new)) }
@@ -100,6 +107,9 @@ fn close<D: Disk>(disk: &mut D, place: Place) -> Result<(), DiskFailed>
         place ≡ place_of image → IsSettled image Ending.Open (D.shown disk.old) →
         IsTidy (D.shown disk.old).seen image →
         LeavesOnly (D.shown disk.old) (D.shown disk.new) (Mended image (D.shown disk.old).seen) }
+    ensures unsynced { IsTrue (D.shown disk.old).tells → (image : ImageData) →
+        place ≡ place_of image → IsSettled image Ending.Open (D.shown disk.old) →
+        IsTidy (D.shown disk.old).seen image → IsLastUnsynced (D.shown disk.new) }
     ensures ready { IsTrue (D.shown disk.old).tells → (image : ImageData) →
         place ≡ place_of image → IsSettled image Ending.Open (D.shown disk.old) →
         OnOk result (IsReady image (D.shown disk.new)) }

@@ -14,6 +14,7 @@ ghost use Rattle.row_journal.specs.Places.{place_of};
 ghost use Rattle.row_journal.specs.Ready.{IsReady, StandsAt};
 ghost use Rattle.row_journal.specs.Snapshots.{IsUnopened, IsShut, header_of, IsStaged, IsStagedSomehow};
 ghost use Rattle.row_journal.specs.Snapshots.{HasShut, HasStaged, HasFilled, fresh_snapshot, LeavesSnapshot};
+ghost use Rattle.row_journal.specs.Unsynced.{IsLastUnsynced};
 
 use crate::mending::other;
 use crate::place::Place;
@@ -35,6 +36,9 @@ pub(crate) fn write_snapshot<D: Disk>(
         place ≡ place_of image → IsReady image (D.shown disk.old) → IsSized payload →
         record_bytes.now ≡ body Two 1 payload ++ 0 ∷ [] →
         LeavesOnly (D.shown disk.old) (D.shown disk.new) (LeavesSnapshot image payload) }
+    ensures unsynced { IsTrue (D.shown disk.old).tells → (image : ImageData) (payload : List ℕ) →
+        place ≡ place_of image → IsReady image (D.shown disk.old) → IsSized payload →
+        record_bytes.now ≡ body Two 1 payload ++ 0 ∷ [] → IsLastUnsynced (D.shown disk.new) }
     ensures ready { IsTrue (D.shown disk.old).tells → (image : ImageData) (payload : List ℕ) →
         place ≡ place_of image → IsReady image (D.shown disk.old) → IsSized payload →
         record_bytes.now ≡ body Two 1 payload ++ 0 ∷ [] →

@@ -7,7 +7,7 @@ ghost use Rattle.heat_disk.specs.Halves.{part};
 ghost use Rattle.heat_disk.specs.Shown.{HasRoom, IsAtLeast, SameContent};
 ghost use Rattle.journal_form.specs.Images.{ImageData, IsImage};
 ghost use Rattle.row_journal.specs.Mends.{other};
-ghost use Rattle.row_journal.specs.Openings.{HasOpened, Survives};
+ghost use Rattle.row_journal.specs.Openings.{HasOpened, Survives, StaysUnsynced};
 
 use crate::fault::ReadFault;
 use crate::looking::Found;
@@ -26,6 +26,8 @@ pub(crate) fn take_up<D: Disk>(alloc: Global, disk: &mut D) -> Result<Found, Rea
 
     ensures any_moment { IsTrue (D.shown disk.old).tells →
         Survives (D.shown disk.old) (D.shown disk.new) }
+    ensures unsynced { IsTrue (D.shown disk.old).tells →
+        StaysUnsynced (D.shown disk.old) (D.shown disk.new) }
     ensures untouched { IsTrue (D.shown disk.old).tells → IsErrOf result ReadFault.Foreign →
         ReadsAlike (D.shown disk.old) (D.shown disk.new) }
     ensures kept { IsTrue (D.shown disk.old).tells → IsErrOf result ReadFault.Memory →

@@ -2,4 +2,4 @@ use Rattle.row_journal.proofs.Lives.{survived}
 use Rattle.row_journal.proofs.laws.journals_survive.Goals as goal
 
 pub returns : goal.returns
-returns g c tells first image disk life = survived g.D.Disk.shown (λ d. g.met.D.Disk.lawful d (tells d)) first image disk life
+returns g c tells first k disk life = survived g.D.Disk.shown (λ d. g.met.D.Disk.lawful d (tells d)) first k disk life

@@ -12,11 +12,25 @@ returns-in_err-add_record-clause-any_moment g c =
     rw (← c.self.view_is) (λ tells image is ready. c.add_record.ensures.any_moment tells image c.args.bytes.now is ready small
     (c.as_slice.ensures ∙ c.fill.ensures.bytes ∙ ap (λ (l : List ℕ). l ++ 0 ∷ []) (body_at c.self.inside.place image c.args.bytes.now is two)))
 
+pub returns-in_err-add_record-clause-unsynced : goal.returns-in_err-add_record-clause-unsynced
+returns-in_err-add_record-clause-unsynced g c =
+    let two = rw (← c.self.view_is) at c.requires.version in
+    let small : IsSized c.args.bytes.now = omega (arith, c.requires.reserved.end) in
+    rw (← c.self.view_is) (λ tells image is ready. c.add_record.ensures.unsynced tells image c.args.bytes.now is ready small
+    (c.as_slice.ensures ∙ c.fill.ensures.bytes ∙ ap (λ (l : List ℕ). l ++ 0 ∷ []) (body_at c.self.inside.place image c.args.bytes.now is two)))
+
 pub returns-clause-any_moment : goal.returns-clause-any_moment
 returns-clause-any_moment g c =
     let two = rw (← c.self.view_is) at c.requires.version in
     let small : IsSized c.args.bytes.now = omega (arith, c.requires.reserved.end) in
     rw (← c.self.view_is) (λ tells image is ready. c.add_record.ensures.any_moment tells image c.args.bytes.now is ready small
+    (c.as_slice.ensures ∙ c.fill.ensures.bytes ∙ ap (λ (l : List ℕ). l ++ 0 ∷ []) (body_at c.self.inside.place image c.args.bytes.now is two)))
+
+pub returns-clause-unsynced : goal.returns-clause-unsynced
+returns-clause-unsynced g c =
+    let two = rw (← c.self.view_is) at c.requires.version in
+    let small : IsSized c.args.bytes.now = omega (arith, c.requires.reserved.end) in
+    rw (← c.self.view_is) (λ tells image is ready. c.add_record.ensures.unsynced tells image c.args.bytes.now is ready small
     (c.as_slice.ensures ∙ c.fill.ensures.bytes ∙ ap (λ (l : List ℕ). l ++ 0 ∷ []) (body_at c.self.inside.place image c.args.bytes.now is two)))
 
 pub invariant_of-self-2 : goal.invariant_of-self-2

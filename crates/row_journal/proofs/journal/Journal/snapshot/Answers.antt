@@ -13,6 +13,16 @@ returns-clause-any_moment g c =
     let small : IsSized c.args.bytes.now = omega (arith, c.requires.reserved.small) in
     rw (← c.self.view_is) (λ tells image is ready. c.write_snapshot.ensures.any_moment tells image c.args.bytes.now is ready small (c.as_slice.ensures ∙ c.fill.ensures.bytes))
 
+pub returns-in_err-write_snapshot-clause-unsynced : goal.returns-in_err-write_snapshot-clause-unsynced
+returns-in_err-write_snapshot-clause-unsynced g c =
+    let small : IsSized c.args.bytes.now = omega (arith, c.requires.reserved.small) in
+    rw (← c.self.view_is) (λ tells image is ready. c.write_snapshot.ensures.unsynced tells image c.args.bytes.now is ready small (c.as_slice.ensures ∙ c.fill.ensures.bytes))
+
+pub returns-clause-unsynced : goal.returns-clause-unsynced
+returns-clause-unsynced g c =
+    let small : IsSized c.args.bytes.now = omega (arith, c.requires.reserved.small) in
+    rw (← c.self.view_is) (λ tells image is ready. c.write_snapshot.ensures.unsynced tells image c.args.bytes.now is ready small (c.as_slice.ensures ∙ c.fill.ensures.bytes))
+
 pub returns-clause-taken : goal.returns-clause-taken
 returns-clause-taken g c =
     let small : IsSized c.args.bytes.now = omega (arith, c.requires.reserved.small) in
