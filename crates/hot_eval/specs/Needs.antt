@@ -40,7 +40,11 @@ abbrev mutual
   references_under no_members = []
   references_under (member k d ms) = references_in d ++ references_under ms
 
+-- of the names that are given those that a resource may have
+abbrev pub AreResNamesOf : List (List ℕ) → List (List ℕ) → Type 0
+AreResNamesOf named names = (name : List ℕ) → Contains names name ↔ (Contains named name × IsResName name)
+
 -- what is needed where these names stand: those that a resource may have, in byte order, each once
 pub record AreNeeds (named : List (List ℕ)) (needs : List (List ℕ)) : Type 0 where
   pub rising : Rising needs
-  pub each : (name : List ℕ) → Contains needs name ↔ (Contains named name × IsResName name)
+  pub each : AreResNamesOf named needs

@@ -1,7 +1,8 @@
 //! The resources that a value, or a map of properties, names.
-ghost use Rattle.std.specs.Prelude.{◌≡◌, ◌++◌, IfOk, OnOk, map, option_map};
+ghost use Rattle.std.specs.Prelude.{◌≡◌, ◌++◌, ◌∷◌, [], List, ℕ, IfOk, OnOk, map, option_map};
+ghost use Rattle.heat_plan.specs.Order.{Rising};
 ghost use Rattle.heat_value.specs.Meaning.{data_of, nodes_of, members_of};
-ghost use Rattle.hot_eval.specs.Needs.{AreNeeds, references_in, references_among, references_under};
+ghost use Rattle.hot_eval.specs.Needs.{AreNeeds, AreResNamesOf, references_in, references_among, references_under};
 ghost use Rattle.hot_eval.specs.Needs.{own_reference, referred as the_referred, first_text as the_first_text};
 
 use crate::sorts::{list_in, text_in};
@@ -47,6 +48,7 @@ fn add_in<'a>(value: &'a Value, named: &mut Vec<&'a Text>) -> Result<(), AllocEr
 }
 
 #[cycle(named)]
+#[tactic(auto, using(crate::proofs::Weights::for_walks))]
 fn add_among<'a>(values: &'a [Value], named: &mut Vec<&'a Text>) -> Result<(), AllocError>
     ensures { OnOk result (map (λ t. t.now) named.new.items
         ≡ map (λ t. t.now) named.old.items ++ references_among (nodes_of values.now)) }
@@ -58,6 +60,7 @@ fn add_among<'a>(values: &'a [Value], named: &mut Vec<&'a Text>) -> Result<(), A
 }
 
 #[cycle(named)]
+#[tactic(auto, using(crate::proofs::Weights::for_walks))]
 fn add_under<'a>(members: &'a [Member], named: &mut Vec<&'a Text>) -> Result<(), AllocError>
     ensures { OnOk result (map (λ t. t.now) named.new.items
         ≡ map (λ t. t.now) named.old.items ++ references_under (members_of members.now)) }
@@ -111,16 +114,26 @@ fn needs_among(alloc: Global, named: &[&Text]) -> Result<Needs, AllocError>
 {
     let mut names = BTreeSet::new(alloc);
     for name in named {
-        if let Some(name) = ResName::read(alloc, name.as_str().as_bytes())? {
-            names.insert(name)?;
-        }
+        add(alloc, name, &mut names)?;
     }
     listed(alloc, names)
 }
 
+// Puts a name into a set, where a resource may have it.
+fn add(alloc: Global, name: &Text, names: &mut BTreeSet<ResName>) -> Result<(), AllocError>
+    ensures { OnOk result ((named : List (List ℕ)) → AreResNamesOf named names.old.keys
+        → AreResNamesOf (named ++ name.now ∷ []) names.new.keys) }
+{
+    if let Some(name) = ResName::read(alloc, name.as_str().as_bytes())? {
+        names.insert(name)?;
+    }
+    Ok(())
+}
+
 // The names of a set, in byte order.
 fn listed(alloc: Global, names: BTreeSet<ResName>) -> Result<Needs, AllocError>
-    ensures { IfOk result (λ n. n ≡ names.keys) }
+    ensures names { IfOk result (λ n. n ≡ names.keys) }
+    ensures rising { IfOk result (λ n. Rising n) }
 {
     let mut all = Seq::new(alloc);
     for name in names {

@@ -1,0 +1,3 @@
+pub mod Finds
+pub mod Weights
+pub mod Kept
