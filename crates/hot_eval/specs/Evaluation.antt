@@ -56,30 +56,39 @@ repeated again (Err c) spent = Faults c []
 
 -- ---- a function, with its argument evaluated
 
--- what a function of values answers
+-- the answer of a function that evaluates nothing more; none for a repeat
+abbrev pub own_answer : SceneData → Function → Data → Option (Result Data FaultCode)
+own_answer scene function.Parameter a = Some (parameter scene a)
+own_answer scene function.Resource a = Some (resource scene a)
+own_answer scene function.Attribute a = Some (attribute scene a)
+own_answer scene function.File a = Some (file scene a)
+own_answer scene function.Join a = Some (list_join a)
+own_answer scene function.Split a = Some (str_split a)
+own_answer scene function.Replace a = Some (str_replace false a)
+own_answer scene function.ReplaceStrictly a = Some (str_replace true a)
+own_answer scene function.Repeat a = None
+own_answer scene function.Digest a = Some (digest a)
+own_answer scene function.MergeMaps a = Some (map_merge a)
+own_answer scene function.ReplaceInMap a = Some (map_replace a)
+own_answer scene function.Concat a = Some (list_concat a)
+own_answer scene function.ConcatUnique a = Some (list_concat_unique a)
+own_answer scene function.Filter a = Some (filter a)
+own_answer scene function.Contains a = Some (contains a)
+own_answer scene function.If a = Some (branch a)
+own_answer scene function.FlagParameter a = Some (only_flag (parameter scene a))
+own_answer scene function.Equals a = Some (equals a)
+own_answer scene function.Not a = Some (negated a)
+own_answer scene function.And a = Some (conjoined a)
+own_answer scene function.Or a = Some (disjoined a)
+
+-- a repeat evaluates its replaced templates first
+abbrev pub answered_by : Evaluating → Data → Option (Result Data FaultCode) → ℕ → Outcome Data
+answered_by again a None spent = repeated again (repetition a) spent
+answered_by again a (Some r) spent = answered r spent
+
+-- what a function answers
 abbrev pub answer_of : Evaluating → SceneData → Function → Data → ℕ → Outcome Data
-answer_of again scene function.Parameter a spent = answered (parameter scene a) spent
-answer_of again scene function.Resource a spent = answered (resource scene a) spent
-answer_of again scene function.Attribute a spent = answered (attribute scene a) spent
-answer_of again scene function.File a spent = answered (file scene a) spent
-answer_of again scene function.Join a spent = answered (list_join a) spent
-answer_of again scene function.Split a spent = answered (str_split a) spent
-answer_of again scene function.Replace a spent = answered (str_replace false a) spent
-answer_of again scene function.ReplaceStrictly a spent = answered (str_replace true a) spent
-answer_of again scene function.Repeat a spent = repeated again (repetition a) spent
-answer_of again scene function.Digest a spent = answered (digest a) spent
-answer_of again scene function.MergeMaps a spent = answered (map_merge a) spent
-answer_of again scene function.ReplaceInMap a spent = answered (map_replace a) spent
-answer_of again scene function.Concat a spent = answered (list_concat a) spent
-answer_of again scene function.ConcatUnique a spent = answered (list_concat_unique a) spent
-answer_of again scene function.Filter a spent = answered (filter a) spent
-answer_of again scene function.Contains a spent = answered (contains a) spent
-answer_of again scene function.If a spent = answered (branch a) spent
-answer_of again scene function.FlagParameter a spent = answered (only_flag (parameter scene a)) spent
-answer_of again scene function.Equals a spent = answered (equals a) spent
-answer_of again scene function.Not a spent = answered (negated a) spent
-answer_of again scene function.And a spent = answered (conjoined a) spent
-answer_of again scene function.Or a spent = answered (disjoined a) spent
+answer_of again scene f a spent = answered_by again a (own_answer scene f a) spent
 
 -- ---- calls
 
@@ -160,7 +169,12 @@ abbrev mutual
   -- the only member of an object that has just one
   pub sole : Evaluating → SceneData → Members → Option Sole
   sole again scene no_members = None
-  sole again scene (member k d no_members) = Some (record {
+  sole again scene (member k d no_members) = Some (sole_of again scene k d)
+  sole again scene (member k d (member l e ms)) = None
+
+  -- what it comes to as an argument
+  pub sole_of : Evaluating → SceneData → List ℕ → Data → Sole
+  sole_of again scene k d = record {
     key = k;
     given = d;
     each = parts_outcome again scene d;
@@ -168,8 +182,7 @@ abbrev mutual
     chosen_branch = if_outcome again scene d;
     condition = condition_outcome again scene d;
     conditions = condition_parts_outcome again scene d;
-  })
-  sole again scene (member k d (member l e ms)) = None
+  }
 
   -- each part as a value
   pub parts_outcome : Evaluating → SceneData → Data → ℕ → Outcome Data
