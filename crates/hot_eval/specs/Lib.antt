@@ -1,4 +1,5 @@
 pub mod Codes
+pub mod Faults
 pub mod Outcomes
 pub mod Scenes
 pub mod Sameness
@@ -13,6 +14,7 @@ pub mod Fillings
 pub mod Functions
 pub mod Manners
 pub mod Evaluation
+pub mod Answers
 pub mod Resolutions
 pub mod Conditions
 pub mod Needs
