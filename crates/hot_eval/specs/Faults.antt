@@ -1,7 +1,10 @@
 -- Faults, and how they are seen from further out.
 use Rattle.std.specs.Prelude.{◌≡◌, List, [], ⊤}
 use Rattle.heat_value.specs.declared.path.Step.{Step}
+use Rattle.hot_strings.specs.declared.fault.StringFault.{StringFault}
+use Rattle.hot_strings.specs.declared.fault.StringFault.TheVariants as text
 use Rattle.hot_eval.specs.declared.code.FaultCode.{FaultCode}
+use Rattle.hot_eval.specs.declared.code.FaultCode.TheVariants.{F02, F03, F04, F06}
 use Rattle.hot_eval.specs.declared.fault.EvalFault.{EvalFault}
 use Rattle.hot_eval.specs.declared.fault.EvalFault.TheVariants as eval
 use Rattle.hot_eval.specs.declared.fault.FunctionFault.{FunctionFault}
@@ -15,6 +18,14 @@ here c = eval.Wrong c []
 abbrev pub of_function : FunctionFault → EvalFault
 of_function (function.Wrong c) = here c
 of_function function.Memory = eval.Memory
+
+-- the fault of a text function
+abbrev pub of_text : StringFault → FunctionFault
+of_text text.F02 = function.Wrong F02
+of_text text.F03 = function.Wrong F03
+of_text text.F04 = function.Wrong F04
+of_text text.F06 = function.Wrong F06
+of_text text.Memory = function.Memory
 
 -- the same fault with its path seen from further out, or want of memory
 abbrev pub IsSeenFrom : (List Step → List Step) → EvalFault → EvalFault → Type 0

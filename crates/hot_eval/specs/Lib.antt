@@ -11,6 +11,8 @@ pub mod Lists
 pub mod Maps
 pub mod Choices
 pub mod Fillings
+pub mod Repeats
+pub mod Rooms
 pub mod Functions
 pub mod Manners
 pub mod Evaluation

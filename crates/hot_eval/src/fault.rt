@@ -79,6 +79,11 @@ impl EvalFault {
 }
 
 impl From<StringFault> for FunctionFault {
+    ghost use Rattle.std.specs.Prelude.{◌≡◌};
+    ghost use Rattle.hot_eval.specs.Faults.{of_text};
+
+    ghost from_gives = { λ s e. e ≡ of_text s };
+
     fn from(fault: StringFault) -> FunctionFault {
         match fault {
             StringFault::F02 => FunctionFault::Wrong(FaultCode::F02),

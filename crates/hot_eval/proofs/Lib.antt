@@ -1,0 +1,5 @@
+pub mod Sames
+pub mod Parts
+pub mod Places
+pub mod Joins
+pub mod Contained
