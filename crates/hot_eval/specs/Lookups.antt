@@ -9,7 +9,7 @@ use Rattle.heat_plan.specs.declared.facts.KnownFacts.{KnownFacts}
 use Rattle.heat_plan.specs.declared.plan.Condition.{Condition}
 use Rattle.heat_plan.specs.declared.plan.File.{File}
 use Rattle.hot_eval.specs.Scenes.{SceneData}
-use Rattle.hot_eval.specs.Sorts.{wanted, text_in, first_and_rest, parts}
+use Rattle.hot_eval.specs.Sorts.{wanted, text_in, first_and_rest, listed, parts}
 use Rattle.hot_eval.specs.declared.code.FaultCode.{FaultCode}
 
 -- ---- paths
@@ -84,7 +84,7 @@ attribute_of scene (name, rest) =
     wanted (text_in name) (λ s. Ok (unwrap_or (option_and_then (attributes_at rest) (facts_of scene s)) null))
 
 abbrev pub attribute : SceneData → Data → Result Data FaultCode
-attribute scene a = wanted (first_and_rest (parts a)) (attribute_of scene)
+attribute scene a = wanted (first_and_rest (listed a)) (attribute_of scene)
 
 -- ---- get_file
 

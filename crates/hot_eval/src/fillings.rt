@@ -1,9 +1,23 @@
 //! The literal template of a repeat with a choice's items in place of the keys, and where its parts stood.
+ghost use Rattle.std.specs.Prelude.{◌≡◌, ◌<◌, ◌-◌, ◌^◌, ◌≤◌, IfOk, MatchOption, Some, None, is_none, is_some};
+ghost use Rattle.std.specs.Prelude.{option_map, unwrap_or};
+ghost use Rattle.heat_value.specs.Data.{words as words_data, items as items_data, fields as fields_data};
+ghost use Rattle.heat_value.specs.Meaning.{data_of, nodes_of, members_of};
+ghost use Rattle.hot_eval.specs.Faults.{IsSeenFrom};
+ghost use Rattle.hot_eval.specs.Fillings.{filled as the_filled, text_filled as the_text_filled};
+ghost use Rattle.hot_eval.specs.Fillings.{words_filled as the_words_filled, item_of as the_item_of};
+ghost use Rattle.hot_eval.specs.Fillings.{literal_path as the_literal_path, literal_step as the_literal_step};
+ghost use Rattle.hot_eval.specs.Fillings.{member_becoming as the_member_becoming};
+ghost use Rattle.hot_eval.specs.Outcomes.{size};
+ghost use Rattle.hot_eval.specs.Repeats.{choice_of, IsChoice};
+ghost use Rattle.hot_eval.specs.Rooms.{taken, room_behind, IsMade, IsFilled, IsTooLarge};
+
 use crate::EvalFault;
 use crate::choices::Choice;
 use heat_value::{Items, Member, Path, Props, Step, Text, TryCopy, Value};
 use hot_strings::{StringFault, replace_within, value_size};
 use std::alloc::{AllocError, Global};
+use std::marker::Model;
 
 /// A replaced template.
 #[derive(Drop)]
@@ -21,19 +35,45 @@ pub struct Room {
     left: Option<usize>,
 }
 
+impl Model for Room {
+    ghost use Rattle.std.specs.Prelude.{ℕ, ◌<◌, ◌-◌, ◌^◌, Option, IfSome};
+
+    ghost Value = { Option ℕ };
+
+    ghost view = { λ r. r.left };
+
+    ghost invariant = { λ r. IfSome r.left (λ n. n < 2 ^ 64 - 1) };
+}
+
 impl Room {
     /// Room for so many bytes.
-    pub fn new(bytes: usize) -> Room {
+    pub fn new(bytes: usize) -> Room
+        requires { bytes < 2 ^ 64 - 1 }
+        ensures { result ≡ Some bytes }
+    {
         Room { left: Some(bytes) }
     }
 
     /// Whether it was used up.
-    pub fn is_used_up(&self) -> bool {
+    pub fn is_used_up(&self) -> bool
+        ensures { result ≡ is_none self.now }
+    {
         self.left.is_none()
     }
 
-    // Takes so many bytes; false where they aren't left.
-    fn take(&mut self, bytes: usize) -> bool {
+    // How many bytes a text may take; two, those of the empty text, where it was used up.
+    fn limit(&self) -> usize
+        ensures { result ≡ unwrap_or self.now 2 }
+    {
+        self.left.unwrap_or(2)
+    }
+
+    // Takes what a value takes; false where that isn't left.
+    fn take(&mut self, value: &Value) -> bool
+        ensures room { self.new ≡ room_behind self.old (size (data_of value.now)) }
+        ensures some { result ≡ is_some self.new }
+    {
+        let bytes = value_size(value);
         match self.left {
             Some(left) => {
                 self.left = if bytes <= left {
@@ -46,16 +86,42 @@ impl Room {
             None => false,
         }
     }
+
+    // Uses it up.
+    fn use_up(&mut self)
+        ensures { self.new ≡ None }
+    {
+        self.left = None;
+    }
 }
 
 /// A template with keys replaced in texts and in objects' keys.
-#[cycle(filling)]
 pub fn fill(
     alloc: Global,
     choice: &Choice,
     template: &Value,
     room: &mut Room,
-) -> Result<Filled, AllocError> {
+) -> Result<Filled, AllocError>
+    requires { IsChoice choice.now }
+    ensures exact { IsFilled result room.old room.new (taken (choice_of choice.now) (data_of template.now))
+        (the_filled (choice_of choice.now) (data_of template.now)) }
+    ensures large { IsTooLarge result room.old room.new
+        (the_filled (choice_of choice.now) (data_of template.now)) }
+{
+    value_filled(alloc, choice, template, room)
+}
+
+#[cycle(filling)]
+fn value_filled(
+    alloc: Global,
+    choice: &Choice,
+    template: &Value,
+    room: &mut Room,
+) -> Result<Filled, AllocError>
+    requires { IsChoice choice.now }
+    ensures { IsFilled result room.old room.new (taken (choice_of choice.now) (data_of template.now))
+        (the_filled (choice_of choice.now) (data_of template.now)) }
+{
     match template {
         Value::Words(words) => Ok(Filled::Template(words_filled(alloc, choice, words, room)?)),
         Value::Items(items) => items_filled(alloc, choice, items.as_slice(), room),
@@ -70,10 +136,15 @@ fn items_filled(
     choice: &Choice,
     values: &[Value],
     room: &mut Room,
-) -> Result<Filled, AllocError> {
+) -> Result<Filled, AllocError>
+    requires { IsChoice choice.now }
+    ensures { IsFilled result room.old room.new
+        (taken (choice_of choice.now) (items_data (nodes_of values.now)))
+        (the_filled (choice_of choice.now) (items_data (nodes_of values.now))) }
+{
     let mut items = Items::new(alloc);
     for value in values {
-        match fill(alloc, choice, value, room)? {
+        match value_filled(alloc, choice, value, room)? {
             Filled::Template(value) => items.push(value)?,
             Filled::Same => return Ok(Filled::Same),
         }
@@ -87,17 +158,24 @@ fn fields_filled(
     choice: &Choice,
     members: &[Member],
     room: &mut Room,
-) -> Result<Filled, AllocError> {
+) -> Result<Filled, AllocError>
+    requires { IsChoice choice.now }
+    ensures { IsFilled result room.old room.new
+        (taken (choice_of choice.now) (fields_data (members_of members.now)))
+        (the_filled (choice_of choice.now) (fields_data (members_of members.now))) }
+{
     let mut fields = Props::new(alloc);
     for member in members {
-        let Filled::Template(value) = fill(alloc, choice, &member.value, room)? else {
-            return Ok(Filled::Same);
-        };
-        let key = key_filled(alloc, choice, &member.key)?;
-        if fields.get(&key).is_some() {
-            return Ok(Filled::Same);
+        match value_filled(alloc, choice, &member.value, room)? {
+            Filled::Template(value) => {
+                let key = key_filled(alloc, choice, &member.key)?;
+                if fields.get(&key).is_some() {
+                    return Ok(Filled::Same);
+                }
+                fields.put(key, value)?;
+            }
+            Filled::Same => return Ok(Filled::Same),
         }
-        fields.put(key, value)?;
     }
     Ok(Filled::Template(Value::Fields(fields)))
 }
@@ -108,29 +186,60 @@ fn words_filled(
     choice: &Choice,
     words: &Text,
     room: &mut Room,
-) -> Result<Value, AllocError> {
-    if let Some(item) = item_of(choice, words) {
-        return if room.take(value_size(item)) {
-            item.copy()
-        } else {
-            Ok(Value::Null)
-        };
+) -> Result<Value, AllocError>
+    requires { IsChoice choice.now }
+    ensures { IfOk result (λ v. IsMade room.old room.new
+        (size (the_words_filled (choice_of choice.now) words.now))
+        (data_of v) (the_words_filled (choice_of choice.now) words.now)) }
+{
+    match item_of(choice, words) {
+        Some(item) => item_taken(item, room),
+        None => text_taken(alloc, choice, words, room),
     }
-    match text_filled(alloc, choice, words, room.left.unwrap_or(2))? {
+}
+
+// An item in place of a text.
+fn item_taken(item: &Value, room: &mut Room) -> Result<Value, AllocError>
+    ensures { IfOk result (λ v. IsMade room.old room.new
+        (size (data_of item.now)) (data_of v) (data_of item.now)) }
+{
+    if room.take(item) {
+        item.copy()
+    } else {
+        Ok(Value::Null)
+    }
+}
+
+// A text with keys replaced.
+fn text_taken(
+    alloc: Global,
+    choice: &Choice,
+    words: &Text,
+    room: &mut Room,
+) -> Result<Value, AllocError>
+    requires { IsChoice choice.now }
+    ensures { IfOk result (λ v. IsMade room.old room.new
+        (size (words_data (the_text_filled (choice_of choice.now) words.now)))
+        (data_of v) (words_data (the_text_filled (choice_of choice.now) words.now))) }
+{
+    match text_filled(alloc, choice, words, room.limit())? {
         Some(text) => {
             let value = Value::Words(text);
-            room.take(value_size(&value));
+            room.take(&value);
             Ok(value)
         }
         None => {
-            room.left = None;
+            room.use_up();
             Ok(Value::Null)
         }
     }
 }
 
 // The item of a key.
-fn item_of<'a>(choice: &Choice<'a>, words: &Text) -> Option<&'a Value> {
+fn item_of<'a>(choice: &Choice<'a>, words: &Text) -> Option<&'a Value>
+    requires { IsChoice choice.now }
+    ensures { option_map (λ v. data_of v.now) result ≡ the_item_of (choice_of choice.now) words.now }
+{
     for at in 0..choice.texts.len() {
         if choice.texts[at].0 == *words {
             return Some(choice.items[at]);
@@ -140,7 +249,10 @@ fn item_of<'a>(choice: &Choice<'a>, words: &Text) -> Option<&'a Value> {
 }
 
 // An object's key with keys replaced. One that takes more than a whole evaluation may cost isn't made.
-fn key_filled(alloc: Global, choice: &Choice, key: &Text) -> Result<Text, AllocError> {
+fn key_filled(alloc: Global, choice: &Choice, key: &Text) -> Result<Text, AllocError>
+    requires { IsChoice choice.now }
+    ensures { IfOk result (λ t. t ≡ the_text_filled (choice_of choice.now) key.now) }
+{
     match text_filled(alloc, choice, key, crate::sum::MAX_COST)? {
         Some(text) => Ok(text),
         None => Err(AllocError),
@@ -153,7 +265,12 @@ fn text_filled(
     choice: &Choice,
     words: &Text,
     limit: usize,
-) -> Result<Option<Text>, AllocError> {
+) -> Result<Option<Text>, AllocError>
+    requires { IsChoice choice.now }
+    ensures { IfOk result (λ o. MatchOption o
+        (limit < size (words_data (the_text_filled (choice_of choice.now) words.now)))
+        (λ t. t ≡ the_text_filled (choice_of choice.now) words.now)) }
+{
     if limit < 2 {
         return Ok(None);
     }
@@ -171,7 +288,10 @@ pub fn at_literal_place(
     choice: &Choice,
     template: &Value,
     fault: EvalFault,
-) -> EvalFault {
+) -> EvalFault
+    requires { IsChoice choice.now }
+    ensures { IsSeenFrom (the_literal_path (choice_of choice.now) (data_of template.now)) fault result }
+{
     match fault {
         EvalFault::Wrong(code, path) => match literal_path(
             alloc,
@@ -191,7 +311,10 @@ fn literal_path(
     choice: &Choice,
     template: &Value,
     steps: &[Step],
-) -> Result<Path, AllocError> {
+) -> Result<Path, AllocError>
+    requires { IsChoice choice.now }
+    ensures { IfOk result (λ p. p ≡ the_literal_path (choice_of choice.now) (data_of template.now) steps.now) }
+{
     let mut path = Path::root(alloc);
     let mut at = template;
     for step in steps {
@@ -212,7 +335,11 @@ fn literal_step<'a>(
     choice: &Choice,
     template: &'a Value,
     step: &Step,
-) -> Result<Option<(Step, &'a Value)>, AllocError> {
+) -> Result<Option<(Step, &'a Value)>, AllocError>
+    requires { IsChoice choice.now }
+    ensures { IfOk result (λ o. option_map (λ p. (p.0, data_of p.1.now)) o
+        ≡ the_literal_step (choice_of choice.now) (data_of template.now) step.now) }
+{
     match (template, step) {
         (Value::Items(items), Step::Index(at)) => match items.as_slice().get(*at) {
             Some(value) => Ok(Some((Step::Index(*at), value))),
@@ -231,7 +358,11 @@ fn member_becoming<'a>(
     choice: &Choice,
     key: &Text,
     members: &'a [Member],
-) -> Result<Option<(Step, &'a Value)>, AllocError> {
+) -> Result<Option<(Step, &'a Value)>, AllocError>
+    requires { IsChoice choice.now }
+    ensures { IfOk result (λ o. option_map (λ p. (p.0, data_of p.1.now)) o
+        ≡ the_member_becoming (choice_of choice.now) key.now (members_of members.now)) }
+{
     for member in members {
         if key_filled(alloc, choice, &member.key)? == *key {
             return Ok(Some((Step::Key(member.key.copy()?), &member.value)));

@@ -1,14 +1,18 @@
 //! What functions read: parameters, facts of resources, files, and the values at a path in them.
-ghost use Rattle.std.specs.Prelude.{◌≡◌, IfOk, option_map};
+ghost use Rattle.std.specs.Prelude.{◌≡◌, IfOk, Ok, option_map, option_and_then, unwrap_or};
+ghost use Rattle.heat_value.specs.Data.{lookup, null};
 ghost use Rattle.heat_value.specs.Meaning.{data_of, nodes_of};
 ghost use Rattle.hot_eval.specs.Answers.{IsAnswer};
 ghost use Rattle.hot_eval.specs.Lookups.{parameter as the_parameter, resource as the_resource};
 ghost use Rattle.hot_eval.specs.Lookups.{attribute as the_attribute, file as the_file, walked as the_walked};
+ghost use Rattle.hot_eval.specs.Lookups.{parameter_at as the_parameter_at, attributes_at as the_attributes_at};
+ghost use Rattle.hot_eval.specs.Lookups.{attribute_of as the_attribute_of, attribute_at as the_attribute_at};
 ghost use Rattle.hot_eval.specs.Lookups.{step_into as the_step_into, step_into_list as the_step_into_list};
 ghost use Rattle.hot_eval.specs.Scenes.{scene_data};
+ghost use Rattle.hot_eval.specs.Sorts.{text_in as the_text_in};
 
-use crate::sorts::{parts, text_in, wanted};
-use crate::{FunctionFault, Scene};
+use crate::sorts::{first_and_rest, parts, text_in, wanted};
+use crate::{FaultCode, FunctionFault, Scene};
 use heat_plan::Facts;
 use heat_value::{Text, TryCopy, Value, text_of};
 use std::alloc::{AllocError, Global};
@@ -18,10 +22,13 @@ pub fn parameter(alloc: Global, scene: &Scene, argument: &Value) -> Result<Value
     ensures { IsAnswer result (the_parameter (scene_data scene.now) (data_of argument.now)) }
 {
     match argument {
-        Value::Words(name) => parameter_at(alloc, scene, name, &[]),
-        _ => {
-            let (name, path) = wanted(parts(argument).split_first())?;
-            parameter_at(alloc, scene, wanted(text_in(name))?, path)
+        Value::Words(_) => parameter_at(alloc, scene, argument, &[]),
+        Value::Items(items) => {
+            let (name, path) = wanted(first_and_rest(items.as_slice()))?;
+            parameter_at(alloc, scene, name, path)
+        }
+        Value::Null | Value::Flag(_) | Value::Whole(_) | Value::Fields(_) => {
+            Err(FunctionFault::Wrong(FaultCode::F01))
         }
     }
 }
@@ -29,9 +36,13 @@ pub fn parameter(alloc: Global, scene: &Scene, argument: &Value) -> Result<Value
 fn parameter_at(
     alloc: Global,
     scene: &Scene,
-    name: &Text,
+    name: &Value,
     path: &[Value],
-) -> Result<Value, FunctionFault> {
+) -> Result<Value, FunctionFault>
+    ensures { IsAnswer result
+        (the_parameter_at (scene_data scene.now) (data_of name.now, nodes_of path.now)) }
+{
+    let name = wanted(text_in(name))?;
     let bound = wanted(scene.params.get(name))?;
     match walked(alloc, bound, path)? {
         Some(value) => Ok(value.copy()?),
@@ -53,15 +64,30 @@ pub fn resource(scene: &Scene, argument: &Value) -> Result<Value, FunctionFault>
 pub fn attribute(alloc: Global, scene: &Scene, argument: &Value) -> Result<Value, FunctionFault>
     ensures { IsAnswer result (the_attribute (scene_data scene.now) (data_of argument.now)) }
 {
-    let (name, rest) = wanted(parts(argument).split_first())?;
+    let (name, rest) = wanted(first_and_rest(parts(argument)))?;
+    attribute_of(alloc, scene, name, rest)
+}
+
+fn attribute_of(
+    alloc: Global,
+    scene: &Scene,
+    name: &Value,
+    rest: &[Value],
+) -> Result<Value, FunctionFault>
+    ensures { IsAnswer result
+        (the_attribute_of (scene_data scene.now) (data_of name.now, nodes_of rest.now)) }
+{
     match scene.facts_of(wanted(text_in(name))?) {
         Some(facts) => attributes_at(alloc, facts, rest),
         None => Ok(Value::Null),
     }
 }
 
-// All attributes, or the one at the path.
-fn attributes_at(alloc: Global, facts: &Facts, rest: &[Value]) -> Result<Value, FunctionFault> {
+// All attributes, or the one at the path; null where it is missing.
+fn attributes_at(alloc: Global, facts: &Facts, rest: &[Value]) -> Result<Value, FunctionFault>
+    ensures { IsAnswer result
+        (Ok (unwrap_or (the_attributes_at (nodes_of rest.now) facts.now) null)) }
+{
     match rest {
         [] => Ok(Value::Fields(facts.attrs.as_props().copy()?)),
         [name, path @ ..] => attribute_at(alloc, facts, name, path),
@@ -73,13 +99,31 @@ fn attribute_at(
     facts: &Facts,
     name: &Value,
     path: &[Value],
-) -> Result<Value, FunctionFault> {
-    let Some(name) = text_in(name) else {
-        return Ok(Value::Null);
-    };
-    let Some(whole) = facts.attrs.as_props().get(name) else {
-        return Ok(Value::Null);
-    };
+) -> Result<Value, FunctionFault>
+    ensures { IsAnswer result
+        (Ok (unwrap_or (the_attribute_at (data_of name.now, nodes_of path.now) facts.now) null)) }
+{
+    match attribute_named(facts, name) {
+        Some(whole) => value_at(alloc, whole, path),
+        None => Ok(Value::Null),
+    }
+}
+
+fn attribute_named<'a>(facts: &'a Facts, name: &Value) -> Option<&'a Value>
+    ensures { option_map (λ v. data_of v.now) result
+        ≡ option_and_then (λ s. lookup s facts.now.attrs) (the_text_in (data_of name.now)) }
+{
+    match text_in(name) {
+        Some(name) => facts.attrs.as_props().get(name),
+        None => None,
+    }
+}
+
+// The value at a path; null where it is missing.
+fn value_at(alloc: Global, whole: &Value, path: &[Value]) -> Result<Value, FunctionFault>
+    ensures { IsAnswer result
+        (Ok (unwrap_or (the_walked (nodes_of path.now) (data_of whole.now)) null)) }
+{
     match walked(alloc, whole, path)? {
         Some(value) => Ok(value.copy()?),
         None => Ok(Value::Null),

@@ -6,6 +6,7 @@ ghost use Rattle.hot_forms.specs.Shapes.{members_in};
 ghost use Rattle.hot_eval.specs.Sorts.{text_in as the_text_in, text_taken as the_text_taken};
 ghost use Rattle.hot_eval.specs.Sorts.{flag_in as the_flag_in, list_in as the_list_in, object_in as the_object_in};
 ghost use Rattle.hot_eval.specs.Sorts.{list_or_null as the_list_or_null, object_or_null as the_object_or_null};
+ghost use Rattle.hot_eval.specs.Sorts.{listed, first_and_rest as the_first_and_rest, two_of as the_two_of};
 
 use crate::{FaultCode, FunctionFault};
 use heat_value::{Member, Props, Text, TryCopy, Value, text_of};
@@ -95,19 +96,37 @@ pub fn object_or_null(value: &Value) -> Option<&[Member]>
     }
 }
 
-/// The parts of a list.
-pub fn parts(value: &Value) -> &[Value] {
+/// The parts of a list; anything else has none.
+pub fn parts(value: &Value) -> &[Value]
+    ensures { nodes_of result.now ≡ listed (data_of value.now) }
+{
     match value {
         Value::Items(items) => items.as_slice(),
         Value::Null | Value::Flag(_) | Value::Whole(_) | Value::Words(_) | Value::Fields(_) => &[],
     }
 }
 
-/// The parts of a list of two.
-pub fn two_of(values: &[Value]) -> Option<(&Value, &Value)> {
+/// The first of a list, and those behind it.
+pub fn first_and_rest(values: &[Value]) -> Option<(&Value, &[Value])>
+    ensures { option_map (λ p. (data_of p.0.now, nodes_of p.1.now)) result
+        ≡ the_first_and_rest (nodes_of values.now) }
+{
     match values {
+        [] => None,
+        [first, rest @ ..] => Some((first, rest)),
+    }
+}
+
+/// The parts of a list of two.
+pub fn two_of(values: &[Value]) -> Option<(&Value, &Value)>
+    ensures { option_map (λ p. (data_of p.0.now, data_of p.1.now)) result
+        ≡ the_two_of (nodes_of values.now) }
+{
+    match values {
+        [] => None,
+        [_] => None,
         [first, second] => Some((first, second)),
-        _ => None,
+        [_, _, _, ..] => None,
     }
 }
 

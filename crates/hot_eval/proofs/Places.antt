@@ -1,0 +1,38 @@
+-- What is left of a list from a place on.
+use Rattle.std.proofs.Common.{◌≡◌, ◌<◌, ◌≤◌, ◌+◌, ℕ, List, [], ◌∷◌, length, get_or, drop, map, ap, sym, ◌∙◌}
+use Rattle.std.proofs.lemmas.List.{drop_more, drop_all}
+use denote.Ref.{Bor}
+use Rattle.heat_value.specs.Data.{Nodes, no_nodes, node, no_members, member}
+use Rattle.heat_value.specs.Meaning.{data_of, nodes_of, members_of}
+use Rattle.heat_value.specs.declared.value.Value.{Value}
+use Rattle.heat_value.specs.declared.value.Member.{Member}
+
+-- what is at a place, and what is left behind it
+pub rest_at : {X : Type 0} (xs : List X) (n : ℕ) (x d : X) → n < length xs → x ≡ get_or xs n d
+    → drop n xs ≡ x ∷ drop (n + 1) xs
+rest_at xs n x d below at = drop_more xs n d below ∙ ap (λ y. y ∷ drop (n + 1) xs) (sym at)
+
+pub nodes_at : (vs : List Value) (n : ℕ) (v : Value) → n < length vs → v ≡ get_or vs n v
+    → nodes_of (drop n vs) ≡ node (data_of v) (nodes_of (drop (n + 1) vs))
+nodes_at vs n v below at = ap nodes_of (rest_at vs n v v below at)
+
+pub nodes_end : (vs : List Value) (n : ℕ) → length vs ≤ n → nodes_of (drop n vs) ≡ no_nodes
+nodes_end vs n above = ap nodes_of (drop_all n vs above)
+
+pub members_at : (ms : List Member) (n : ℕ) (m : Member) → n < length ms → m ≡ get_or ms n m
+    → members_of (drop n ms) ≡ member m.key (data_of m.value) (members_of (drop (n + 1) ms))
+members_at ms n m below at = ap members_of (rest_at ms n m m below at)
+
+pub members_end : (ms : List Member) (n : ℕ) → length ms ≤ n → members_of (drop n ms) ≡ no_members
+members_end ms n above = ap members_of (drop_all n ms above)
+
+-- the values behind references
+abbrev pub behind : List (Bor Value) → Nodes
+behind vs = nodes_of (map (λ (v : Bor Value). v.now) vs)
+
+pub refs_at : (vs : List (Bor Value)) (n : ℕ) (v d : Bor Value) → n < length vs → v ≡ get_or vs n d
+    → behind (drop n vs) ≡ node (data_of v.now) (behind (drop (n + 1) vs))
+refs_at vs n v d below at = ap behind (rest_at vs n v d below at)
+
+pub refs_end : (vs : List (Bor Value)) (n : ℕ) → length vs ≤ n → behind (drop n vs) ≡ no_nodes
+refs_end vs n above = ap behind (drop_all n vs above)
