@@ -225,6 +225,7 @@ fn chosen(set: &Setting, given: &[Value], sum: &mut Sum) -> Result<Items, EvalFa
 }
 
 /// A branch that a condition picks.
+#[derive(Clone, Copy)]
 pub enum Picked<'a> {
     /// The one at this place.
     Branch(usize, &'a Value),
