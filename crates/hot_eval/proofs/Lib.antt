@@ -3,3 +3,4 @@ pub mod Parts
 pub mod Places
 pub mod Joins
 pub mod Contained
+pub mod Renames
