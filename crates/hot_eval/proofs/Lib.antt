@@ -4,3 +4,7 @@ pub mod Places
 pub mod Joins
 pub mod Contained
 pub mod Renames
+pub mod Replacements
+pub mod Finds
+pub mod Weights
+pub mod Kept

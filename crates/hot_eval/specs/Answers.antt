@@ -3,7 +3,7 @@ use Rattle.std.specs.Prelude.{◌≡◌, ◌-◌, ℕ, Option, Some, None, Resul
 use Rattle.heat_value.specs.Data.{Data}
 use Rattle.heat_value.specs.Meaning.{data_of}
 use Rattle.heat_value.specs.declared.value.Value.{Value}
-use Rattle.hot_eval.specs.Evaluation.{Evaluating, evaluated_within}
+use Rattle.hot_eval.specs.Evaluation.{Evaluating, evaluation_within}
 use Rattle.hot_eval.specs.Outcomes.{Outcome, Gives, Faults, is_result, cost_limit}
 use Rattle.hot_eval.specs.Scenes.{scene_data}
 use Rattle.hot_eval.specs.declared.code.FaultCode.{FaultCode}
@@ -48,4 +48,4 @@ IsMadeOf content (Err e) o = IsFaultIn e o
 
 -- the evaluation of templates that are replaced at this depth
 abbrev pub again : Setting → Evaluating
-again set = evaluated_within (cost_limit - set.depth.repeats) (scene_data set.scene)
+again set = evaluation_within (cost_limit - set.depth.repeats) (scene_data set.scene)

@@ -26,7 +26,7 @@ impl Depth {
 
     /// One level further, in a list or an object; none where that is too deep for the stack.
     pub fn inside(self) -> Option<Depth>
-        ensures { IfSome result (λ d. d.repeats ≡ self.repeats) }
+        ensures { IfSome result (λ d. (d.repeats ≡ self.repeats) × (d.levels + 1 ≡ self.levels)) }
     {
         match self.levels {
             0 => None,
@@ -39,7 +39,8 @@ impl Depth {
 
     /// At the root of a replaced template, one level further.
     pub fn repeated(self) -> Option<Depth>
-        ensures { IfSome result (λ d. (d.repeats ≡ self.repeats + 1) × (d.repeats ≤ 512)) }
+        ensures { IfSome result (λ d.
+            (d.repeats ≡ self.repeats + 1) × (d.levels + 1 ≡ self.levels) × (d.repeats ≤ 512)) }
     {
         match self.levels {
             0 => None,

@@ -2,8 +2,8 @@
 ghost use Rattle.heat_value.specs.Data.{fields as fields_data};
 ghost use Rattle.heat_value.specs.Meaning.{data_of, nodes_of, members_of};
 ghost use Rattle.hot_eval.specs.Answers.{IsOutcome, again};
-ghost use Rattle.hot_eval.specs.Evaluation.{value as the_value, values as the_values, members as the_members};
-ghost use Rattle.hot_eval.specs.Evaluation.{condition_value, condition_values};
+ghost use Rattle.hot_eval.specs.Evaluation.{value_outcome, values_outcome, members_outcome};
+ghost use Rattle.hot_eval.specs.Evaluation.{condition_outcome, conditions_outcome};
 ghost use Rattle.hot_eval.specs.Scenes.{scene_data};
 
 use crate::choices::{Choice, Repetition, choice_at, first_places, go_on, repetition_in};
@@ -62,7 +62,7 @@ impl<'a> Setting<'a> {
 #[cycle(evaluation)]
 pub fn value(set: &Setting, given: &Value, sum: &mut Sum) -> Result<Value, EvalFault>
     ensures { IsOutcome data_of result sum.new
-        (the_value (again set.now) (scene_data set.now.scene) (data_of given.now) sum.old) }
+        (value_outcome (again set.now) (scene_data set.now.scene) (data_of given.now) sum.old) }
 {
     match given {
         Value::Items(items) => Ok(Value::Items(values(&set.inside()?, items.as_slice(), sum)?)),
@@ -75,7 +75,7 @@ pub fn value(set: &Setting, given: &Value, sum: &mut Sum) -> Result<Value, EvalF
 #[cycle(evaluation)]
 fn values(set: &Setting, given: &[Value], sum: &mut Sum) -> Result<Items, EvalFault>
     ensures { IsOutcome (λ ns. ns) result sum.new
-        (the_values (again set.now) (scene_data set.now.scene) 0 (nodes_of given.now) sum.old) }
+        (values_outcome (again set.now) (scene_data set.now.scene) 0 (nodes_of given.now) sum.old) }
 {
     let mut items = Items::new(set.alloc);
     for (place, part) in given.iter().enumerate() {
@@ -91,7 +91,7 @@ fn values(set: &Setting, given: &[Value], sum: &mut Sum) -> Result<Items, EvalFa
 #[cycle(evaluation)]
 pub fn members(set: &Setting, given: &[Member], sum: &mut Sum) -> Result<Props, EvalFault>
     ensures { IsOutcome (λ ms. ms) result sum.new
-        (the_members (again set.now) (scene_data set.now.scene) (members_of given.now) sum.old) }
+        (members_outcome (again set.now) (scene_data set.now.scene) (members_of given.now) sum.old) }
 {
     let mut fields = Props::new(set.alloc);
     for member in given {
@@ -107,7 +107,7 @@ pub fn members(set: &Setting, given: &[Member], sum: &mut Sum) -> Result<Props, 
 #[cycle(evaluation)]
 fn object(set: &Setting, given: &Props, sum: &mut Sum) -> Result<Value, EvalFault>
     ensures { IsOutcome data_of result sum.new
-        (the_value (again set.now) (scene_data set.now.scene) (fields_data given.now) sum.old) }
+        (value_outcome (again set.now) (scene_data set.now.scene) (fields_data given.now) sum.old) }
 {
     let set = &set.inside()?;
     if let Some(member) = lone(given.as_slice()) {
@@ -232,7 +232,7 @@ fn branch_value(
 #[cycle(evaluation)]
 pub fn condition(set: &Setting, given: &Value, sum: &mut Sum) -> Result<Value, EvalFault>
     ensures { IsOutcome data_of result sum.new
-        (condition_value (again set.now) (scene_data set.now.scene) (data_of given.now) sum.old) }
+        (condition_outcome (again set.now) (scene_data set.now.scene) (data_of given.now) sum.old) }
 {
     match given {
         Value::Words(name) => Ok(named_condition(&set.scene, name)?),
@@ -252,7 +252,7 @@ fn named_condition(scene: &Scene, name: &Text) -> Result<Value, EvalFault> {
 #[cycle(evaluation)]
 fn condition_object(set: &Setting, given: &Props, sum: &mut Sum) -> Result<Value, EvalFault>
     ensures { IsOutcome data_of result sum.new
-        (condition_value (again set.now) (scene_data set.now.scene) (fields_data given.now) sum.old) }
+        (condition_outcome (again set.now) (scene_data set.now.scene) (fields_data given.now) sum.old) }
 {
     let set = &set.inside()?;
     if let Some(member) = lone(given.as_slice()) {
@@ -267,7 +267,7 @@ fn condition_object(set: &Setting, given: &Props, sum: &mut Sum) -> Result<Value
 #[cycle(evaluation)]
 fn conditions(set: &Setting, given: &[Value], sum: &mut Sum) -> Result<Items, EvalFault>
     ensures { IsOutcome (λ ns. ns) result sum.new
-        (condition_values (again set.now) (scene_data set.now.scene) 0 (nodes_of given.now) sum.old) }
+        (conditions_outcome (again set.now) (scene_data set.now.scene) 0 (nodes_of given.now) sum.old) }
 {
     let mut items = Items::new(set.alloc);
     for (place, part) in given.iter().enumerate() {

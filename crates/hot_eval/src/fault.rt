@@ -1,7 +1,8 @@
 //! Why a function has no result, and why a value isn't evaluated.
 ghost use Rattle.std.specs.Prelude.{◌≡◌, ◌∷◌};
 ghost use Rattle.heat_value.specs.declared.path.Step.TheVariants.{Key, Index};
-ghost use Rattle.hot_eval.specs.Faults.{here as the_here, of_function as the_of_function, IsSeenFrom};
+ghost use Rattle.hot_eval.specs.Faults.{here as the_here, of_function as the_of_function};
+ghost use Rattle.hot_eval.specs.Faults.{at_path as the_at_path, IsSeenFrom};
 
 use crate::FaultCode;
 use heat_value::{Path, Step, Text, TryCopy};
@@ -50,7 +51,7 @@ impl EvalFault {
     {
         match self {
             EvalFault::Wrong(code, path) => match key.copy() {
-                Ok(key) => EvalFault::behind(code, path.under(Step::Key(key))),
+                Ok(key) => EvalFault::at_path(code, path.under(Step::Key(key))),
                 Err(_) => EvalFault::Memory,
             },
             EvalFault::Memory => EvalFault::Memory,
@@ -63,14 +64,16 @@ impl EvalFault {
     {
         match self {
             EvalFault::Wrong(code, path) => {
-                EvalFault::behind(code, path.under(Step::Index(place)))
+                EvalFault::at_path(code, path.under(Step::Index(place)))
             }
             EvalFault::Memory => EvalFault::Memory,
         }
     }
 
     // The code at a path, if there was memory for that.
-    fn behind(code: FaultCode, path: Result<Path, AllocError>) -> EvalFault {
+    fn at_path(code: FaultCode, path: Result<Path, AllocError>) -> EvalFault
+        ensures { result ≡ the_at_path code path }
+    {
         match path {
             Ok(path) => EvalFault::Wrong(code, path),
             Err(_) => EvalFault::Memory,
@@ -80,9 +83,9 @@ impl EvalFault {
 
 impl From<StringFault> for FunctionFault {
     ghost use Rattle.std.specs.Prelude.{◌≡◌};
-    ghost use Rattle.hot_eval.specs.Faults.{of_text};
+    ghost use Rattle.hot_eval.specs.Faults.{of_text_function};
 
-    ghost from_gives = { λ s e. e ≡ of_text s };
+    ghost from_gives = { λ f e. e ≡ of_text_function f };
 
     fn from(fault: StringFault) -> FunctionFault {
         match fault {

@@ -28,6 +28,6 @@ pub use code::FaultCode;
 pub use fault::{EvalFault, FunctionFault};
 pub use function::Function;
 pub use manner::Manner;
-pub use needs::needs_of;
+pub use needs::{needs_of, needs_of_props};
 pub use resolving::{eval, resolve};
 pub use scene::Scene;
