@@ -3,6 +3,8 @@ pub mod Parts
 pub mod Places
 pub mod Joins
 pub mod Contained
+pub mod Renames
+pub mod Replacements
 pub mod Finds
 pub mod Weights
 pub mod Kept

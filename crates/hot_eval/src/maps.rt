@@ -103,7 +103,7 @@ fn both<'a>(
     values: Option<&'a Props>,
 ) -> Option<(&'a Props, &'a Props)>
     ensures { option_map (λ p. (p.0.now, p.1.now)) result
-        ≡ named_by (option_map (λ m. m.now) names) (option_map (λ m. m.now) values) }
+        ≡ named_by (option_map (λ m. m.now) names.entry) (option_map (λ m. m.now) values.entry) }
 {
     match (names, values) {
         (Some(names), Some(values)) => if hold_texts(names.as_slice()) {
