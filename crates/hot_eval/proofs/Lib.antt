@@ -8,3 +8,5 @@ pub mod Replacements
 pub mod Finds
 pub mod Weights
 pub mod Kept
+pub mod Steps
+pub mod Made
