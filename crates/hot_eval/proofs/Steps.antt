@@ -1,6 +1,6 @@
 -- How outcomes go on, and how a list, a map or a repeat's list is made part by part.
 use Rattle.std.proofs.Common.{◌≡◌, ◌∙◌, ◌+◌, ◌<◌, ◌≤◌, ◌++◌, ℕ, zero, suc, List, [], ◌∷◌, Result, Ok, Err, refl, sym, ap}
-use Rattle.std.proofs.Common.{subst, drop, length, get_or, arith}
+use Rattle.std.proofs.Common.{subst, drop, length, get_or, arith, add-one}
 use Rattle.std.proofs.lemmas.Cmp.{nat_list_cmp_total}
 use Rattle.std.specs.Cmp.Lexicographic.{slice_cmp}
 use Rattle.std.specs.List.{AllByRecursion}
@@ -57,11 +57,15 @@ last_made : (ns : Nodes) (d : Data) (o : Outcome Nodes)
 last_made ns d (Gives ps n) = ap (λ (x : Nodes). Gives x n) (sym (before-last ns d ps))
 last_made ns d (Faults c p) = refl
 
+rest_behind : (vs : List Value) (i : ℕ) (v : Value) → i < length vs → v ≡ get_or vs i v
+    → nodes_of (drop i vs) ≡ node (data_of v) (nodes_of (drop (suc i) vs))
+rest_behind [] i v below at = absurd (omega (arith, below))
+rest_behind (w ∷ vs) zero v below at = ap (λ (x : Value). node (data_of x) (nodes_of vs)) (sym at)
+rest_behind (w ∷ vs) (suc i) v below at = rest_behind vs i v (omega (arith, below)) at
+
 rest_of : (vs : List Value) (i : ℕ) (v : Value) → i < length vs → v ≡ get_or vs i v
     → nodes_of (drop i vs) ≡ node (data_of v) (nodes_of (drop (i + 1) vs))
-rest_of [] i v below at = absurd (omega (arith, below))
-rest_of (w ∷ vs) zero v below at = ap (λ (x : Value). node (data_of x) (nodes_of vs)) (sym at)
-rest_of (w ∷ vs) (suc i) v below at = rest_of vs i v (omega (arith, below)) at
+rest_of vs i v below at = rw (add-one i) (rest_behind vs i v below at)
 
 none_left : (vs : List Value) (i : ℕ) → length vs ≤ i → nodes_of (drop i vs) ≡ no_nodes
 none_left [] zero past = refl
@@ -147,12 +151,16 @@ member_made : (ms : Members) (k : List ℕ) (d : Data) (o : Outcome Members)
 member_made ms k d (Gives ps n) = ap (λ (x : Members). Gives x n) (sym (in_front-last ms k d ps))
 member_made ms k d (Faults c p) = refl
 
+members_behind : (es : List Member) (i : ℕ) (e : Member) → i < length es → e ≡ get_or es i e
+    → members_of (drop i es) ≡ member e.key (data_of e.value) (members_of (drop (suc i) es))
+members_behind [] i e below at = absurd (omega (arith, below))
+members_behind (w ∷ es) zero e below at =
+    ap (λ (x : Member). member x.key (data_of x.value) (members_of es)) (sym at)
+members_behind (w ∷ es) (suc i) e below at = members_behind es i e (omega (arith, below)) at
+
 rest_under : (es : List Member) (i : ℕ) (e : Member) → i < length es → e ≡ get_or es i e
     → members_of (drop i es) ≡ member e.key (data_of e.value) (members_of (drop (i + 1) es))
-rest_under [] i e below at = absurd (omega (arith, below))
-rest_under (w ∷ es) zero e below at =
-    ap (λ (x : Member). member x.key (data_of x.value) (members_of es)) (sym at)
-rest_under (w ∷ es) (suc i) e below at = rest_under es i e (omega (arith, below)) at
+rest_under es i e below at = rw (add-one i) (members_behind es i e below at)
 
 no_more : (es : List Member) (i : ℕ) → length es ≤ i → members_of (drop i es) ≡ no_members
 no_more [] zero past = refl

@@ -44,7 +44,8 @@ fn second_branch(branches: &[Value]) -> Picked
 {
     match branches {
         [_, second, ..] => Picked::Branch(2, second),
-        [] | [_] => Picked::Null,
+        [_] => Picked::Null,
+        [] => Picked::Null,
     }
 }
 

@@ -1,4 +1,4 @@
-use Rattle.std.proofs.Common.{◌≡◌, ◌×◌, ◌+◌, ◌*◌, length}
+use Rattle.std.proofs.Common.{◌≡◌, ◌+◌, ◌*◌, length}
 use Rattle.heat_value.specs.Meaning.{data_of, nodes_of, members_of}
 use Rattle.hot_eval.specs.Answers.{again}
 use Rattle.hot_eval.specs.Choices.{choices}
@@ -34,15 +34,15 @@ invariant-all_but-loop-member l =
     (all_but_outcome (again l.set) (scene_data l.set.scene) l.but (members_of l.member-items) l.fn.sum) l.fields
     (members_of l.member-items) l.member-index l.member-items l.sum
 
-abbrev pub invariant-choice_values-loop : goal.invariant-choice_values-loop
-invariant-choice_values-loop l =
+abbrev pub invariant-choice_values-loop-places : goal.invariant-choice_values-loop-places
+invariant-choice_values-loop-places l =
     IsChoiceWay (again l.set) (data_of l.repetition.template.now)
     (choices_outcome (again l.set) (data_of l.repetition.template.now) (choices (lists_of l.repetition.lists.items))
     l.fn.sum) l.items (choices_from (lists_of l.lists) l.places.items) l.sum
     × ArePlaces (lists_of l.lists) l.places.items
 
-abbrev pub decreases-choice_values-loop : goal.decreases-choice_values-loop
-decreases-choice_values-loop l = length (choices_from (lists_of l.lists) l.places.items)
+abbrev pub decreases-choice_values-loop-places : goal.decreases-choice_values-loop-places
+decreases-choice_values-loop-places l = length (choices_from (lists_of l.lists) l.places.items)
 
 -- ---- the depth that is left, and then the order of calls at one depth
 
