@@ -1,11 +1,14 @@
 -- What the call of a function tells: its answer, or why there is none.
-use Rattle.std.specs.Prelude.{◌≡◌, ◌-◌, ℕ, Option, Some, None, Result, Ok, Err, if◌then◌else◌, ⊤}
-use Rattle.heat_value.specs.Data.{Data}
+use Rattle.std.specs.Prelude.{◌≡◌, ◌-◌, ℕ, Bool, Option, Some, None, Result, Ok, Err, if◌then◌else◌, ⊤}
+use Rattle.heat_value.specs.Data.{Data, null, Nodes, no_nodes}
 use Rattle.heat_value.specs.Meaning.{data_of}
 use Rattle.heat_value.specs.declared.value.Value.{Value}
-use Rattle.hot_eval.specs.Evaluation.{Evaluating, evaluation_within}
-use Rattle.hot_eval.specs.Outcomes.{Outcome, Gives, Faults, is_result, cost_limit}
-use Rattle.hot_eval.specs.Scenes.{scene_data}
+use Rattle.heat_value.specs.declared.path.Step.TheVariants.{Index}
+use Rattle.hot_eval.specs.Evaluation.{Evaluating, evaluation_within, value_outcome, branch_outcome, alone}
+use Rattle.hot_eval.specs.Outcomes.{Outcome, Gives, Faults, made_into, under, is_result, cost_limit}
+use Rattle.hot_eval.specs.Scenes.{SceneData, scene_data}
+use Rattle.hot_eval.specs.declared.evaluation.Picked.{Picked}
+use Rattle.hot_eval.specs.declared.evaluation.Picked.TheVariants as pick
 use Rattle.hot_eval.specs.declared.code.FaultCode.{FaultCode}
 use Rattle.hot_eval.specs.declared.code.FaultCode.TheVariants.{F06}
 use Rattle.hot_eval.specs.declared.evaluation.Setting.{Setting}
@@ -49,3 +52,30 @@ IsMadeOf content (Err e) o = IsFaultIn e o
 -- the evaluation of templates that are replaced at this depth
 abbrev pub again : Setting → Evaluating
 again set = evaluation_within (cost_limit - set.depth.repeats) (scene_data set.scene)
+
+-- ---- functions and branches
+
+-- the call tells the function's own answer, if it has one
+abbrev pub IsOwnAnswer : Option (Result Value FunctionFault) → Option (Result Data FaultCode) → Type 0
+IsOwnAnswer None None = ⊤
+IsOwnAnswer None (Some r) = ⊥
+IsOwnAnswer (Some a) None = ⊥
+IsOwnAnswer (Some a) (Some r) = IsAnswer a r
+
+-- the branch's value, if one was chosen
+abbrev pub branch_nodes : Option Value → Nodes
+branch_nodes None = no_nodes
+branch_nodes (Some v) = alone (data_of v)
+
+-- what comes of a branch that was picked
+abbrev pub picked_outcome : Evaluating → SceneData → Picked → ℕ → Outcome Nodes
+picked_outcome inner scene (pick.Branch i v) spent =
+    made_into alone (under (Index i) (value_outcome inner scene (data_of v.now) spent))
+picked_outcome inner scene pick.Null spent = Gives (alone null) spent
+picked_outcome inner scene pick.None spent = Gives no_nodes spent
+
+-- that is what comes of the branches
+abbrev pub IsPicked : Picked → Option Bool → Nodes → Type 0
+IsPicked p flag branches =
+    (inner : Evaluating) (scene : SceneData) (spent : ℕ)
+    → branch_outcome inner scene flag branches spent ≡ picked_outcome inner scene p spent

@@ -3,6 +3,7 @@ use Rattle.std.specs.Prelude.{ℕ, zero, suc, ◌+◌, List, [], ◌∷◌, Bool
 use Rattle.std.specs.Prelude.{Result, Ok, Err, bytes_eq, codes, if◌then◌else◌}
 use Rattle.heat_value.specs.Data.{Data, null, flag, whole, words, items, fields, Nodes, no_nodes, node}
 use Rattle.heat_value.specs.Data.{Members, no_members, member}
+use Rattle.heat_value.specs.declared.path.Step.{Step}
 use Rattle.heat_value.specs.declared.path.Step.TheVariants.{Key, Index}
 use Rattle.hot_eval.specs.Choices.{Choice, Repetition, repetition}
 use Rattle.hot_eval.specs.Fillings.{filled, literal_path}
@@ -30,16 +31,19 @@ Evaluating = Data → ℕ → Outcome Data
 
 -- ---- repeat
 
--- the replaced template is counted and evaluated; its faults stand where the literal template has the place
-abbrev pub replaced_outcome : Evaluating → Data → Choice → Data → ℕ → Outcome Data
-replaced_outcome again template c r spent =
-    and_then (charged r (size r) spent) (λ r sum.
-    seen_from (λ p. Key (codes "repeat") ∷ Key (codes "template") ∷ literal_path c template p) (again r sum))
+-- the replaced template, counted; F05 where two keys of an object became one
+abbrev pub counted : Option Data → ℕ → Outcome Data
+counted None spent = Faults F05 []
+counted (Some r) spent = charged r (size r) spent
 
--- F05 where two keys of an object become one; else what the replaced template comes to
+-- the place in a repeat's object of what stands at a path of the replaced template
+abbrev pub in_repeat : Choice → Data → List Step → List Step
+in_repeat c template p = Key (codes "repeat") ∷ Key (codes "template") ∷ literal_path c template p
+
+-- what a replaced template comes to; its faults stand where the literal template has the place
 abbrev pub choice_outcome : Evaluating → Data → Choice → Option Data → ℕ → Outcome Data
-choice_outcome again template c None spent = Faults F05 []
-choice_outcome again template c (Some r) spent = replaced_outcome again template c r spent
+choice_outcome again template c r spent =
+    and_then (counted r spent) (λ r sum. seen_from (in_repeat c template) (again r sum))
 
 -- choice by choice
 abbrev pub choices_outcome : Evaluating → Data → List Choice → ℕ → Outcome Nodes
@@ -169,12 +173,7 @@ abbrev mutual
   -- the only member of an object that has just one
   pub sole : Evaluating → SceneData → Members → Option Sole
   sole again scene no_members = None
-  sole again scene (member k d no_members) = Some (sole_of again scene k d)
-  sole again scene (member k d (member l e ms)) = None
-
-  -- what it comes to as an argument
-  pub sole_of : Evaluating → SceneData → List ℕ → Data → Sole
-  sole_of again scene k d = record {
+  sole again scene (member k d no_members) = Some (record {
     key = k;
     given = d;
     each = parts_outcome again scene d;
@@ -182,7 +181,8 @@ abbrev mutual
     chosen_branch = if_outcome again scene d;
     condition = condition_outcome again scene d;
     conditions = condition_parts_outcome again scene d;
-  }
+  })
+  sole again scene (member k d (member l e ms)) = None
 
   -- each part as a value
   pub parts_outcome : Evaluating → SceneData → Data → ℕ → Outcome Data
@@ -262,6 +262,18 @@ abbrev mutual
   conditions_outcome again scene i (node d ns) spent =
       and_then (under (Index i) (condition_outcome again scene d spent)) (λ v sum.
       made_into (node v) (conditions_outcome again scene (i + 1) ns sum))
+
+-- a member that stands alone
+abbrev pub sole_of : Evaluating → SceneData → List ℕ → Data → Sole
+sole_of again scene k d = record {
+  key = k;
+  given = d;
+  each = parts_outcome again scene d;
+  all_but_template = repeat_outcome again scene d;
+  chosen_branch = if_outcome again scene d;
+  condition = condition_outcome again scene d;
+  conditions = condition_parts_outcome again scene d;
+}
 
 -- ---- the whole
 

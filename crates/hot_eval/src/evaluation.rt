@@ -1,10 +1,25 @@
 //! Evaluation: a value with functions in it, part by part, with the sum of costs carried from part to part.
-ghost use Rattle.heat_value.specs.Data.{fields as fields_data};
+ghost use Rattle.std.specs.Prelude.{◌≡◌, ◌<◌, ℕ, Bool, Option, Result, IfOk, IfErr};
+ghost use Rattle.heat_value.specs.Data.{Data, Nodes, fields as fields_data, node};
 ghost use Rattle.heat_value.specs.Meaning.{data_of, nodes_of, members_of};
-ghost use Rattle.hot_eval.specs.Answers.{IsOutcome, again};
-ghost use Rattle.hot_eval.specs.Evaluation.{value_outcome, values_outcome, members_outcome};
-ghost use Rattle.hot_eval.specs.Evaluation.{condition_outcome, conditions_outcome};
+ghost use Rattle.heat_value.specs.declared.path.Step.TheVariants.{Key, Index};
+ghost use Rattle.hot_eval.specs.Answers.{IsOutcome, IsAnswer, IsOwnAnswer, IsPicked, again, branch_nodes};
+ghost use Rattle.hot_eval.specs.Evaluation.{value_outcome, values_outcome, members_outcome, all_but_outcome};
+ghost use Rattle.hot_eval.specs.Evaluation.{condition_outcome, conditions_outcome, chosen_outcome, branch_outcome};
+ghost use Rattle.hot_eval.specs.Evaluation.{call as the_call, argument as the_argument, sole_of};
+ghost use Rattle.hot_eval.specs.Evaluation.{answer_of as the_answer_of, own_answer as the_own_answer};
+ghost use Rattle.hot_eval.specs.Evaluation.{repeated as the_repeated, choice_outcome, choices_outcome};
+ghost use Rattle.hot_eval.specs.Evaluation.{counted, in_repeat};
+ghost use Rattle.hot_eval.specs.Choices.{repetition as the_repetition, choices};
+ghost use Rattle.hot_eval.specs.Fillings.{filled};
+ghost use Rattle.hot_eval.specs.Functions.{only_flag as the_only_flag};
+ghost use Rattle.hot_eval.specs.Lookups.{named_condition as the_named_condition, parameter as the_parameter};
+ghost use Rattle.hot_eval.specs.Outcomes.{Outcome, answered as the_answered, charged, size, under};
+ghost use Rattle.hot_eval.specs.Outcomes.{seen_from, is_result as the_is_result};
+ghost use Rattle.hot_eval.specs.Repeats.{lists_of, AreKeys, choice_of, IsChoice};
 ghost use Rattle.hot_eval.specs.Scenes.{scene_data};
+ghost use Rattle.hot_eval.specs.declared.code.FaultCode.{FaultCode as code_type};
+ghost use Rattle.hot_eval.specs.declared.fault.EvalFault.TheVariants.{Memory};
 
 use crate::choices::{Choice, Repetition, choice_at, first_places, go_on, repetition_in};
 use crate::depth::Depth;
@@ -22,7 +37,7 @@ use crate::{EvalFault, FaultCode, Function, FunctionFault, Scene};
 use heat_value::{Items, MAX_DEPTH, Member, Props, Text, TryCopy, Value};
 use hot_functions::lone;
 use hot_strings::{fits, value_size};
-use std::alloc::Global;
+use std::alloc::{AllocError, Global};
 
 /// What stays the same throughout an evaluation, but for the depth.
 #[derive(Clone, Copy)]
@@ -34,7 +49,12 @@ pub struct Setting<'a> {
 
 impl<'a> Setting<'a> {
     // One level further.
-    fn inside(&self) -> Result<Setting<'a>, EvalFault> {
+    fn inside(&self) -> Result<Setting<'a>, EvalFault>
+        ensures scene { IfOk result (λ s. scene_data s.scene ≡ scene_data self.now.scene) }
+        ensures again { IfOk result (λ s. again s ≡ again self.now) }
+        ensures less { IfOk result (λ s. s.depth.levels < self.now.depth.levels) }
+        ensures err { IfErr result (λ e. e ≡ Memory) }
+    {
         match self.depth.inside() {
             Some(depth) => Ok(Setting {
                 alloc: self.alloc,
@@ -46,7 +66,12 @@ impl<'a> Setting<'a> {
     }
 
     // At the root of a replaced template.
-    fn repeated(&self) -> Result<Setting<'a>, EvalFault> {
+    fn repeated(&self) -> Result<Setting<'a>, EvalFault>
+        ensures again { IfOk result (λ s. (d : Data) (n : ℕ)
+            → again self.now d n ≡ value_outcome (again s) (scene_data s.scene) d n) }
+        ensures less { IfOk result (λ s. s.depth.levels < self.now.depth.levels) }
+        ensures err { IfErr result (λ e. e ≡ Memory) }
+    {
         match self.depth.repeated() {
             Some(depth) => Ok(Setting {
                 alloc: self.alloc,
@@ -79,26 +104,21 @@ fn values(set: &Setting, given: &[Value], sum: &mut Sum) -> Result<Items, EvalFa
 {
     let mut items = Items::new(set.alloc);
     for (place, part) in given.iter().enumerate() {
-        match value(set, part, sum) {
-            Ok(made) => items.push(made)?,
-            Err(fault) => return Err(fault.under_place(place)),
-        }
+        items.push(at_place(place, value(set, part, sum))?)?;
     }
     Ok(items)
 }
 
 /// The parts of an object, which itself is no function.
 #[cycle(evaluation)]
-pub fn members(set: &Setting, given: &[Member], sum: &mut Sum) -> Result<Props, EvalFault>
+pub fn members(set: &Setting, given: &Props, sum: &mut Sum) -> Result<Props, EvalFault>
     ensures { IsOutcome (λ ms. ms) result sum.new
-        (members_outcome (again set.now) (scene_data set.now.scene) (members_of given.now) sum.old) }
+        (members_outcome (again set.now) (scene_data set.now.scene) given.now sum.old) }
 {
     let mut fields = Props::new(set.alloc);
-    for member in given {
-        match value(set, &member.value, sum) {
-            Ok(made) => fields.put(member.key.copy()?, made)?,
-            Err(fault) => return Err(fault.under_key(&member.key)),
-        }
+    for member in given.as_slice() {
+        let made = at_key(&member.key, value(set, &member.value, sum))?;
+        fields.put(member.key.copy()?, made)?;
     }
     Ok(fields)
 }
@@ -115,7 +135,7 @@ fn object(set: &Setting, given: &Props, sum: &mut Sum) -> Result<Value, EvalFaul
             return call(set, function, is_formed(member), member, sum);
         }
     }
-    Ok(Value::Fields(members(set, given.as_slice(), sum)?))
+    Ok(Value::Fields(members(set, given, sum)?))
 }
 
 // The argument is evaluated and counted, and then the function answers; F01 where it is off its form.
@@ -126,105 +146,133 @@ fn call(
     formed: bool,
     member: &Member,
     sum: &mut Sum,
-) -> Result<Value, EvalFault> {
+) -> Result<Value, EvalFault>
+    ensures { IsOutcome data_of result sum.new
+        (the_call (again set.now) (scene_data set.now.scene) function formed
+        (sole_of (again set.now) (scene_data set.now.scene) member.now.key (data_of member.now.value)) sum.old) }
+{
     if !formed {
         return Err(EvalFault::here(set.alloc, FaultCode::F01));
     }
-    match argument(set, function, &member.value, sum) {
-        Ok(made) => {
-            sum.charge(set.alloc, value_size(&made))?;
-            answer_of(set, function, &made, sum)
-        }
-        Err(fault) => Err(fault.under_key(&member.key)),
-    }
+    let made = at_key(&member.key, argument(set, function.manner(), member, sum))?;
+    charge(set.alloc, &made, sum)?;
+    answer_of(set, function, &made, sum)
 }
 
 // An argument with its parts evaluated in their places, and literal ones as written.
 #[cycle(evaluation)]
 fn argument(
     set: &Setting,
-    function: Function,
-    given: &Value,
+    manner: Manner,
+    member: &Member,
     sum: &mut Sum,
-) -> Result<Value, EvalFault> {
-    match (function.manner(), given) {
+) -> Result<Value, EvalFault>
+    ensures { IsOutcome data_of result sum.new
+        (the_argument manner
+        (sole_of (again set.now) (scene_data set.now.scene) member.now.key (data_of member.now.value)) sum.old) }
+{
+    match (manner, &member.value) {
         (Manner::Each, Value::Items(items)) => {
             Ok(Value::Items(values(set, items.as_slice(), sum)?))
         }
-        (Manner::Each, Value::Fields(fields)) => {
-            Ok(Value::Fields(members(set, fields.as_slice(), sum)?))
-        }
+        (Manner::Each, Value::Fields(fields)) => Ok(Value::Fields(members(set, fields, sum)?)),
         (Manner::AllButTemplate, Value::Fields(fields)) => {
-            Ok(Value::Fields(all_but(set, "template", fields.as_slice(), sum)?))
+            Ok(Value::Fields(all_but(set, "template", fields, sum)?))
         }
         (Manner::ChosenBranch, Value::Items(items)) => {
             Ok(Value::Items(chosen(set, items.as_slice(), sum)?))
         }
-        (Manner::Condition, _) => condition(set, given, sum),
+        (Manner::Condition, given) => condition(set, given, sum),
         (Manner::Conditions, Value::Items(items)) => {
             Ok(Value::Items(conditions(set, items.as_slice(), sum)?))
         }
-        _ => Ok(given.copy()?),
+        (_, given) => Ok(given.copy()?),
     }
 }
 
 // The parts of an object but the one under a key.
 #[cycle(evaluation)]
-fn all_but(set: &Setting, but: &str, given: &[Member], sum: &mut Sum) -> Result<Props, EvalFault> {
+fn all_but(set: &Setting, but: &str, given: &Props, sum: &mut Sum) -> Result<Props, EvalFault>
+    ensures { IsOutcome (λ ms. ms) result sum.new
+        (all_but_outcome (again set.now) (scene_data set.now.scene) but.now given.now sum.old) }
+{
     let mut fields = Props::new(set.alloc);
-    for member in given {
-        if member.key.as_str() == but {
-            fields.put(member.key.copy()?, member.value.copy()?)?;
-            continue;
-        }
-        match value(set, &member.value, sum) {
-            Ok(made) => fields.put(member.key.copy()?, made)?,
-            Err(fault) => return Err(fault.under_key(&member.key)),
-        }
+    for member in given.as_slice() {
+        let made = if member.key.as_str() == but {
+            member.value.copy()?
+        } else {
+            at_key(&member.key, value(set, &member.value, sum))?
+        };
+        fields.put(member.key.copy()?, made)?;
     }
     Ok(fields)
 }
 
 // The condition's value, and behind it that of the branch which it chooses.
 #[cycle(evaluation)]
-fn chosen(set: &Setting, given: &[Value], sum: &mut Sum) -> Result<Items, EvalFault> {
-    let mut items = Items::new(set.alloc);
-    let [first, branches @ ..] = given else {
-        return Ok(items);
-    };
-    let made = match condition(set, first, sum) {
-        Ok(made) => made,
-        Err(fault) => return Err(fault.under_place(0)),
-    };
-    let flag = flag_in(&made);
-    items.push(made)?;
-    if let Some(made) = branch_value(set, flag, branches, sum)? {
-        items.push(made)?;
+fn chosen(set: &Setting, given: &[Value], sum: &mut Sum) -> Result<Items, EvalFault>
+    ensures { IsOutcome (λ ns. ns) result sum.new
+        (chosen_outcome (again set.now) (scene_data set.now.scene) (nodes_of given.now) sum.old) }
+{
+    match given {
+        [] => Ok(Items::new(set.alloc)),
+        [first, branches @ ..] => {
+            let made = at_place(0, condition(set, first, sum))?;
+            let chosen = branch_value(set, &pick(flag_in(&made), branches), sum)?;
+            Ok(condition_and(set.alloc, made, chosen)?)
+        }
     }
-    Ok(items)
+}
+
+/// A branch that a condition picks.
+#[derive(Clone, Copy)]
+pub enum Picked<'a> {
+    /// The one at this place.
+    Branch(usize, &'a Value),
+    /// Null, in place of one that isn't there.
+    Null,
+    /// None, since the condition has no value.
+    None,
 }
 
 // The first branch where the condition is true, the second or null where it is false, none where it has
 // no value.
-#[cycle(evaluation)]
-fn branch_value(
-    set: &Setting,
-    flag: Option<bool>,
-    branches: &[Value],
-    sum: &mut Sum,
-) -> Result<Option<Value>, EvalFault> {
+fn pick<'a>(flag: Option<bool>, branches: &'a [Value]) -> Picked<'a>
+    ensures { IsPicked result flag (nodes_of branches.now) }
+{
     match (flag, branches) {
-        (Some(true), [first, ..]) => match value(set, first, sum) {
-            Ok(made) => Ok(Some(made)),
-            Err(fault) => Err(fault.under_place(1)),
-        },
-        (Some(false), [_, second, ..]) => match value(set, second, sum) {
-            Ok(made) => Ok(Some(made)),
-            Err(fault) => Err(fault.under_place(2)),
-        },
-        (Some(false), _) => Ok(Some(Value::Null)),
-        _ => Ok(None),
+        (Some(true), [first, ..]) => Picked::Branch(1, first),
+        (Some(false), [_, second, ..]) => Picked::Branch(2, second),
+        (Some(false), [] | [_]) => Picked::Null,
+        (Some(true), []) => Picked::None,
+        (None, _) => Picked::None,
     }
+}
+
+// The value of the branch that was picked.
+#[cycle(evaluation)]
+fn branch_value(set: &Setting, picked: &Picked, sum: &mut Sum) -> Result<Option<Value>, EvalFault>
+    ensures { (flag : Option Bool) (branches : Nodes) → IsPicked picked.now flag branches
+        → IsOutcome branch_nodes result sum.new
+        (branch_outcome (again set.now) (scene_data set.now.scene) flag branches sum.old) }
+{
+    match picked {
+        Picked::Branch(place, branch) => Ok(Some(at_place(*place, value(set, branch, sum))?)),
+        Picked::Null => Ok(Some(Value::Null)),
+        Picked::None => Ok(None),
+    }
+}
+
+// The condition's value, and the branch's if there is one.
+fn condition_and(alloc: Global, flag: Value, branch: Option<Value>) -> Result<Items, AllocError>
+    ensures { IfOk result (λ ns. ns ≡ node (data_of flag) (branch_nodes branch)) }
+{
+    let mut items = Items::new(alloc);
+    items.push(flag)?;
+    if let Some(branch) = branch {
+        items.push(branch)?;
+    }
+    Ok(items)
 }
 
 /// A flag is itself, a text the condition of that name, an object with one key the function of conditions
@@ -242,7 +290,9 @@ pub fn condition(set: &Setting, given: &Value, sum: &mut Sum) -> Result<Value, E
 }
 
 // The value of the condition of that name; the text as written where there is none.
-fn named_condition(scene: &Scene, name: &Text) -> Result<Value, EvalFault> {
+fn named_condition(scene: &Scene, name: &Text) -> Result<Value, AllocError>
+    ensures { IfOk result (λ v. data_of v ≡ the_named_condition (scene_data scene.now) name.now) }
+{
     match scene.condition_named(name) {
         Some(flag) => Ok(Value::Flag(flag)),
         None => Ok(Value::Words(name.copy()?)),
@@ -271,10 +321,7 @@ fn conditions(set: &Setting, given: &[Value], sum: &mut Sum) -> Result<Items, Ev
 {
     let mut items = Items::new(set.alloc);
     for (place, part) in given.iter().enumerate() {
-        match condition(set, part, sum) {
-            Ok(made) => items.push(made)?,
-            Err(fault) => return Err(fault.under_place(place)),
-        }
+        items.push(at_place(place, condition(set, part, sum))?)?;
     }
     Ok(items)
 }
@@ -286,48 +333,60 @@ fn answer_of(
     function: Function,
     given: &Value,
     sum: &mut Sum,
-) -> Result<Value, EvalFault> {
-    match function {
-        Function::Repeat => repeated(set, given, sum),
-        _ => answered(
-            set.alloc,
-            own_answer(set.alloc, &set.scene, function, given),
-            sum,
-        ),
+) -> Result<Value, EvalFault>
+    ensures { IsOutcome data_of result sum.new
+        (the_answer_of (again set.now) (scene_data set.now.scene) function (data_of given.now) sum.old) }
+{
+    match own_answer(set.alloc, &set.scene, function, given) {
+        Some(answer) => answered(set.alloc, answer, sum),
+        None => repeated(set, given, sum),
     }
 }
 
-// The answer of a function that evaluates nothing more.
+// The answer of a function that evaluates nothing more; none for a repeat.
 fn own_answer(
     alloc: Global,
     scene: &Scene,
     function: Function,
     given: &Value,
-) -> Result<Value, FunctionFault> {
+) -> Option<Result<Value, FunctionFault>>
+    ensures { IsOwnAnswer result (the_own_answer (scene_data scene.now) function (data_of given.now)) }
+{
     match function {
-        Function::Parameter => parameter(alloc, scene, given),
-        Function::Resource => resource(scene, given),
-        Function::Attribute => attribute(alloc, scene, given),
-        Function::File => file(scene, given),
-        Function::Join => list_join(alloc, given),
-        Function::Split => str_split(alloc, given),
-        Function::Replace => str_replace(alloc, false, given),
-        Function::ReplaceStrictly => str_replace(alloc, true, given),
-        Function::Digest => digest(alloc, given),
-        Function::MergeMaps => map_merge(alloc, given),
-        Function::ReplaceInMap => map_replace(alloc, given),
-        Function::Concat => list_concat(alloc, given),
-        Function::ConcatUnique => list_concat_unique(alloc, given),
-        Function::Filter => filter(alloc, given),
-        Function::Contains => contains(given),
-        Function::If => branch(given),
-        Function::FlagParameter => only_flag(parameter(alloc, scene, given)?),
-        Function::Equals => equals(given),
-        Function::Not => negated(given),
-        Function::And => conjoined(given),
-        Function::Or => disjoined(given),
-        Function::Repeat => unreachable!(),
+        Function::Parameter => Some(parameter(alloc, scene, given)),
+        Function::Resource => Some(resource(scene, given)),
+        Function::Attribute => Some(attribute(alloc, scene, given)),
+        Function::File => Some(file(scene, given)),
+        Function::Join => Some(list_join(alloc, given)),
+        Function::Split => Some(str_split(alloc, given)),
+        Function::Replace => Some(str_replace(alloc, false, given)),
+        Function::ReplaceStrictly => Some(str_replace(alloc, true, given)),
+        Function::Digest => Some(digest(alloc, given)),
+        Function::MergeMaps => Some(map_merge(alloc, given)),
+        Function::ReplaceInMap => Some(map_replace(alloc, given)),
+        Function::Concat => Some(list_concat(alloc, given)),
+        Function::ConcatUnique => Some(list_concat_unique(alloc, given)),
+        Function::Filter => Some(filter(alloc, given)),
+        Function::Contains => Some(contains(given)),
+        Function::If => Some(branch(given)),
+        Function::FlagParameter => Some(flag_parameter(alloc, scene, given)),
+        Function::Equals => Some(equals(given)),
+        Function::Not => Some(negated(given)),
+        Function::And => Some(conjoined(given)),
+        Function::Or => Some(disjoined(given)),
+        Function::Repeat => None,
     }
+}
+
+// get_param as a condition.
+fn flag_parameter(
+    alloc: Global,
+    scene: &Scene,
+    given: &Value,
+) -> Result<Value, FunctionFault>
+    ensures { IsAnswer result (the_only_flag (the_parameter (scene_data scene.now) (data_of given.now))) }
+{
+    only_flag(parameter(alloc, scene, given)?)
 }
 
 // Its own fault; F06 where the result is too large; and then the result's size is added.
@@ -335,22 +394,41 @@ fn answered(
     alloc: Global,
     answer: Result<Value, FunctionFault>,
     sum: &mut Sum,
-) -> Result<Value, EvalFault> {
+) -> Result<Value, EvalFault>
+    ensures { (r : Result Data code_type) → IsAnswer answer r → IsOutcome data_of result sum.new (the_answered r sum.old) }
+{
     match answer {
         Ok(made) => {
-            if !fits(&made) || !made.is_within(MAX_DEPTH) {
+            if !is_result(&made) {
                 return Err(EvalFault::here(alloc, FaultCode::F06));
             }
-            sum.charge(alloc, value_size(&made))?;
+            charge(alloc, &made, sum)?;
             Ok(made)
         }
         Err(fault) => Err(EvalFault::of_function(alloc, fault)),
     }
 }
 
+// Whether it has the size and the depth that results may have.
+fn is_result(made: &Value) -> bool
+    ensures { result ≡ the_is_result (data_of made.now) }
+{
+    fits(made) && made.is_within(MAX_DEPTH)
+}
+
+// Adds the size of a value.
+fn charge(alloc: Global, made: &Value, sum: &mut Sum) -> Result<(), EvalFault>
+    ensures { IsOutcome (λ u. u) result sum.new (charged tt (size (data_of made.now)) sum.old) }
+{
+    sum.charge(alloc, value_size(made))
+}
+
 // A repeat: its own faults come before all choices.
 #[cycle(evaluation)]
-fn repeated(set: &Setting, given: &Value, sum: &mut Sum) -> Result<Value, EvalFault> {
+fn repeated(set: &Setting, given: &Value, sum: &mut Sum) -> Result<Value, EvalFault>
+    ensures { IsOutcome data_of result sum.new
+        (the_repeated (again set.now) (the_repetition (data_of given.now)) sum.old) }
+{
     match repetition_in(set.alloc, given) {
         Ok(repetition) => {
             let items = choice_values(set, &repetition, sum)?;
@@ -366,7 +444,12 @@ fn choice_values(
     set: &Setting,
     repetition: &Repetition,
     sum: &mut Sum,
-) -> Result<Items, EvalFault> {
+) -> Result<Items, EvalFault>
+    requires { AreKeys (lists_of repetition.now.lists.items) }
+    ensures { IsOutcome (λ ns. ns) result sum.new
+        (choices_outcome (again set.now) (data_of repetition.now.template.now)
+        (choices (lists_of repetition.now.lists.items)) sum.old) }
+{
     let mut items = Items::new(set.alloc);
     let lists = repetition.lists.as_slice();
     let Some(mut places) = first_places(set.alloc, lists)? else {
@@ -388,26 +471,80 @@ fn choice_value(
     template: &Value,
     choice: &Choice,
     sum: &mut Sum,
-) -> Result<Value, EvalFault> {
+) -> Result<Value, EvalFault>
+    requires { IsChoice choice.now }
+    ensures { IsOutcome data_of result sum.new
+        (choice_outcome (again set.now) (data_of template.now) (choice_of choice.now)
+        (filled (choice_of choice.now) (data_of template.now)) sum.old) }
+{
+    let replaced = replaced_template(set.alloc, template, choice, sum)?;
+    let made = value(&set.repeated()?, &replaced, sum);
+    in_template(set.alloc, template, choice, made)
+}
+
+// The replaced template, once it is counted; F05 where two keys of an object become one.
+fn replaced_template(
+    alloc: Global,
+    template: &Value,
+    choice: &Choice,
+    sum: &mut Sum,
+) -> Result<Value, EvalFault>
+    requires { IsChoice choice.now }
+    ensures { IsOutcome data_of result sum.new
+        (counted (filled (choice_of choice.now) (data_of template.now)) sum.old) }
+{
     let mut room = Room::new(sum.left());
-    let Filled::Template(replaced) = fill(set.alloc, choice, template, &mut room)? else {
-        return Err(EvalFault::here(set.alloc, FaultCode::F05));
+    let Filled::Template(replaced) = fill(alloc, choice, template, &mut room)? else {
+        return Err(EvalFault::here(alloc, FaultCode::F05));
     };
     if room.is_used_up() {
-        return Err(EvalFault::here(set.alloc, FaultCode::F07));
+        return Err(EvalFault::here(alloc, FaultCode::F07));
     }
-    sum.charge(set.alloc, value_size(&replaced))?;
-    match value(&set.repeated()?, &replaced, sum) {
+    charge(alloc, &replaced, sum)?;
+    Ok(replaced)
+}
+
+// ---- where faults stand
+
+// A part of a list, seen from the list.
+fn at_place(place: usize, made: Result<Value, EvalFault>) -> Result<Value, EvalFault>
+    ensures { (o : Outcome Data) (sum : ℕ) → IsOutcome data_of made sum o
+        → IsOutcome data_of result sum (under (Index place) o) }
+{
+    match made {
         Ok(made) => Ok(made),
-        Err(fault) => in_template(
-            set.alloc,
-            at_literal_place(set.alloc, choice, template, fault),
-        ),
+        Err(fault) => Err(fault.under_place(place)),
     }
 }
 
-// The fault of a template, seen from the object of its repeat.
-fn in_template(alloc: Global, fault: EvalFault) -> Result<Value, EvalFault> {
-    let fault = fault.under_key(&Text::from_str(alloc, "template")?);
-    Err(fault.under_key(&Text::from_str(alloc, "repeat")?))
+// A part of an object, seen from the object.
+fn at_key(key: &Text, made: Result<Value, EvalFault>) -> Result<Value, EvalFault>
+    ensures { (o : Outcome Data) (sum : ℕ) → IsOutcome data_of made sum o
+        → IsOutcome data_of result sum (under (Key key.now) o) }
+{
+    match made {
+        Ok(made) => Ok(made),
+        Err(fault) => Err(fault.under_key(key)),
+    }
+}
+
+// What a replaced template comes to, seen from the object of its repeat.
+fn in_template(
+    alloc: Global,
+    template: &Value,
+    choice: &Choice,
+    made: Result<Value, EvalFault>,
+) -> Result<Value, EvalFault>
+    requires { IsChoice choice.now }
+    ensures { (o : Outcome Data) (sum : ℕ) → IsOutcome data_of made sum o
+        → IsOutcome data_of result sum (seen_from (in_repeat (choice_of choice.now) (data_of template.now)) o) }
+{
+    match made {
+        Ok(made) => Ok(made),
+        Err(fault) => {
+            let fault = at_literal_place(alloc, choice, template, fault);
+            let fault = fault.under_key(&Text::from_str(alloc, "template")?);
+            Err(fault.under_key(&Text::from_str(alloc, "repeat")?))
+        }
+    }
 }

@@ -1,15 +1,20 @@
 //! A value, or the properties of an item, with the facts that are known.
+ghost use Rattle.std.specs.Prelude.{◌≡◌, ◌++◌};
+ghost use Rattle.heat_value.specs.Data.{Members};
 ghost use Rattle.heat_value.specs.Meaning.{data_of};
-ghost use Rattle.hot_eval.specs.Answers.{IsMadeOf};
+ghost use Rattle.hot_eval.specs.Answers.{IsMadeOf, again};
+ghost use Rattle.hot_eval.specs.Evaluation.{evaluation};
+ghost use Rattle.hot_eval.specs.Outcomes.{Outcome, seen_from};
 ghost use Rattle.hot_eval.specs.Resolutions.{eval as the_eval, resolve as the_resolve};
-ghost use Rattle.hot_eval.specs.Scenes.{scene_of};
+ghost use Rattle.hot_eval.specs.Resolutions.{properties as the_properties, properties_path, unless_large};
+ghost use Rattle.hot_eval.specs.Scenes.{scene_of, scene_data};
 
 use crate::depth::Depth;
 use crate::evaluation::{Setting, members, value};
 use crate::sum::Sum;
 use crate::{EvalFault, FaultCode, Scene};
 use heat_plan::{Item, KnownFacts, Plan, Properties, ResName};
-use heat_value::{Props, Text, Value};
+use heat_value::{Text, Value};
 use hot_strings::map_fits;
 use std::alloc::Global;
 
@@ -36,15 +41,34 @@ pub fn resolve(
 ) -> Result<Properties, EvalFault>
     ensures { IsMadeOf (λ ms. ms) result (the_resolve plan.now item.now known.now) }
 {
-    let given = item.props.as_props().as_slice();
-    match members(&setting(alloc, plan, known), given, &mut Sum::new()) {
-        Ok(props) => as_properties(alloc, &item.name, props),
-        Err(fault) => of_item(alloc, &item.name, fault),
+    let made = properties(alloc, plan, &item.props, known);
+    of_item(alloc, &item.name, made)
+}
+
+// Each property, from no cost on; F06 where the whole map is too large.
+fn properties(
+    alloc: Global,
+    plan: &Plan,
+    given: &Properties,
+    known: &[KnownFacts],
+) -> Result<Properties, EvalFault>
+    ensures { IsMadeOf (λ ms. ms) result (unless_large (the_properties (scene_of plan.now known.now) given.now)) }
+{
+    let props = members(&setting(alloc, plan, known), given.as_props(), &mut Sum::new())?;
+    if !map_fits(&props) {
+        return Err(EvalFault::here(alloc, FaultCode::F06));
+    }
+    match Properties::from_props(props) {
+        Some(props) => Ok(props),
+        None => Err(EvalFault::here(alloc, FaultCode::F06)),
     }
 }
 
-/// An evaluation's setting at the root of a value.
-pub fn setting<'a>(alloc: Global, plan: &'a Plan, known: &'a [KnownFacts]) -> Setting<'a> {
+// An evaluation's setting at the root of a value.
+fn setting<'a>(alloc: Global, plan: &'a Plan, known: &'a [KnownFacts]) -> Setting<'a>
+    ensures scene { scene_data result.scene ≡ scene_of plan.now known.now }
+    ensures again { again result ≡ evaluation (scene_of plan.now known.now) }
+{
     Setting {
         alloc,
         scene: Scene::of_plan(plan, known),
@@ -52,20 +76,21 @@ pub fn setting<'a>(alloc: Global, plan: &'a Plan, known: &'a [KnownFacts]) -> Se
     }
 }
 
-// The map, where it isn't too large.
-fn as_properties(alloc: Global, name: &ResName, props: Props) -> Result<Properties, EvalFault> {
-    if !map_fits(&props) {
-        return of_item(alloc, name, EvalFault::here(alloc, FaultCode::F06));
+// What an item's properties come to, seen from the template's root.
+fn of_item(
+    alloc: Global,
+    name: &ResName,
+    made: Result<Properties, EvalFault>,
+) -> Result<Properties, EvalFault>
+    ensures { (o : Outcome Members) → IsMadeOf (λ ms. ms) made o
+        → IsMadeOf (λ ms. ms) result (seen_from (λ p. properties_path name.now ++ p) o) }
+{
+    match made {
+        Ok(props) => Ok(props),
+        Err(fault) => {
+            let fault = fault.under_key(&Text::from_str(alloc, "properties")?);
+            let fault = fault.under_key(&Text::from_str(alloc, name.as_str())?);
+            Err(fault.under_key(&Text::from_str(alloc, "resources")?))
+        }
     }
-    match Properties::from_props(props) {
-        Some(props) => Ok(props),
-        None => of_item(alloc, name, EvalFault::here(alloc, FaultCode::F06)),
-    }
-}
-
-// The fault, seen from the template's root.
-fn of_item(alloc: Global, name: &ResName, fault: EvalFault) -> Result<Properties, EvalFault> {
-    let fault = fault.under_key(&Text::from_str(alloc, "properties")?);
-    let fault = fault.under_key(&Text::from_str(alloc, name.as_str())?);
-    Err(fault.under_key(&Text::from_str(alloc, "resources")?))
 }
