@@ -5,6 +5,10 @@ pub mod Joins
 pub mod Contained
 pub mod Renames
 pub mod Replacements
+pub mod Turns
+pub mod Picks
+pub mod Rooms
+pub mod Fills
 pub mod Finds
 pub mod Weights
 pub mod Kept

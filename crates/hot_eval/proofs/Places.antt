@@ -1,5 +1,8 @@
 -- What is left of a list from a place on.
 use Rattle.std.proofs.Common.{◌≡◌, ◌<◌, ◌≤◌, ◌+◌, ℕ, List, [], ◌∷◌, length, get_or, drop, map, ap, sym, ◌∙◌}
+use Rattle.std.proofs.Common.{zero, suc, Option, Some, None, option_map, option_and_then, refl, arith}
+use Rattle.std.specs.Slice.{IsItemAt}
+use Rattle.hot_eval.specs.Lookups.{node_at}
 use Rattle.std.proofs.lemmas.List.{drop_more, drop_all}
 use denote.Ref.{Bor}
 use Rattle.heat_value.specs.Data.{Nodes, no_nodes, node, no_members, member}
@@ -36,3 +39,27 @@ refs_at vs n v d below at = ap behind (rest_at vs n v d below at)
 
 pub refs_end : (vs : List (Bor Value)) (n : ℕ) → length vs ≤ n → behind (drop n vs) ≡ no_nodes
 refs_end vs n above = ap behind (drop_all n vs above)
+
+-- ---- the value at a place
+
+pub node_there : (vs : List Value) (n : ℕ) (v : Value) → n < length vs → v ≡ get_or vs n v
+    → Some (data_of v) ≡ node_at (nodes_of vs) n
+node_there [] n v below at = absurd (omega (arith, below))
+node_there (w ∷ vs) zero v below at = ap (λ (x : Value). Some (data_of x)) at
+node_there (w ∷ vs) (suc n) v below at = node_there vs n v (omega (arith, below)) at
+
+pub node_past : (vs : List Value) (n : ℕ) → length vs ≤ n → None ≡ node_at (nodes_of vs) n
+node_past [] n above = refl
+node_past (v ∷ vs) zero above = absurd (omega (arith, above))
+node_past (v ∷ vs) (suc n) above = node_past vs n (omega (arith, above))
+
+-- what `get` answers at a place
+pub got_node : (vs : List Value) (n : ℕ) (r : Option (Bor Value)) → IsItemAt vs n r
+    → option_map (λ (v : Bor Value). data_of v.now) r ≡ node_at (nodes_of vs) n
+got_node vs n None h = node_past vs n h.3
+got_node vs n (Some v) h = node_there vs n v.now h.3.0 h.1
+
+-- what is at a place that is named
+pub at_named : (vs : List Value) (o : Option ℕ) (n : ℕ) (r : Option (Bor Value)) → o ≡ Some n → IsItemAt vs n r
+    → option_map (λ (v : Bor Value). data_of v.now) r ≡ option_and_then (node_at (nodes_of vs)) o
+at_named vs o n r named got = got_node vs n r got ∙ ap (option_and_then (node_at (nodes_of vs))) (sym named)

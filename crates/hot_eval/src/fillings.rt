@@ -73,18 +73,8 @@ impl Room {
         ensures room { self.new ≡ room_behind self.old (size (data_of value.now)) }
         ensures some { result ≡ is_some self.new }
     {
-        let bytes = value_size(value);
-        match self.left {
-            Some(left) => {
-                self.left = if bytes <= left {
-                    Some(left - bytes)
-                } else {
-                    None
-                };
-                bytes <= left
-            }
-            None => false,
-        }
+        self.left = left_behind(self.left, value_size(value));
+        self.left.is_some()
     }
 
     // Uses it up.
@@ -92,6 +82,16 @@ impl Room {
         ensures { self.new ≡ None }
     {
         self.left = None;
+    }
+}
+
+// What is left behind so many bytes.
+fn left_behind(left: Option<usize>, bytes: usize) -> Option<usize>
+    ensures { result ≡ room_behind left bytes }
+{
+    match left {
+        Some(left) => if bytes <= left { Some(left - bytes) } else { None },
+        None => None,
     }
 }
 
@@ -240,8 +240,8 @@ fn item_of<'a>(choice: &Choice<'a>, words: &Text) -> Option<&'a Value>
     requires { IsChoice choice.now }
     ensures { option_map (λ v. data_of v.now) result ≡ the_item_of (choice_of choice.now) words.now }
 {
-    for at in 0..choice.texts.len() {
-        if choice.texts[at].0 == *words {
+    for (at, text) in choice.texts.iter().enumerate() {
+        if text.0 == *words {
             return Some(choice.items[at]);
         }
     }

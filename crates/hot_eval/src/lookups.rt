@@ -1,5 +1,5 @@
 //! What functions read: parameters, facts of resources, files, and the values at a path in them.
-ghost use Rattle.std.specs.Prelude.{◌≡◌, IfOk, Ok, option_map, option_and_then, unwrap_or};
+ghost use Rattle.std.specs.Prelude.{◌≡◌, IfOk, MatchOption, Ok, Some, None, option_map, option_and_then, unwrap_or};
 ghost use Rattle.heat_value.specs.Data.{lookup, null};
 ghost use Rattle.heat_value.specs.Meaning.{data_of, nodes_of};
 ghost use Rattle.hot_eval.specs.Answers.{IsAnswer};
@@ -8,6 +8,7 @@ ghost use Rattle.hot_eval.specs.Lookups.{attribute as the_attribute, file as the
 ghost use Rattle.hot_eval.specs.Lookups.{parameter_at as the_parameter_at, attributes_at as the_attributes_at};
 ghost use Rattle.hot_eval.specs.Lookups.{attribute_of as the_attribute_of, attribute_at as the_attribute_at};
 ghost use Rattle.hot_eval.specs.Lookups.{step_into as the_step_into, step_into_list as the_step_into_list};
+ghost use Rattle.hot_eval.specs.Lookups.{place_in as the_place_in};
 ghost use Rattle.hot_eval.specs.Scenes.{scene_data};
 ghost use Rattle.hot_eval.specs.Sorts.{text_in as the_text_in};
 
@@ -178,11 +179,19 @@ fn step_into_list<'a>(values: &'a [Value], step: &Value) -> Option<&'a Value>
     ensures { option_map (λ v. data_of v.now) result
         ≡ the_step_into_list (nodes_of values.now) (data_of step.now) }
 {
+    match place_in(step) {
+        Some(at) => values.get(at),
+        None => None,
+    }
+}
+
+// The place that a step names.
+fn place_in(step: &Value) -> Option<usize>
+    ensures { MatchOption result (the_place_in (data_of step.now) ≡ None)
+        (λ at. the_place_in (data_of step.now) ≡ Some at) }
+{
     match step {
-        Value::Whole(whole) => match usize::try_from(*whole) {
-            Ok(at) => values.get(at),
-            Err(_) => None,
-        },
+        Value::Whole(whole) => usize::try_from(*whole).ok(),
         _ => None,
     }
 }

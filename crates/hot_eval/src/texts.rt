@@ -8,6 +8,7 @@ ghost use Rattle.hot_eval.specs.Sorts.{wanted as wanted_of};
 ghost use Rattle.hot_eval.specs.Texts.{list_join as the_list_join, join_with as the_join_with};
 ghost use Rattle.hot_eval.specs.Texts.{texts_of as the_texts_of, str_split as the_str_split};
 ghost use Rattle.hot_eval.specs.Texts.{split_with as the_split_with, split_text as the_split_text};
+ghost use Rattle.hot_eval.specs.Texts.{split_asked, asked_in};
 ghost use Rattle.hot_eval.specs.Texts.{str_replace as the_str_replace, put_into as the_put_into};
 ghost use Rattle.hot_eval.specs.Texts.{params_of as the_params_of, digest as the_digest};
 ghost use Rattle.hot_eval.specs.Texts.{digest_with as the_digest_with};
@@ -73,9 +74,21 @@ fn split_text(
     ensures { IsAnswer result (the_split_text delimiter.now (data_of text.now, nodes_of index.now)) }
 {
     let text = wanted(text_taken(alloc, text)?)?;
+    split_by(alloc, delimiter, &text, index)
+}
+
+fn split_by(
+    alloc: Global,
+    delimiter: &Text,
+    text: &Text,
+    index: &[Value],
+) -> Result<Value, FunctionFault>
+    ensures { IsAnswer result
+        (split_asked (asked_in (nodes_of index.now)) delimiter.now text.now) }
+{
     match index {
-        [] => Ok(split(alloc, delimiter, &text, None)?),
-        [index, ..] => Ok(split(alloc, delimiter, &text, Some(index))?),
+        [] => Ok(split(alloc, delimiter, text, None)?),
+        [index, ..] => Ok(split(alloc, delimiter, text, Some(index))?),
     }
 }
 
