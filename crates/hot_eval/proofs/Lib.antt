@@ -14,3 +14,4 @@ pub mod Weights
 pub mod Kept
 pub mod Steps
 pub mod Made
+pub mod Calls
