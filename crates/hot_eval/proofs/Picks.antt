@@ -2,7 +2,7 @@
 use Rattle.std.proofs.Common.{◌≡◌, ◌≢◌, ◌∙◌, ◌<◌, ◌≤◌, ◌+◌, ◌||◌, ℕ, zero, suc, List, [], ◌∷◌, ◌++◌, Bool, true, false}
 use Rattle.std.proofs.Common.{Option, Some, None, option_map, option_and_then, length, get_or, take, drop, map, refl, ap, sym}
 use Rattle.std.proofs.Common.{subst, arith, append_assoc}
-use Rattle.std.proofs.lemmas.List.{map-append, append-nil, length-append}
+use Rattle.std.proofs.lemmas.List.{map-append, append-nil, length-append, drop_all}
 use Rattle.std.proofs.lemmas.List.Elements.{All-nil, All-cons}
 use Rattle.std.proofs.lemmas.Map.Text.{is_eq-slice_cmp}
 use Rattle.std.proofs.lemmas.Slice.Eq.{bytes_eq-Decides}
@@ -166,3 +166,10 @@ full_texts (l ∷ ls) [] h = All-nil (λ q. q.0 ≢ [])
 full_texts (l ∷ ls) (p ∷ ps) h =
     All-cons (λ q. q.0 ≢ []) (l.0, coerced (unwrap_or (node_at l.1 p) null)) (texts_for (choice_at ls ps)) h.0
     (full_texts ls ps h.2)
+
+-- the whole choice
+pub making_all : (ls : Lists) (ps : List ℕ) (n : ℕ) (texts : Params) (vs : List (Bor Value)) → length ls ≤ n
+    → IsMaking ls ps n texts vs → with_items texts vs ≡ choice_at ls ps
+making_all ls ps n texts vs above h =
+    sym (append-nil (with_items texts vs))
+    ∙ (ap (λ x. with_items texts vs ++ choice_at x (drop n ps)) (sym (drop_all n ls above)) ∙ h.whole)

@@ -1,5 +1,5 @@
 //! The literal template of a repeat with a choice's items in place of the keys, and where its parts stood.
-ghost use Rattle.std.specs.Prelude.{◌≡◌, ◌<◌, ◌-◌, ◌^◌, ◌≤◌, IfOk, MatchOption, Some, None, is_none, is_some};
+ghost use Rattle.std.specs.Prelude.{◌≡◌, ◌<◌, ◌-◌, ◌^◌, ◌≤◌, ◌≢◌, IfOk, OnOk, MatchOption, Some, None, is_none, is_some};
 ghost use Rattle.std.specs.Prelude.{option_map, unwrap_or};
 ghost use Rattle.heat_value.specs.Data.{words as words_data, items as items_data, fields as fields_data};
 ghost use Rattle.heat_value.specs.Meaning.{data_of, nodes_of, members_of};
@@ -131,6 +131,7 @@ fn value_filled(
 }
 
 #[cycle(filling)]
+#[tactic(auto, using(crate::proofs::Weights::for_walks))]
 fn items_filled(
     alloc: Global,
     choice: &Choice,
@@ -153,6 +154,7 @@ fn items_filled(
 }
 
 #[cycle(filling)]
+#[tactic(auto, using(crate::proofs::Weights::for_walks))]
 fn fields_filled(
     alloc: Global,
     choice: &Choice,
@@ -276,8 +278,18 @@ fn text_filled(
     }
     match replace_within(alloc, words, choice.texts.as_slice(), limit) {
         Ok(text) => Ok(Some(text)),
-        Err(StringFault::Memory) => Err(AllocError),
-        Err(StringFault::F02 | StringFault::F03 | StringFault::F04 | StringFault::F06) => Ok(None),
+        Err(fault) => none_for(fault),
+    }
+}
+
+// No text, where there was memory.
+fn none_for(fault: StringFault) -> Result<Option<Text>, AllocError>
+    ensures none { IfOk result (λ o. o ≡ None) }
+    ensures cause { OnOk result (fault ≢ StringFault.Memory) }
+{
+    match fault {
+        StringFault::F02 | StringFault::F03 | StringFault::F04 | StringFault::F06 => Ok(None),
+        StringFault::Memory => Err(AllocError),
     }
 }
 
