@@ -73,9 +73,10 @@ module _ (named : List (List ℕ)) (old new : BTreeSet (List ℕ)) (x : List ℕ
       (ap (λ n. is_eq (slice_cmp nat_cmp x n)) (sym (only x name h)) ∙ itself x)
 
   pub kept_in : AreResNamesOf (named ++ x ∷ []) new.keys
-  kept_in name =
-      (λ h. forth name (is_eq (slice_cmp nat_cmp x name)) refl (sym (put.0 name) ∙ (stands new name).1 h),
-      λ h. (stands new name).0 (put.0 name ∙ back name h.1 (Contains-append_cases named (x ∷ []) name h.0)))
+  kept_in name = (
+    λ h. forth name (is_eq (slice_cmp nat_cmp x name)) refl (sym (put.0 name) ∙ (stands new name).1 h),
+    λ h. (stands new name).0 (put.0 name ∙ back name h.1 (Contains-append_cases named (x ∷ []) name h.0)),
+  )
 
 -- ---- one name more
 

@@ -14,3 +14,6 @@ pub mod Takes
 pub mod Finds
 pub mod Weights
 pub mod Kept
+pub mod Steps
+pub mod Made
+pub mod Calls

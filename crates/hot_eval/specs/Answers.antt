@@ -7,11 +7,11 @@ use Rattle.heat_value.specs.declared.path.Step.TheVariants.{Index}
 use Rattle.hot_eval.specs.Evaluation.{Evaluating, evaluation_within, value_outcome, branch_outcome, alone}
 use Rattle.hot_eval.specs.Outcomes.{Outcome, Gives, Faults, made_into, under, is_result, cost_limit}
 use Rattle.hot_eval.specs.Scenes.{SceneData, scene_data}
-use Rattle.hot_eval.specs.declared.evaluation.Picked.{Picked}
-use Rattle.hot_eval.specs.declared.evaluation.Picked.TheVariants as pick
+use Rattle.hot_eval.specs.declared.branches.Picked.{Picked}
+use Rattle.hot_eval.specs.declared.branches.Picked.TheVariants as pick
 use Rattle.hot_eval.specs.declared.code.FaultCode.{FaultCode}
 use Rattle.hot_eval.specs.declared.code.FaultCode.TheVariants.{F06}
-use Rattle.hot_eval.specs.declared.evaluation.Setting.{Setting}
+use Rattle.hot_eval.specs.declared.setting.Setting.{Setting}
 use Rattle.hot_eval.specs.declared.fault.EvalFault.{EvalFault}
 use Rattle.hot_eval.specs.declared.fault.EvalFault.TheVariants as eval
 use Rattle.hot_eval.specs.declared.fault.FunctionFault.{FunctionFault}

@@ -2,6 +2,8 @@
 //! of a plan's items. Each evaluation counts what it costs and ends where that is too much.
 #![tactic(auto)]
 
+mod answering;
+mod branches;
 mod choices;
 mod code;
 mod depth;
@@ -16,8 +18,11 @@ mod manner;
 mod maps;
 mod names;
 mod needs;
+mod placing;
+mod replacing;
 mod resolving;
 mod scene;
+mod setting;
 mod sorts;
 mod sum;
 #[cfg(test)]

@@ -1,25 +1,27 @@
 //! A value, or the properties of an item, with the facts that are known.
-ghost use Rattle.std.specs.Prelude.{◌≡◌, ◌++◌};
+ghost use Rattle.std.specs.Prelude.{◌≡◌, ◌++◌, ℕ};
 ghost use Rattle.heat_value.specs.Data.{Members};
 ghost use Rattle.heat_value.specs.Meaning.{data_of};
 ghost use Rattle.hot_eval.specs.Answers.{IsMadeOf, again};
 ghost use Rattle.hot_eval.specs.Evaluation.{evaluation};
-ghost use Rattle.hot_eval.specs.Outcomes.{Outcome, seen_from};
+ghost use Rattle.hot_eval.specs.Outcomes.{Outcome, Gives, seen_from};
 ghost use Rattle.hot_eval.specs.Resolutions.{eval as the_eval, resolve as the_resolve};
 ghost use Rattle.hot_eval.specs.Resolutions.{properties as the_properties, properties_path, unless_large};
 ghost use Rattle.hot_eval.specs.Scenes.{scene_of, scene_data};
 
 use crate::depth::Depth;
-use crate::evaluation::{Setting, members, value};
+use crate::evaluation::{members, value};
+use crate::setting::Setting;
 use crate::sum::Sum;
 use crate::{EvalFault, FaultCode, Scene};
 use heat_plan::{Item, KnownFacts, Plan, Properties, ResName};
-use heat_value::{Text, Value};
+use heat_value::{Props, Text, Value};
 use hot_strings::map_fits;
 use std::alloc::Global;
 
 /// What a value of a plan comes to, with the facts that are known, or the first fault, whose path begins
 /// at the value.
+#[tactic(auto, unfolding(crate::specs::Resolutions::eval))]
 pub fn eval(
     alloc: Global,
     given: &Value,
@@ -33,6 +35,7 @@ pub fn eval(
 
 /// The properties of an item of the plan, with the facts that are known, or the first fault, whose path
 /// begins at the template.
+#[tactic(auto, unfolding(crate::specs::Resolutions::resolve))]
 pub fn resolve(
     alloc: Global,
     plan: &Plan,
@@ -52,20 +55,33 @@ fn properties(
     given: &Properties,
     known: &[KnownFacts],
 ) -> Result<Properties, EvalFault>
-    ensures { IsMadeOf (λ ms. ms) result (unless_large (the_properties (scene_of plan.now known.now) given.now)) }
+    ensures { IsMadeOf (λ ms. ms) result
+        (unless_large (the_properties (scene_of plan.now known.now) given.now)) }
 {
-    let props = members(&setting(alloc, plan, known), given.as_props(), &mut Sum::new())?;
-    if !map_fits(&props) {
+    let made = members(
+        &setting(alloc, plan, known),
+        given.as_props(),
+        &mut Sum::new(),
+    );
+    large_or(alloc, made?)
+}
+
+// The map; F06 where it is too large.
+fn large_or(alloc: Global, made: Props) -> Result<Properties, EvalFault>
+    ensures { (sum : ℕ) → IsMadeOf (λ ms. ms) result (unless_large (Gives made sum)) }
+{
+    if !map_fits(&made) {
         return Err(EvalFault::here(alloc, FaultCode::F06));
     }
-    match Properties::from_props(props) {
+    match Properties::from_props(made) {
         Some(props) => Ok(props),
         None => Err(EvalFault::here(alloc, FaultCode::F06)),
     }
 }
 
-// An evaluation's setting at the root of a value.
-fn setting<'a>(alloc: Global, plan: &'a Plan, known: &'a [KnownFacts]) -> Setting<'a>
+/// An evaluation's setting at the root of a value.
+#[tactic(auto, unfolding(crate::specs::Evaluation::evaluation))]
+pub fn setting<'a>(alloc: Global, plan: &'a Plan, known: &'a [KnownFacts]) -> Setting<'a>
     ensures scene { scene_data result.scene ≡ scene_of plan.now known.now }
     ensures again { again result ≡ evaluation (scene_of plan.now known.now) }
 {

@@ -3,7 +3,7 @@
 use crate::evaluation::value;
 use crate::resolving::setting;
 use crate::sum::Sum;
-use crate::{EvalFault, eval, needs_of, resolve};
+use crate::{EvalFault, eval, needs_of, needs_of_props, resolve};
 use heat_plan::{
     Condition, Facts, File, Item, Kind, KnownFacts, Needs, Parameters, Plan, Policy, Properties,
     ResName,
@@ -12,7 +12,7 @@ use heat_value::{Props, Seq, Text, TryCopy, Value};
 use std::alloc::{AllocError, Global};
 use std::test::Fail;
 
-// The parameters, and the attributes of the resource a.
+// The parameters, and the attributes of the resource a, and of `gone`, which is absent.
 const PARAMS: &str = "{'p':'x','n':5,'yes':true,'j':{'k':[1,{'m':'v'}]},'list':['a','b'],\
 'call':{'get_param':'p'},'off':{'get_param':7},'gone':{'get_file':'none'},'deep':{'l':[{'digest':['md4','']}]},\
 'again':[{'repeat':{'template':'x','for_each':{'x':{'get_param':'again'}}}}]}";
@@ -62,7 +62,7 @@ const WORKED: [(&str, &str); 14] = [
 ];
 
 // What functions look up.
-const LOOKED_UP: [(&str, &str); 23] = [
+const LOOKED_UP: [(&str, &str); 25] = [
     ("{'get_param':'p'}", "'x'"),
     ("{'get_param':['p']}", "'x'"),
     ("{'get_param':['j','k',1,'m']}", "'v'"),
@@ -78,6 +78,8 @@ const LOOKED_UP: [(&str, &str); 23] = [
     ("{'get_param':5}", "F01 []"),
     ("{'get_resource':'a'}", "'id-a'"),
     ("{'get_resource':'b'}", "null"),
+    ("{'get_resource':'gone'}", "null"),
+    ("{'get_attr':['gone']}", "null"),
     ("{'get_attr':['a','addr']}", "'1.2'"),
     ("{'get_attr':['a','ports',0,'ip']}", "'10'"),
     ("{'get_attr':['a','ports',1]}", "null"),
@@ -330,20 +332,22 @@ fn plan_of(alloc: Global) -> Result<Plan, Fail> {
         name: Text::from_str(alloc, "f")?,
         content: Text::from_str(alloc, "text")?,
     })?;
+    let mut absent = Seq::new(alloc);
+    absent.push(ResName::read(alloc, b"gone")?.ok_or("a name")?)?;
     Ok(Plan::new(
         Seq::new(alloc),
         Seq::new(alloc),
         params,
         conds,
         files,
-        Seq::new(alloc),
+        absent,
     ))
 }
 
-// What is known of the resource a.
-fn known_of(alloc: Global) -> Result<KnownFacts, Fail> {
+// What is known of a resource.
+fn known_of(alloc: Global, name: &str) -> Result<KnownFacts, Fail> {
     Ok(KnownFacts {
-        name: ResName::read(alloc, b"a")?.ok_or("a name")?,
+        name: ResName::read(alloc, name.as_bytes())?.ok_or("a name")?,
         facts: Facts {
             id: Text::from_str(alloc, "id-a")?,
             attrs: Properties::from_props(props_of(alloc, ATTRS)?).ok_or("shallow")?,
@@ -381,7 +385,7 @@ fn told(
 // The first line that comes to something else, with what that is.
 fn first_wrong(alloc: Global, lines: &[(&str, &str)]) -> Result<String, Fail> {
     let plan = plan_of(alloc)?;
-    let known = [known_of(alloc)?];
+    let known = [known_of(alloc, "a")?, known_of(alloc, "gone")?];
     for line in lines {
         let told = told(alloc, &plan, &known, line.0)?;
         if told
@@ -527,7 +531,7 @@ fn item_of(alloc: Global, props: &str) -> Result<Item, Fail> {
 fn resolved(alloc: Global, props: &str) -> Result<String, Fail> {
     let item = item_of(alloc, props)?;
     let plan = plan_of(alloc)?;
-    let known = [known_of(alloc)?];
+    let known = [known_of(alloc, "a")?, known_of(alloc, "gone")?];
     let text = match resolve(alloc, &plan, &item, &known) {
         Ok(props) => {
             let text = Value::Fields(props.as_props().copy()?).text(alloc)?;
@@ -599,5 +603,16 @@ fn values_have_needs(rt: HostRuntime) -> Result<(), Fail> {
     for line in NEEDED {
         assert_eq!(rt; needed(rt.alloc(), line.0)?.as_str(), line.1);
     }
+    Ok(())
+}
+
+// The names that a map of properties needs: a property's own name is no function.
+#[test]
+fn properties_have_needs(rt: HostRuntime) -> Result<(), Fail> {
+    let alloc = rt.alloc();
+    let props = props_of(alloc, "{'get_resource':'a','x':{'get_resource':'b'}}")?;
+    assert_eq!(rt; needs_of_props(alloc, &props)?.as_slice().len(), 1);
+    let alone = props_of(alloc, "{'get_resource':'a'}")?;
+    assert_eq!(rt; needs_of_props(alloc, &alone)?.as_slice().len(), 0);
     Ok(())
 }
