@@ -1,15 +1,22 @@
 -- The program's lists as keys with their lists.
-use Rattle.std.proofs.Common.{◌≡◌, ◌∙◌, ◌<◌, ◌≤◌, ◌+◌, ◌==◌, ℕ, zero, suc, List, [], ◌∷◌, ◌++◌, Bool, true, false}
+use Rattle.std.proofs.Common.{◌≡◌, ◌∙◌, ◌<◌, ◌≤◌, ◌+◌, ◌-◌, ◌==◌, ℕ, zero, suc, List, [], ◌∷◌, ◌++◌, Bool, true, false}
 use Rattle.std.proofs.Common.{Option, Some, None, Result, Ok, Err, ok_or, length, get_or, take, map, refl, ap, sym, subst, arith}
 use Rattle.std.proofs.lemmas.Bool.Decides.{Decides-eqb}
 use Rattle.std.proofs.lemmas.List.{map-append, take_more, take_all, nil_from_length, length-map}
 use Rattle.heat_value.specs.Data.{Nodes, no_nodes}
-use Rattle.heat_value.specs.Meaning.{nodes_of}
+use denote.Ref.{Bor}
+use Rattle.std.proofs.Math.ListN.{set}
+use Rattle.heat_value.specs.Coercion.{coerced}
+use Rattle.heat_value.specs.Meaning.{data_of, nodes_of}
+use Rattle.hot_strings.specs.Pieces.{Params}
+use Rattle.hot_eval.specs.Lookups.{node_at}
 use Rattle.heat_value.specs.declared.value.Value.{Value}
 use Rattle.hot_eval.specs.Choices.{Lists, choices}
 use Rattle.hot_eval.specs.Repeats.{lists_of, count_of, ArePlaces, choices_from}
 use Rattle.hot_eval.specs.declared.choices.Listed.{Listed}
-use Rattle.hot_eval.proofs.Turns.{AreZeros, zeros_push, zeros_first, zeros_are, no_choice, place_within}
+use Rattle.hot_eval.proofs.Turns.{AreZeros, zeros_push, zeros_first, zeros_are, no_choice, place_within, places_length}
+use Rattle.hot_eval.proofs.Turns.{AreTurned, Goes, turned_next, turned_back}
+use Rattle.hot_eval.proofs.Picks.{IsMaking, making_next}
 
 -- a key with its list
 abbrev pub list_of : Listed → List ℕ × Nodes
@@ -71,3 +78,47 @@ place_there ls ps n p l d h below at here =
 pub wanted_some : {X E : Type 0} (o : Option X) (e : E) (r : Result X E) (x : X) → r ≡ ok_or o e → r ≡ Ok x → o ≡ Some x
 wanted_some None e r x is ok = let none : Err e ≡ Ok x = sym is ∙ ok in cc
 wanted_some (Some y) e r x is ok = let same : Ok y ≡ Ok x = sym is ∙ ok in cc
+
+-- ---- from place to place
+
+listed_at : (ls : List Listed) (n : ℕ) (l d : Listed) → n < length ls → l ≡ get_or ls n d
+    → list_of l ≡ get_or (lists_of ls) n (list_of l)
+listed_at ls n l d below at = lists_at ls n l d (list_of l) below at
+
+turned_at : (ls : Lists) (old now : List ℕ) (at n : ℕ) → at ≡ n + 1 → AreTurned ls old now at → AreTurned ls old now (n + 1)
+turned_at ls old now at n e h = subst (λ (m : ℕ). AreTurned ls old now m) e h
+
+pub listed_next : (ls : List Listed) (old now : List ℕ) (at p next : ℕ) (l d : Listed) → ArePlaces (lists_of ls) old
+    → AreTurned (lists_of ls) old now at → 0 < at → l ≡ get_or ls (at - 1) d → p ≡ get_or now (at - 1) p
+    → (next ≡ p + 1) × (next < length l.items.now)
+    → ArePlaces (lists_of ls) (set now (at - 1) next) × Goes (lists_of ls) old (set now (at - 1) next)
+listed_next ls old now at p next l d was h some is here found =
+    let below : at - 1 < length ls = omega (arith, some, h.within, length-lists ls) in
+    let further : AreTurned (lists_of ls) old now ((at - 1) + 1) = turned_at (lists_of ls) old now at (at - 1) (omega (arith, some)) h in
+    let more : p + 1 < count_of (list_of l).1 = omega (arith, found.0, found.1, count_nodes l.items.now) in
+    subst (λ (q : ℕ). ArePlaces (lists_of ls) (set now (at - 1) q) × Goes (lists_of ls) old (set now (at - 1) q)) (sym found.0)
+    (turned_next (lists_of ls) old now (at - 1) p (list_of l) was further (omega (arith, below, length-lists ls))
+    (listed_at ls (at - 1) l d below is) here more)
+
+pub listed_back : (ls : List Listed) (old now : List ℕ) (at p : ℕ) (l d : Listed) → ArePlaces (lists_of ls) old
+    → AreTurned (lists_of ls) old now at → 0 < at → l ≡ get_or ls (at - 1) d → p ≡ get_or now (at - 1) p
+    → length l.items.now ≤ p + 1 → AreTurned (lists_of ls) old (set now (at - 1) 0) (at - 1)
+listed_back ls old now at p l d was h some is here last =
+    let below : at - 1 < length ls = omega (arith, some, h.within, length-lists ls) in
+    let further : AreTurned (lists_of ls) old now ((at - 1) + 1) = turned_at (lists_of ls) old now at (at - 1) (omega (arith, some)) h in
+    turned_back (lists_of ls) old now (at - 1) p (list_of l) was further (omega (arith, below, length-lists ls))
+    (listed_at ls (at - 1) l d below is) here (omega (arith, last, count_nodes l.items.now))
+
+-- ---- one key more of a choice
+
+pub listed_making : (ls : List Listed) (ps : List ℕ) (n p : ℕ) (l m d e : Listed) (texts texts' : Params)
+    (vs vs' : List (Bor Value)) (q : List ℕ × List ℕ) (v : Bor Value) → n < length ls → ArePlaces (lists_of ls) ps
+    → l ≡ get_or ls n d → m ≡ get_or ls n e → p ≡ get_or ps n p → Some (data_of v.now) ≡ node_at (nodes_of l.items.now) p
+    → q ≡ (m.key.now, coerced (data_of v.now)) → texts' ≡ texts ++ q ∷ [] → vs' ≡ vs ++ v ∷ []
+    → IsMaking (lists_of ls) ps n texts vs → IsMaking (lists_of ls) ps (n + 1) texts' vs'
+listed_making ls ps n p l m d e texts texts' vs vs' q v below h at at' here item pair push push' making =
+    rw (push, push', pair)
+    (making_next (lists_of ls) ps n (list_of l) p texts vs m.key.now (coerced (data_of v.now)) v
+    (omega (arith, below, length-lists ls)) (omega (arith, below, length-lists ls, places_length (lists_of ls) ps h))
+    (listed_at ls n l d below at) here item
+    (ap (λ x. x.0) (lists_at ls n m e (list_of l) below at' ∙ sym (listed_at ls n l d below at))) refl making)
