@@ -1,13 +1,13 @@
 -- A replaced template takes at least what its texts take.
-use Rattle.std.proofs.Common.{◌≡◌, ◌∙◌, ◌<◌, ◌≤◌, ◌+◌, ◌||◌, ℕ, List, [], ◌∷◌, ◌++◌, Bool, true, false, Option, Some, None}
+use Rattle.std.proofs.Common.{◌≡◌, ◌∙◌, ◌<◌, ◌≤◌, ◌+◌, ◌-◌, ◌||◌, ◌⊎◌, inl, inr, ℕ, List, [], ◌∷◌, ◌++◌, Bool, true, false, Option, Some, None}
 use Rattle.std.proofs.Common.{option_map, option_and_then, length, refl, ap, sym, subst, arith, length-append, bytes_eq, Result, Ok, Err}
 use Rattle.std.proofs.lemmas.Map.Text.{is_eq-slice_cmp}
 use Rattle.std.specs.Cmp.Lexicographic.{slice_cmp}
 use Rattle.std.specs.Ordering.{nat_cmp, match_ordering, is_eq}
-use Rattle.std.specs.Prelude.{if◌then◌else◌, AllocError}
+use Rattle.std.specs.Prelude.{if◌then◌else◌}
 use Rattle.std.specs.declared.cmp.Ordering.{Ordering}
 use Rattle.std.specs.declared.cmp.Ordering.TheVariants.{Less, Equal, Greater}
-use Rattle.std.proofs.lemmas.Bool.Decides.{Decides-eqb}
+use Rattle.std.proofs.lemmas.Bool.{cases_lt}
 use Rattle.std.proofs.lemmas.Slice.Eq.{bytes_eq-Decides}
 use Rattle.json.specs.Print.{quoted, escape}
 use Rattle.heat_value.specs.Compact.{compact, nodes_text, fields_text}
@@ -18,7 +18,10 @@ use Rattle.hot_eval.specs.Choices.{Choice}
 use Rattle.hot_eval.specs.Fillings.{filled, nodes_filled, members_filled, text_filled, words_filled}
 use Rattle.hot_eval.specs.Maps.{mapped_onto, map_of}
 use Rattle.hot_eval.specs.Outcomes.{size}
-use Rattle.hot_eval.specs.Rooms.{taken, nodes_taken, members_taken}
+use Rattle.hot_eval.specs.Rooms.{taken, nodes_taken, members_taken, room_behind, IsFilled, IsTooLarge}
+use Rattle.hot_eval.specs.declared.fillings.Filled.{Filled}
+use Rattle.hot_eval.specs.declared.fillings.Filled.TheVariants as fills
+use Rattle.hot_eval.proofs.Rooms.{room_some}
 
 -- ---- what the values of an object take
 
@@ -119,3 +122,26 @@ mutual
       let t = then_some (λ x. option_map (member (text_filled c k) x) (members_filled c ms)) (filled c d) rs e in
       let m = map_some (member (text_filled c k) t.0) (members_filled c ms) rs t.2 in
       omega (arith, taken_within c d t.0 t.1, members_within c ms m.0 m.1, ap values_size m.2)
+
+-- ---- a room that was used up
+
+used_up : (m n : ℕ) → None ≡ room_behind (Some m) n → m < n
+used_up m n e = go (cases_lt m n)
+  where
+    go : (m < n) ⊎ (n ≤ m) → m < n
+    go (inl less) = less
+    go (inr fits) = let gone : None ≡ Some (m - n) = e ∙ room_some m n fits in cc
+
+-- the template takes more than the room that it used up
+pub too_large : {E : Type 0} (r : Result Filled E) (before now : Option ℕ) (c : Choice) (d : Data)
+    → IsFilled r before now (taken c d) (filled c d) → IsTooLarge r before now (filled c d)
+too_large (Ok (fills.Template v)) None now c d h = tt
+too_large (Ok (fills.Template v)) (Some m) (Some k) c d h = tt
+too_large {E} (Ok (fills.Template v)) (Some m) None c d (made, is, (room, same)) =
+    subst (λ (o : Option Data). IsTooLarge {E = E} (Ok (fills.Template v)) (Some m) None o) (sym is)
+    (omega (arith, used_up m (taken c d) room, taken_within c d made is))
+too_large (Ok fills.Same) None now c d h = tt
+too_large (Ok fills.Same) (Some m) (Some k) c d h = tt
+too_large {E} (Ok fills.Same) (Some m) None c d h =
+    subst (λ (o : Option Data). IsTooLarge {E = E} (Ok fills.Same) (Some m) None o) (sym h) tt
+too_large (Err e) before now c d h = tt

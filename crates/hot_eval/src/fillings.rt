@@ -3,11 +3,12 @@ ghost use Rattle.std.specs.Prelude.{◌≡◌, ◌<◌, ◌-◌, ◌^◌, ◌≤
 ghost use Rattle.std.specs.Prelude.{option_map, unwrap_or};
 ghost use Rattle.heat_value.specs.Data.{words as words_data, items as items_data, fields as fields_data};
 ghost use Rattle.heat_value.specs.Meaning.{data_of, nodes_of, members_of};
+ghost use Rattle.heat_value.specs.declared.path.Step.TheVariants.{Index};
 ghost use Rattle.hot_eval.specs.Faults.{IsSeenFrom};
 ghost use Rattle.hot_eval.specs.Fillings.{filled as the_filled, text_filled as the_text_filled};
 ghost use Rattle.hot_eval.specs.Fillings.{words_filled as the_words_filled, item_of as the_item_of};
 ghost use Rattle.hot_eval.specs.Fillings.{literal_path as the_literal_path, literal_step as the_literal_step};
-ghost use Rattle.hot_eval.specs.Fillings.{member_becoming as the_member_becoming};
+ghost use Rattle.hot_eval.specs.Fillings.{step_in_list, member_becoming as the_member_becoming};
 ghost use Rattle.hot_eval.specs.Outcomes.{size};
 ghost use Rattle.hot_eval.specs.Repeats.{choice_of, IsChoice};
 ghost use Rattle.hot_eval.specs.Rooms.{taken, room_behind, IsMade, IsFilled, IsTooLarge};
@@ -243,7 +244,7 @@ fn item_of<'a>(choice: &Choice<'a>, words: &Text) -> Option<&'a Value>
     ensures { option_map (λ v. data_of v.now) result ≡ the_item_of (choice_of choice.now) words.now }
 {
     for (at, text) in choice.texts.iter().enumerate() {
-        if text.0 == *words {
+        if text.0.as_str() == words.as_str() {
             return Some(choice.items[at]);
         }
     }
@@ -353,14 +354,22 @@ fn literal_step<'a>(
         ≡ the_literal_step (choice_of choice.now) (data_of template.now) step.now) }
 {
     match (template, step) {
-        (Value::Items(items), Step::Index(at)) => match items.as_slice().get(*at) {
-            Some(value) => Ok(Some((Step::Index(*at), value))),
-            None => Ok(None),
-        },
+        (Value::Items(items), Step::Index(at)) => Ok(item_step(items.as_slice(), *at)),
         (Value::Fields(fields), Step::Key(key)) => {
             member_becoming(alloc, choice, key, fields.as_slice())
         }
         _ => Ok(None),
+    }
+}
+
+// The step to a place of a list.
+fn item_step<'a>(values: &'a [Value], at: usize) -> Option<(Step, &'a Value)>
+    ensures { option_map (λ p. (p.0, data_of p.1.now)) result
+        ≡ step_in_list (nodes_of values.now) (Index at) }
+{
+    match values.get(at) {
+        Some(value) => Some((Step::Index(at), value)),
+        None => None,
     }
 }
 
