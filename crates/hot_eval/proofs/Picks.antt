@@ -178,7 +178,7 @@ making_all ls ps n texts vs above h =
 
 pub length-items : (ps : Params) (vs : List (Bor Value)) → ps ≡ texts_for (with_items ps vs) → length ps ≤ length vs
 length-items ps vs e =
-    omega (arith, ap length e, length-map (with_items ps vs) (λ q. (q.0, coerced q.1)), shorter ps vs)
+    omega (arith, ap length e, length-map {B = List ℕ × List ℕ} (with_items ps vs) (λ q. (q.0, coerced q.1)), shorter ps vs)
   where
     shorter : (ps : Params) (vs : List (Bor Value)) → length (with_items ps vs) ≤ length vs
     shorter [] vs = omega arith

@@ -9,7 +9,6 @@ use Rattle.std.specs.declared.cmp.Ordering.{Ordering}
 use Rattle.std.specs.declared.cmp.Ordering.TheVariants.{Less, Equal, Greater}
 use Rattle.std.proofs.lemmas.Bool.{cases_lt}
 use Rattle.std.proofs.lemmas.Slice.Eq.{bytes_eq-Decides}
-use Rattle.json.specs.Print.{quoted, escape}
 use Rattle.heat_value.specs.Compact.{compact, nodes_text, fields_text}
 use Rattle.heat_value.specs.Data.{Data, null, flag, whole, words, items, fields, Nodes, no_nodes, node}
 use Rattle.heat_value.specs.Data.{Members, no_members, member, put}
@@ -63,14 +62,18 @@ onto_size base (member k d ms) ts e = go (stands k base) refl e
 
 -- ---- what their JSON takes
 
+-- what stands behind a key and the colon takes its part of the text
+behind_key : (a b c : List ℕ) → length b + length c ≤ length (a ++ (58 ∷ (b ++ c)))
+behind_key a b c = omega (arith, length-append a (58 ∷ (b ++ c)), length-append b c)
+
+first_text : (k : List ℕ) (d : Data) (ms : Members)
+    → size d + length (fields_text true ms) ≤ length (fields_text false (member k d ms))
+first_text k d ms = behind_key (compact (words k)) (compact d) (fields_text true ms)
+
 texts_size : (later : Bool) (ms : Members) → values_size ms ≤ length (fields_text later ms)
 texts_size later no_members = omega arith
-texts_size true (member k d ms) =
-    omega (arith, texts_size true ms, length-append (escape k ++ 34 ∷ []) (58 ∷ (compact d ++ fields_text true ms)),
-    length-append (compact d) (fields_text true ms))
-texts_size false (member k d ms) =
-    omega (arith, texts_size true ms, length-append (escape k ++ 34 ∷ []) (58 ∷ (compact d ++ fields_text true ms)),
-    length-append (compact d) (fields_text true ms))
+texts_size true (member k d ms) = omega (arith, texts_size true ms, first_text k d ms)
+texts_size false (member k d ms) = omega (arith, texts_size true ms, first_text k d ms)
 
 -- ---- the template
 

@@ -1,7 +1,9 @@
 //! The literal template of a repeat with a choice's items in place of the keys, and where its parts stood.
 ghost use Rattle.std.specs.Prelude.{◌≡◌, ◌<◌, ◌-◌, ◌^◌, ◌≤◌, ◌≢◌, IfOk, OnOk, MatchOption, Some, None, is_none, is_some};
-ghost use Rattle.std.specs.Prelude.{option_map, unwrap_or};
+ghost use Rattle.std.specs.Prelude.{option_map, unwrap_or, bytes_eq, MatchBool, true, false};
+ghost use Rattle.hot_functions.specs.Forms.{stands};
 ghost use Rattle.heat_value.specs.Data.{words as words_data, items as items_data, fields as fields_data};
+ghost use Rattle.heat_value.specs.Data.{put};
 ghost use Rattle.heat_value.specs.Meaning.{data_of, nodes_of, members_of};
 ghost use Rattle.heat_value.specs.declared.path.Step.TheVariants.{Index};
 ghost use Rattle.hot_eval.specs.Faults.{IsSeenFrom};
@@ -127,7 +129,9 @@ fn value_filled(
         Value::Words(words) => Ok(Filled::Template(words_filled(alloc, choice, words, room)?)),
         Value::Items(items) => items_filled(alloc, choice, items.as_slice(), room),
         Value::Fields(fields) => fields_filled(alloc, choice, fields.as_slice(), room),
-        Value::Null | Value::Flag(_) | Value::Whole(_) => Ok(Filled::Template(template.copy()?)),
+        Value::Null => Ok(Filled::Template(Value::Null)),
+        Value::Flag(flag) => Ok(Filled::Template(Value::Flag(*flag))),
+        Value::Whole(whole) => Ok(Filled::Template(Value::Whole(*whole))),
     }
 }
 
@@ -172,15 +176,33 @@ fn fields_filled(
         match value_filled(alloc, choice, &member.value, room)? {
             Filled::Template(value) => {
                 let key = key_filled(alloc, choice, &member.key)?;
-                if fields.get(&key).is_some() {
+                if !put_new(&mut fields, key, value)? {
                     return Ok(Filled::Same);
                 }
-                fields.put(key, value)?;
             }
             Filled::Same => return Ok(Filled::Same),
         }
     }
     Ok(Filled::Template(Value::Fields(fields)))
+}
+
+// Puts a value under a key that doesn't stand yet; false where it does.
+fn put_new(fields: &mut Props, key: Text, value: Value) -> Result<bool, AllocError>
+    ensures { IfOk result (λ b. MatchBool b
+        ((stands key fields.old ≡ false) × (fields.new ≡ put key (data_of value) fields.old))
+        (stands key fields.old ≡ true)) }
+{
+    if has_key(fields, &key) {
+        return Ok(false);
+    }
+    fields.put(key, value)?;
+    Ok(true)
+}
+
+fn has_key(fields: &Props, key: &Text) -> bool
+    ensures { result ≡ stands key.now fields.now }
+{
+    fields.get(key).is_some()
 }
 
 // A text that is just one key becomes the item itself; null in its place where there is no room.
@@ -244,11 +266,17 @@ fn item_of<'a>(choice: &Choice<'a>, words: &Text) -> Option<&'a Value>
     ensures { option_map (λ v. data_of v.now) result ≡ the_item_of (choice_of choice.now) words.now }
 {
     for (at, text) in choice.texts.iter().enumerate() {
-        if text.0.as_str() == words.as_str() {
+        if is_key(text, words) {
             return Some(choice.items[at]);
         }
     }
     None
+}
+
+fn is_key(text: &(Text, Text), words: &Text) -> bool
+    ensures { result ≡ bytes_eq text.now.0 words.now }
+{
+    text.0.as_str() == words.as_str()
 }
 
 // An object's key with keys replaced. One that takes more than a whole evaluation may cost isn't made.
