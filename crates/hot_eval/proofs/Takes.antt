@@ -53,12 +53,13 @@ values_size-put k a (member l d ms) e =
 
 onto_size : (base ms ts : Members) → mapped_onto base ms ≡ Some ts → values_size ts ≡ values_size base + values_size ms
 onto_size base no_members ts e = let same : base ≡ ts = cc in omega (arith, ap values_size same)
-onto_size base (member k d ms) ts e = go (stands k base) refl e
+onto_size base (member k d ms) ts e = go (λ f. onto_size (put k d base) ms ts f) (stands k base) refl e
   where
-    go : (b : Bool) → stands k base ≡ b → (if b then None else mapped_onto (put k d base) ms) ≡ Some ts
+    go : (mapped_onto (put k d base) ms ≡ Some ts → values_size ts ≡ values_size (put k d base) + values_size ms)
+        → (b : Bool) → stands k base ≡ b → (if b then None else mapped_onto (put k d base) ms) ≡ Some ts
         → values_size ts ≡ values_size base + (size d + values_size ms)
-    go true is f = cc
-    go false is f = omega (arith, onto_size (put k d base) ms ts f, values_size-put k d base is)
+    go more true is f = cc
+    go more false is f = omega (arith, more f, values_size-put k d base is)
 
 -- ---- what their JSON takes
 

@@ -131,7 +131,7 @@ fn value_filled(
         Value::Fields(fields) => fields_filled(alloc, choice, fields.as_slice(), room),
         Value::Null => Ok(Filled::Template(Value::Null)),
         Value::Flag(flag) => Ok(Filled::Template(Value::Flag(*flag))),
-        Value::Whole(whole) => Ok(Filled::Template(Value::Whole(*whole))),
+        Value::Whole(_) => Ok(Filled::Template(template.copy()?)),
     }
 }
 
