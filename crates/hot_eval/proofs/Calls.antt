@@ -1,6 +1,7 @@
 -- What objects, calls and repeats come to, from what their parts come to.
 use Rattle.std.proofs.Common.{◌≡◌, ◌∙◌, ◌+◌, ◌<◌, ◌≤◌, ℕ, suc, List, [], ◌∷◌, Bool, true, false, Option, Some, None}
-use Rattle.std.proofs.Common.{Result, Ok, Err, nat_le, refl, sym, ap, subst, arith, length, unwrap_or, if◌then◌else◌}
+use Rattle.std.proofs.Common.{Result, Ok, Err, nat_le, refl, sym, ap, subst, arith, length, option_map, if◌then◌else◌}
+use Rattle.std.specs.Prelude.{⊤}
 use Rattle.heat_value.specs.Data.{Data, words, items, fields, Nodes, no_nodes, node, Members, no_members, member}
 use Rattle.heat_value.specs.Meaning.{data_of}
 use Rattle.heat_value.specs.declared.path.Step.TheVariants.{Key, Index}
@@ -12,7 +13,7 @@ use Rattle.hot_eval.specs.Evaluation.{answer_of, choice_outcome, choices_outcome
 use Rattle.hot_eval.specs.Evaluation.{value_outcome, members_outcome, condition_outcome, object_outcome, object_condition}
 use Rattle.hot_eval.specs.Faults.{of_function}
 use Rattle.hot_eval.specs.Manners.{manner_of}
-use Rattle.hot_eval.specs.Names.{function_of, condition_function_of, is_formed, is_condition_formed}
+use Rattle.hot_eval.specs.Names.{function_of, condition_function_of, named_in, is_formed, is_condition_formed}
 use Rattle.hot_eval.specs.Outcomes.{Outcome, Gives, Faults, and_then, made_into, seen_from, under, charged, size, answered}
 use Rattle.hot_eval.specs.Outcomes.{cost_limit}
 use Rattle.hot_eval.specs.Repeats.{lists_of, IsRepetition, IsCode}
@@ -42,90 +43,78 @@ there f A X S T d e a s h =
 
 -- ---- charges
 
-pub charged_as : {A : Type 0} (a : A) (cost n m : ℕ) → charged tt cost n ≡ Gives tt m → charged a cost n ≡ Gives a m
+-- a cost was counted
+abbrev paid : ℕ → Outcome ⊤
+paid m = Gives tt m
+
+pub charged_as : {A : Type 0} (a : A) (cost n m : ℕ) → charged {A = ⊤} tt cost n ≡ paid m → charged a cost n ≡ Gives a m
 charged_as {A} a cost n m = by (nat_le (n + cost) cost_limit)
   where
-    by : (b : Bool) → (if b then Gives tt (n + cost) else Faults F07 []) ≡ Gives tt m
+    by : (b : Bool) → (if b then paid (n + cost) else Faults F07 []) ≡ paid m
         → (if b then Gives a (n + cost) else Faults F07 []) ≡ Gives a m
     by true e = ap (made_into (λ _. a)) e
     by false e = cc
 
-pub charged_fault : {A : Type 0} (f : EvalFault) (a : A) (cost n : ℕ) → IsFaultIn f (charged tt cost n)
+pub charged_fault : {A : Type 0} (f : EvalFault) (a : A) (cost n : ℕ) → IsFaultIn f (charged {A = ⊤} tt cost n)
     → IsFaultIn f (charged a cost n)
 charged_fault {A} fault.Memory a cost n is = tt
 charged_fault {A} (fault.Wrong c p) a cost n is = by (nat_le (n + cost) cost_limit) is
   where
-    by : (b : Bool) → (if b then Gives tt (n + cost) else Faults F07 []) ≡ Faults c p
+    by : (b : Bool) → (if b then paid (n + cost) else Faults F07 []) ≡ Faults c p
         → (if b then Gives a (n + cost) else Faults F07 []) ≡ Faults c p
     by true e = cc
     by false e = ap (made_into (λ _. a)) e
 
 -- ---- objects
 
-first_is : (k l : List ℕ) (d e : Data) → Some (k, d) ≡ Some (l, e) → k ≡ l
-first_is k l d e is = ap (λ o. (unwrap_or o (k, d)).0) is
+-- what the object is, by the function that it calls
+module _ (A : Evaluating) (S : SceneData) (n : ℕ) where
+  abbrev value_by : Members → Option (List ℕ × Data × Function) → Outcome Data
+  value_by ms None = made_into fields (members_outcome A S ms n)
+  value_by ms (Some c) = call A S c.2 (is_formed c.0 c.1) (sole_of A S c.0 c.1) n
 
-second_is : (k l : List ℕ) (d e : Data) → Some (k, d) ≡ Some (l, e) → d ≡ e
-second_is k l d e is = ap (λ o. (unwrap_or o (k, d)).1) is
+  abbrev condition_by : Members → Option (List ℕ × Data × Function) → Outcome Data
+  condition_by ms None = Gives (fields ms) n
+  condition_by ms (Some c) = call A S c.2 (is_condition_formed c.0 c.1) (sole_of A S c.0 c.1) n
 
--- the only member of an object, if it has just one
-pub sole_some : (A : Evaluating) (S : SceneData) (ms : Members) (k : List ℕ) (d : Data) → Some (k, d) ≡ lone ms
-    → sole A S ms ≡ Some (sole_of A S k d)
-sole_some A S no_members k d is = cc
-sole_some A S (member l e no_members) k d is =
-    ap (λ (x : List ℕ). Some (sole_of A S x e)) (sym (first_is k l d e is))
-    ∙ ap (λ (x : Data). Some (sole_of A S k x)) (sym (second_is k l d e is))
-sole_some A S (member l e (member m f ms)) k d is = cc
+  by_name : (k : List ℕ) (d : Data) (o : Option Function)
+      → called A S o (is_formed k d) (sole_of A S k d) (made_into fields (members_outcome A S (member k d no_members) n)) n
+      ≡ value_by (member k d no_members) (option_map (λ f. (k, d, f)) o)
+  by_name k d None = refl
+  by_name k d (Some f) = refl
 
-pub sole_none : (A : Evaluating) (S : SceneData) (ms : Members) → None ≡ lone ms → sole A S ms ≡ None
-sole_none A S no_members is = refl
-sole_none A S (member l e no_members) is = cc
-sole_none A S (member l e (member m f ms)) is = refl
+  by_condition : (k : List ℕ) (d : Data) (o : Option Function)
+      → called A S o (is_condition_formed k d) (sole_of A S k d) (Gives (fields (member k d no_members)) n) n
+      ≡ condition_by (member k d no_members) (option_map (λ f. (k, d, f)) o)
+  by_condition k d None = refl
+  by_condition k d (Some f) = refl
 
-pub object_calls : (A : Evaluating) (S : SceneData) (ms : Members) (k : List ℕ) (d : Data) (f : Function) (n : ℕ)
-    → Some (k, d) ≡ lone ms → Some f ≡ function_of k
-    → value_outcome A S (fields ms) n ≡ call A S f (is_formed k d) (sole_of A S k d) n
-object_calls A S ms k d f n is named =
-    ap (λ (o : Option Sole). object_outcome A S o (made_into fields (members_outcome A S ms n)) n)
-    (sole_some A S ms k d is)
-    ∙ ap (λ (o : Option Function). called A S o (is_formed k d) (sole_of A S k d)
-    (made_into fields (members_outcome A S ms n)) n) (sym named)
+  object_by : (ms : Members) → value_outcome A S (fields ms) n ≡ value_by ms (named_in function_of ms)
+  object_by no_members = refl
+  object_by (member k d no_members) = by_name k d (function_of k)
+  object_by (member k d (member l e ms)) = refl
 
-pub object_other : (A : Evaluating) (S : SceneData) (ms : Members) (k : List ℕ) (d : Data) (n : ℕ)
-    → Some (k, d) ≡ lone ms → None ≡ function_of k
-    → value_outcome A S (fields ms) n ≡ made_into fields (members_outcome A S ms n)
-object_other A S ms k d n is named =
-    ap (λ (o : Option Sole). object_outcome A S o (made_into fields (members_outcome A S ms n)) n)
-    (sole_some A S ms k d is)
-    ∙ ap (λ (o : Option Function). called A S o (is_formed k d) (sole_of A S k d)
-    (made_into fields (members_outcome A S ms n)) n) (sym named)
+  as_condition : (ms : Members)
+      → condition_outcome A S (fields ms) n ≡ condition_by ms (named_in condition_function_of ms)
+  as_condition no_members = refl
+  as_condition (member k d no_members) = by_condition k d (condition_function_of k)
+  as_condition (member k d (member l e ms)) = refl
 
-pub object_plain : (A : Evaluating) (S : SceneData) (ms : Members) (n : ℕ) → None ≡ lone ms
-    → value_outcome A S (fields ms) n ≡ made_into fields (members_outcome A S ms n)
-object_plain A S ms n is =
-    ap (λ (o : Option Sole). object_outcome A S o (made_into fields (members_outcome A S ms n)) n)
-    (sole_none A S ms is)
+  pub object_calls : (ms : Members) (c : List ℕ × Data × Function) → Some c ≡ named_in function_of ms
+      → value_outcome A S (fields ms) n ≡ call A S c.2 (is_formed c.0 c.1) (sole_of A S c.0 c.1) n
+  object_calls ms c is = object_by ms ∙ ap (value_by ms) (sym is)
 
-pub condition_calls : (A : Evaluating) (S : SceneData) (ms : Members) (k : List ℕ) (d : Data) (f : Function) (n : ℕ)
-    → Some (k, d) ≡ lone ms → Some f ≡ condition_function_of k
-    → condition_outcome A S (fields ms) n ≡ call A S f (is_condition_formed k d) (sole_of A S k d) n
-condition_calls A S ms k d f n is named =
-    ap (λ (o : Option Sole). object_condition A S o (Gives (fields ms) n) n) (sole_some A S ms k d is)
-    ∙ ap (λ (o : Option Function). called A S o (is_condition_formed k d) (sole_of A S k d) (Gives (fields ms) n) n)
-    (sym named)
+  pub object_plain : (ms : Members) → None ≡ named_in function_of ms
+      → value_outcome A S (fields ms) n ≡ made_into fields (members_outcome A S ms n)
+  object_plain ms is = object_by ms ∙ ap (value_by ms) (sym is)
 
-pub condition_other : (A : Evaluating) (S : SceneData) (ms : Members) (k : List ℕ) (d : Data) (n : ℕ)
-    → Some (k, d) ≡ lone ms → None ≡ condition_function_of k
-    → condition_outcome A S (fields ms) n ≡ Gives (fields ms) n
-condition_other A S ms k d n is named =
-    ap (λ (o : Option Sole). object_condition A S o (Gives (fields ms) n) n) (sole_some A S ms k d is)
-    ∙ ap (λ (o : Option Function). called A S o (is_condition_formed k d) (sole_of A S k d) (Gives (fields ms) n) n)
-    (sym named)
+  pub condition_calls : (ms : Members) (c : List ℕ × Data × Function) → Some c ≡ named_in condition_function_of ms
+      → condition_outcome A S (fields ms) n ≡ call A S c.2 (is_condition_formed c.0 c.1) (sole_of A S c.0 c.1) n
+  condition_calls ms c is = as_condition ms ∙ ap (condition_by ms) (sym is)
 
-pub condition_plain : (A : Evaluating) (S : SceneData) (ms : Members) (n : ℕ) → None ≡ lone ms
-    → condition_outcome A S (fields ms) n ≡ Gives (fields ms) n
-condition_plain A S ms n is =
-    ap (λ (o : Option Sole). object_condition A S o (Gives (fields ms) n) n) (sole_none A S ms is)
+  pub condition_plain : (ms : Members) → None ≡ named_in condition_function_of ms
+      → condition_outcome A S (fields ms) n ≡ Gives (fields ms) n
+  condition_plain ms is = as_condition ms ∙ ap (condition_by ms) (sym is)
 
 -- ---- calls
 
@@ -143,7 +132,7 @@ module _ (A : Evaluating) (S : SceneData) (f : Function) (m : Sole) (n : ℕ) wh
       (fault_next e _ _ h)
 
   pub call_charge : (e : EvalFault) (formed : Bool) (a : Data) (s : ℕ) → formed ≡ true
-      → under (Key m.key) (argument (manner_of f) m n) ≡ Gives a s → IsFaultIn e (charged tt (size a) s)
+      → under (Key m.key) (argument (manner_of f) m n) ≡ Gives a s → IsFaultIn e (charged {A = ⊤} tt (size a) s)
       → IsFaultIn e (call A S f formed m n)
   call_charge e formed a s is made h =
       fault_same e (call A S f formed m n) _
@@ -152,12 +141,12 @@ module _ (A : Evaluating) (S : SceneData) (f : Function) (m : Sole) (n : ℕ) wh
       (fault_next e _ _ (charged_fault e a (size a) s h))
 
   pub call_gives : (formed : Bool) (a : Data) (s t : ℕ) → formed ≡ true
-      → under (Key m.key) (argument (manner_of f) m n) ≡ Gives a s → charged tt (size a) s ≡ Gives tt t
+      → under (Key m.key) (argument (manner_of f) m n) ≡ Gives a s → charged {A = ⊤} tt (size a) s ≡ paid t
       → call A S f formed m n ≡ answer_of A S f a t
-  call_gives formed a s t is made paid =
+  call_gives formed a s t is made counted-too =
       ap (λ b. if b then formed_call else Faults F01 []) is
       ∙ ap (λ (o : Outcome Data). and_then o (λ a s. and_then (charged a (size a) s) (answer_of A S f))) made
-      ∙ ap (λ (o : Outcome Data). and_then o (answer_of A S f)) (charged_as a (size a) s t paid)
+      ∙ ap (λ (o : Outcome Data). and_then o (answer_of A S f)) (charged_as a (size a) s t counted-too)
 
 -- ---- answers
 

@@ -1,6 +1,6 @@
 -- How outcomes go on, and how a list, a map or a repeat's list is made part by part.
 use Rattle.std.proofs.Common.{◌≡◌, ◌∙◌, ◌+◌, ◌<◌, ◌≤◌, ◌++◌, ℕ, zero, suc, List, [], ◌∷◌, Result, Ok, Err, refl, sym, ap}
-use Rattle.std.proofs.Common.{subst, drop, length, get_or, arith, add-one}
+use Rattle.std.proofs.Common.{Bool, true, false, map, unwrap_or, subst, drop, length, get_or, arith, add-one}
 use Rattle.std.proofs.lemmas.Cmp.{nat_list_cmp_total}
 use Rattle.std.specs.Cmp.Lexicographic.{slice_cmp}
 use Rattle.std.specs.List.{AllByRecursion}
@@ -8,16 +8,18 @@ use Rattle.std.specs.List.Sorted.{IsStrictlySortedBy}
 use Rattle.std.specs.Ordering.{nat_cmp, match_ordering, ordering_reverse}
 use Rattle.std.specs.declared.cmp.Ordering.{Ordering}
 use Rattle.std.specs.declared.cmp.Ordering.TheVariants.{Less, Greater}
-use Rattle.heat_value.specs.Data.{Data, Nodes, no_nodes, node, node_last, Members, no_members, member, keys_of, put}
+use Rattle.heat_value.specs.Data.{Data, null, Nodes, no_nodes, node, node_last, Members, no_members, member, keys_of, put}
 use Rattle.heat_value.specs.Meaning.{data_of, nodes_of, members_of}
 use Rattle.heat_value.specs.declared.path.Step.{Step}
 use Rattle.heat_value.specs.declared.path.Step.TheVariants.{Key, Index}
 use Rattle.heat_value.specs.declared.value.Value.{Value}
 use Rattle.heat_value.specs.declared.value.Member.{Member}
 use Rattle.hot_eval.specs.Answers.{IsFaultIn}
-use Rattle.hot_eval.specs.Choices.{Choice}
+use Rattle.hot_eval.specs.Choices.{Choice, Lists, choices, each_with}
 use Rattle.hot_eval.specs.Evaluation.{Evaluating, choice_outcome, choices_outcome}
 use Rattle.hot_eval.specs.Fillings.{filled}
+use Rattle.hot_eval.specs.Lookups.{node_at}
+use Rattle.hot_eval.specs.Repeats.{ArePlaces, GoesOn, choice_at, choices_from, each_from, count_of}
 use Rattle.hot_eval.specs.Outcomes.{Outcome, Gives, Faults, and_then, made_into, seen_from, under}
 use Rattle.hot_eval.specs.declared.fault.EvalFault.{EvalFault}
 use Rattle.hot_eval.specs.declared.fault.EvalFault.TheVariants as fault
@@ -282,3 +284,52 @@ module _ (again : Evaluating) (template : Data) where
 
   pub choices_end : (whole : Outcome Nodes) (made : Nodes) (n : ℕ) → IsChoiceWay whole made [] n → whole ≡ Gives made n
   choices_end whole made n way = way ∙ ap (λ (ns : Nodes). Gives ns n) (before-none made)
+
+-- ---- from places to places
+
+first_with : (k : List ℕ) (ns : Nodes) (p : ℕ) (c : Choice) (cs all : List Choice) → p < count_of ns
+    → (rest : List Choice) × (each_from k ns p (c ∷ cs) all ≡ ((k, unwrap_or (node_at ns p) null) ∷ c) ∷ rest)
+first_with k no_nodes p c cs all below = absurd (omega (arith, below))
+first_with k (node d ns) zero c cs all below = (map (λ e. (k, d) ∷ e) cs ++ each_with k ns all, refl)
+first_with k (node d ns) (suc p) c cs all below = first_with k ns p c cs all (omega (arith, below))
+
+-- the first choice from places on is the one at them
+first_choice : (ls : Lists) (ps : List ℕ) → ArePlaces ls ps
+    → (rest : List Choice) × (choices_from ls ps ≡ choice_at ls ps ∷ rest)
+first_choice [] ps h = ([], refl)
+first_choice (l ∷ ls) [] h = absurd h
+first_choice (l ∷ ls) (p ∷ ps) h =
+    let more = first_choice ls ps h.1 in
+    let here = first_with l.0 l.1 p (choice_at ls ps) more.0 (choices ls) h.0 in
+    (here.0, ap (λ (cs : List Choice). each_from l.0 l.1 p cs (choices ls)) more.1 ∙ here.1)
+
+module _ (again : Evaluating) (template : Data) (whole : Outcome Nodes) (ls : Lists) (ps : List ℕ) (c : Choice)
+    (same : c ≡ choice_at ls ps) where
+  at_choice : (rest : List Choice) → choices_from ls ps ≡ choice_at ls ps ∷ rest → choices_from ls ps ≡ c ∷ rest
+  at_choice rest is = is ∙ ap (λ (x : Choice). x ∷ rest) (sym same)
+
+  pub turn_stops : (e : EvalFault) (made : Nodes) (n : ℕ) → ArePlaces ls ps
+      → IsChoiceWay again template whole made (choices_from ls ps) n
+      → IsFaultIn e (choice_outcome again template c (filled c template) n) → IsFaultIn e whole
+  turn_stops e made n places way is =
+      let first = first_choice ls ps places in
+      choices_stop again template e whole made c first.0 n
+      (subst (λ (cs : List Choice). IsChoiceWay again template whole made cs n) (at_choice first.0 first.1) way) is
+
+  pub turn_goes_on : (b : Bool) (qs : List ℕ) (made now : Nodes) (d : Data) (n m : ℕ) → b ≡ true
+      → IsChoiceWay again template whole made (choices_from ls ps) n → now ≡ node_last made d
+      → choice_outcome again template c (filled c template) n ≡ Gives d m → GoesOn b ls ps qs
+      → IsChoiceWay again template whole now (choices_from ls qs) m × ArePlaces ls qs
+  turn_goes_on false qs made now d n m b way put is goes = cc
+  turn_goes_on true qs made now d n m b way put is goes =
+      (choices_go_on again template whole made now c (choices_from ls qs) d n m
+      (subst (λ (cs : List Choice). IsChoiceWay again template whole made cs n)
+      (at_choice (choices_from ls qs) goes.1) way) put is, goes.0)
+
+  pub turn_ends : (b : Bool) (qs : List ℕ) (made now : Nodes) (d : Data) (n m : ℕ) → b ≡ false
+      → IsChoiceWay again template whole made (choices_from ls ps) n → now ≡ node_last made d
+      → choice_outcome again template c (filled c template) n ≡ Gives d m → GoesOn b ls ps qs → whole ≡ Gives now m
+  turn_ends true qs made now d n m b way put is goes = cc
+  turn_ends false qs made now d n m b way put is goes =
+      choices_end again template whole now m (choices_go_on again template whole made now c [] d n m
+      (subst (λ (cs : List Choice). IsChoiceWay again template whole made cs n) (at_choice [] goes) way) put is)

@@ -263,6 +263,11 @@ abbrev mutual
       and_then (under (Index i) (condition_outcome again scene d spent)) (λ v sum.
       made_into (node v) (conditions_outcome again scene (i + 1) ns sum))
 
+-- a part of an object, as written where its key is this one
+abbrev pub outcome_unless : Evaluating → SceneData → List ℕ → List ℕ → Data → ℕ → Outcome Data
+outcome_unless again scene but k d spent =
+    if bytes_eq k but then Gives d spent else under (Key k) (value_outcome again scene d spent)
+
 -- a member that stands alone
 abbrev pub sole_of : Evaluating → SceneData → List ℕ → Data → Sole
 sole_of again scene k d = record {

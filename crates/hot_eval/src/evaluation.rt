@@ -8,7 +8,7 @@ ghost use Rattle.hot_eval.specs.Evaluation.{value_outcome, values_outcome, membe
 ghost use Rattle.hot_eval.specs.Evaluation.{condition_outcome, conditions_outcome, chosen_outcome, branch_outcome};
 ghost use Rattle.hot_eval.specs.Evaluation.{call as the_call, argument as the_argument, sole_of};
 ghost use Rattle.hot_eval.specs.Evaluation.{answer_of as the_answer_of, repeated as the_repeated};
-ghost use Rattle.hot_eval.specs.Evaluation.{choice_outcome, choices_outcome};
+ghost use Rattle.hot_eval.specs.Evaluation.{choice_outcome, choices_outcome, outcome_unless};
 ghost use Rattle.hot_eval.specs.Fillings.{filled};
 ghost use Rattle.hot_eval.specs.Repeats.{lists_of, AreKeys, choice_of, IsChoice};
 ghost use Rattle.hot_eval.specs.Scenes.{scene_data};
@@ -17,7 +17,7 @@ use crate::answering::{answered, charge, named_condition, own_answer};
 use crate::branches::{Picked, condition_and, pick};
 use crate::choices::{Choice, Repetition, choice_at, first_places, go_on, repetition_in};
 use crate::manner::Manner;
-use crate::names::{condition_function_of, function_of, is_condition_formed, is_formed};
+use crate::names::{condition_function_in, function_in, is_condition_formed, is_formed};
 use crate::placing::{at_key, at_place};
 use crate::replacing::{in_template, replaced_template};
 use crate::setting::Setting;
@@ -25,7 +25,6 @@ use crate::sorts::flag_in;
 use crate::sum::Sum;
 use crate::{EvalFault, FaultCode, Function};
 use heat_value::{Items, Member, Props, TryCopy, Value};
-use hot_functions::lone;
 
 /// Scalars are themselves, lists and objects go part by part, an object with one key may be a function.
 #[cycle(evaluation)]
@@ -74,12 +73,10 @@ fn object(set: &Setting, given: &Props, sum: &mut Sum) -> Result<Value, EvalFaul
         (value_outcome (again set.now) (scene_data set.now.scene) (fields_data given.now) sum.old) }
 {
     let set = &set.inside()?;
-    if let Some(member) = lone(given.as_slice()) {
-        if let Some(function) = function_of(member.key.as_str()) {
-            return call(set, function, is_formed(member), member, sum);
-        }
+    match function_in(given.as_slice()) {
+        Some((member, function)) => call(set, function, is_formed(member), member, sum),
+        None => Ok(Value::Fields(members(set, given, sum)?)),
     }
-    Ok(Value::Fields(members(set, given, sum)?))
 }
 
 // The argument is evaluated and counted, and then the function answers; F01 where it is off its form.
@@ -142,14 +139,28 @@ fn all_but(set: &Setting, but: &str, given: &Props, sum: &mut Sum) -> Result<Pro
 {
     let mut fields = Props::new(set.alloc);
     for member in given.as_slice() {
-        let made = if member.key.as_str() == but {
-            member.value.copy()?
-        } else {
-            at_key(&member.key, value(set, &member.value, sum))?
-        };
+        let made = unless_key(set, but, member, sum)?;
         fields.put(member.key.copy()?, made)?;
     }
     Ok(fields)
+}
+
+// The part under a key, as written where this is the key.
+#[cycle(evaluation)]
+fn unless_key(
+    set: &Setting,
+    but: &str,
+    member: &Member,
+    sum: &mut Sum,
+) -> Result<Value, EvalFault>
+    ensures { IsOutcome data_of result sum.new
+        (outcome_unless (again set.now) (scene_data set.now.scene) but.now member.now.key
+        (data_of member.now.value) sum.old) }
+{
+    if member.key.as_str() == but {
+        return Ok(member.value.copy()?);
+    }
+    at_key(&member.key, value(set, &member.value, sum))
 }
 
 // The condition's value, and behind it that of the branch which it chooses.
@@ -202,12 +213,12 @@ fn condition_object(set: &Setting, given: &Props, sum: &mut Sum) -> Result<Value
         (condition_outcome (again set.now) (scene_data set.now.scene) (fields_data given.now) sum.old) }
 {
     let set = &set.inside()?;
-    if let Some(member) = lone(given.as_slice()) {
-        if let Some(function) = condition_function_of(member.key.as_str()) {
-            return call(set, function, is_condition_formed(member), member, sum);
+    match condition_function_in(given.as_slice()) {
+        Some((member, function)) => {
+            call(set, function, is_condition_formed(member), member, sum)
         }
+        None => Ok(Value::Fields(given.copy()?)),
     }
-    Ok(Value::Fields(given.copy()?))
 }
 
 // Each part as a condition; what is true or false already ends nothing.

@@ -1,19 +1,19 @@
 //! The functions by their keys, and whether an argument has the form that its function wants.
-ghost use Rattle.std.specs.Prelude.{◌≡◌, codes};
-ghost use Rattle.heat_value.specs.Meaning.{data_of};
+ghost use Rattle.std.specs.Prelude.{◌≡◌, codes, option_map};
+ghost use Rattle.heat_value.specs.Meaning.{data_of, members_of};
 ghost use Rattle.hot_forms.specs.Shapes.{members_in};
 ghost use Rattle.hot_functions.specs.Forms.{stands as the_stands};
-ghost use Rattle.hot_eval.specs.Names.{function_of as the_function_of};
+ghost use Rattle.hot_eval.specs.Names.{function_of as the_function_of, named_in};
 ghost use Rattle.hot_eval.specs.Names.{condition_function_of as the_condition_function_of};
 ghost use Rattle.hot_eval.specs.Names.{has_form_of as the_has_form_of, is_formed as the_is_formed};
 ghost use Rattle.hot_eval.specs.Names.{is_condition_formed as the_is_condition_formed};
 
 use crate::Function;
 use heat_value::{Member, Value};
-use hot_functions::{Form, condition_form_of, form_of, has_form, stands};
+use hot_functions::{Form, condition_form_of, form_of, has_form, lone, stands};
 
 /// The function of values that a key names; any other key is plain.
-pub fn function_of(key: &str) -> Option<Function>
+fn function_of(key: &str) -> Option<Function>
     ensures { result ≡ the_function_of key.now }
 {
     if key == "get_param" {
@@ -71,7 +71,7 @@ pub fn function_of(key: &str) -> Option<Function>
 }
 
 /// The function of conditions that a key names.
-pub fn condition_function_of(key: &str) -> Option<Function>
+fn condition_function_of(key: &str) -> Option<Function>
     ensures { result ≡ the_condition_function_of key.now }
 {
     if key == "equals" {
@@ -93,6 +93,26 @@ pub fn condition_function_of(key: &str) -> Option<Function>
         return Some(Function::Contains);
     }
     None
+}
+
+/// The only member of an object and the function of values that its key names; none where that is no call.
+pub fn function_in(members: &[Member]) -> Option<(&Member, Function)>
+    ensures { option_map (λ p. (p.0.now.key, data_of p.0.now.value, p.1)) result
+        ≡ named_in the_function_of (members_of members.now) }
+{
+    let member = lone(members)?;
+    let function = function_of(member.key.as_str())?;
+    Some((member, function))
+}
+
+/// The same for functions of conditions.
+pub fn condition_function_in(members: &[Member]) -> Option<(&Member, Function)>
+    ensures { option_map (λ p. (p.0.now.key, data_of p.0.now.value, p.1)) result
+        ≡ named_in the_condition_function_of (members_of members.now) }
+{
+    let member = lone(members)?;
+    let function = condition_function_of(member.key.as_str())?;
+    Some((member, function))
 }
 
 /// Whether the argument of a function of values has its form, and no `permutations` stands in it.

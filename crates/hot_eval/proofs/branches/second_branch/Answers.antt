@@ -26,6 +26,16 @@ nothing inner scene spent (x ∷ vs) below = absurd (omega (arith, below))
 pub returns-in-empty : goal.returns-in-empty
 returns-in-empty c inner scene spent = nothing inner scene spent c.args.branches.now c.in-empty.len_below
 
+one : (inner : Evaluating) (scene : SceneData) (spent : ℕ) (vs : List Value) → 1 ≤ length vs → length vs < 2
+    → branch_outcome inner scene (Some false) (nodes_of vs) spent ≡ Gives (alone null) spent
+one inner scene spent [] above below = absurd (omega (arith, above))
+one inner scene spent (x ∷ []) above below = refl
+one inner scene spent (x ∷ y ∷ vs) above below = absurd (omega (arith, below))
+
+pub returns-in-len1 : goal.returns-in-len1
+returns-in-len1 c inner scene spent =
+    one inner scene spent c.args.branches.now c.in-len1.len_at_least c.in-len1.len_below
+
 pub returns-in-len2-up : goal.returns-in-len2-up
 returns-in-len2-up c inner scene spent =
     second inner scene spent c.args.branches.now c.second-item.result c.in-len2-up.len_at_least c.second-item.is

@@ -73,6 +73,9 @@ decreases-conditions l = l.set.now.depth.levels * 16 + 7
 abbrev pub decreases-repeated : goal.decreases-repeated
 decreases-repeated l = l.set.now.depth.levels * 16 + 7
 
+abbrev pub decreases-unless_key : goal.decreases-unless_key
+decreases-unless_key l = l.set.now.depth.levels * 16 + 6
+
 abbrev pub decreases-branch_value : goal.decreases-branch_value
 decreases-branch_value l = l.set.now.depth.levels * 16 + 6
 
