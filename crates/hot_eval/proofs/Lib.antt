@@ -7,8 +7,10 @@ pub mod Renames
 pub mod Replacements
 pub mod Turns
 pub mod Picks
+pub mod Listings
 pub mod Rooms
 pub mod Fills
+pub mod Takes
 pub mod Finds
 pub mod Weights
 pub mod Kept

@@ -2,7 +2,7 @@
 use Rattle.std.proofs.Common.{◌≡◌, ◌≢◌, ◌∙◌, ◌<◌, ◌≤◌, ◌+◌, ◌||◌, ℕ, zero, suc, List, [], ◌∷◌, ◌++◌, Bool, true, false}
 use Rattle.std.proofs.Common.{Option, Some, None, option_map, option_and_then, length, get_or, take, drop, map, refl, ap, sym}
 use Rattle.std.proofs.Common.{subst, arith, append_assoc}
-use Rattle.std.proofs.lemmas.List.{map-append, append-nil, length-append}
+use Rattle.std.proofs.lemmas.List.{map-append, append-nil, length-append, length-map, drop_all, drop_more}
 use Rattle.std.proofs.lemmas.List.Elements.{All-nil, All-cons}
 use Rattle.std.proofs.lemmas.Map.Text.{is_eq-slice_cmp}
 use Rattle.std.proofs.lemmas.Slice.Eq.{bytes_eq-Decides}
@@ -10,7 +10,7 @@ use Rattle.std.specs.Cmp.Lexicographic.{slice_cmp}
 use Rattle.std.specs.List.{All, list_any, AllByRecursion}
 use Rattle.std.specs.List.Sorted.{IsStrictlySortedBy}
 use Rattle.std.specs.Ordering.{nat_cmp, is_eq}
-use Rattle.std.specs.Prelude.{⊤, unwrap_or}
+use Rattle.std.specs.Prelude.{⊤, unwrap_or, if◌then◌else◌}
 use Rattle.std.specs.Str.{bytes_eq}
 use Rattle.std.specs.declared.cmp.Ordering.TheVariants.{Less}
 use denote.Ref.{Bor}
@@ -20,7 +20,7 @@ use Rattle.heat_value.specs.Meaning.{data_of}
 use Rattle.heat_value.specs.declared.value.Value.{Value}
 use Rattle.hot_strings.specs.Pieces.{Params, AreDistinct, HasNoEmptyKey}
 use Rattle.hot_eval.specs.Choices.{Lists, Choice, lists_in}
-use Rattle.hot_eval.specs.Fillings.{texts_for}
+use Rattle.hot_eval.specs.Fillings.{texts_for, item_of}
 use Rattle.hot_eval.specs.Lookups.{node_at}
 use Rattle.hot_eval.specs.Repeats.{AreKeys, ArePlaces, choice_at, with_items}
 use Rattle.hot_eval.specs.Sorts.{list_in}
@@ -166,3 +166,42 @@ full_texts (l ∷ ls) [] h = All-nil (λ q. q.0 ≢ [])
 full_texts (l ∷ ls) (p ∷ ps) h =
     All-cons (λ q. q.0 ≢ []) (l.0, coerced (unwrap_or (node_at l.1 p) null)) (texts_for (choice_at ls ps)) h.0
     (full_texts ls ps h.2)
+
+-- the whole choice
+pub making_all : (ls : Lists) (ps : List ℕ) (n : ℕ) (texts : Params) (vs : List (Bor Value)) → length ls ≤ n
+    → IsMaking ls ps n texts vs → with_items texts vs ≡ choice_at ls ps
+making_all ls ps n texts vs above h =
+    sym (append-nil (with_items texts vs))
+    ∙ (ap (λ x. with_items texts vs ++ choice_at x (drop n ps)) (sym (drop_all n ls above)) ∙ h.whole)
+
+-- ---- the item of a key
+
+pub length-items : (ps : Params) (vs : List (Bor Value)) → ps ≡ texts_for (with_items ps vs) → length ps ≤ length vs
+length-items ps vs e =
+    omega (arith, ap length e, length-map {B = List ℕ × List ℕ} (with_items ps vs) (λ q. (q.0, coerced q.1)), shorter ps vs)
+  where
+    shorter : (ps : Params) (vs : List (Bor Value)) → length (with_items ps vs) ≤ length vs
+    shorter [] vs = omega arith
+    shorter (p ∷ ps) [] = omega arith
+    shorter (p ∷ ps) (v ∷ vs) = omega (arith, shorter ps vs)
+
+-- a list is not at its end before its length
+rest_there : (vs : List (Bor Value)) (n : ℕ) → n < length vs → (v : Bor Value) × (drop n vs ≡ v ∷ drop (n + 1) vs)
+rest_there [] n below = absurd (omega (arith, below))
+rest_there (w ∷ vs) n below = (get_or (w ∷ vs) n w, drop_more (w ∷ vs) n w below)
+
+pub item_next : (s : List ℕ) (ps : Params) (vs : List (Bor Value)) (n : ℕ) (p d : List ℕ × List ℕ)
+    (whole : Option Data) → n < length ps → length ps ≤ length vs → p ≡ get_or ps n d → bytes_eq p.0 s ≡ false
+    → whole ≡ item_of (with_items (drop n ps) (drop n vs)) s
+    → whole ≡ item_of (with_items (drop (n + 1) ps) (drop (n + 1) vs)) s
+item_next s ps vs n p d whole below within at other is =
+    let t = rest_there vs n (omega (arith, below, within)) in
+    is ∙ (rw (rest_at ps n p d below at, t.1)
+    (ap (λ b. if b then Some (data_of t.0.now) else item_of (with_items (drop (n + 1) ps) (drop (n + 1) vs)) s) other))
+
+pub item_here : (s : List ℕ) (ps : Params) (vs : List (Bor Value)) (n : ℕ) (p d : List ℕ × List ℕ) (v e : Bor Value)
+    (whole : Option Data) → n < length ps → length ps ≤ length vs → p ≡ get_or ps n d → v ≡ get_or vs n e
+    → bytes_eq p.0 s ≡ true → whole ≡ item_of (with_items (drop n ps) (drop n vs)) s → Some (data_of v.now) ≡ whole
+item_here s ps vs n p d v e whole below within at there here is =
+    sym (is ∙ (rw (rest_at ps n p d below at, rest_at vs n v e (omega (arith, below, within)) there)
+    (ap (λ b. if b then Some (data_of v.now) else item_of (with_items (drop (n + 1) ps) (drop (n + 1) vs)) s) here)))

@@ -3,9 +3,12 @@ use Rattle.std.proofs.Common.{◌≡◌, ◌<◌, ◌≤◌, ◌+◌, ℕ, List,
 use Rattle.std.proofs.Common.{zero, suc, Option, Some, None, option_map, option_and_then, refl, arith}
 use Rattle.std.specs.Slice.{IsItemAt}
 use Rattle.hot_eval.specs.Lookups.{node_at}
+use Rattle.hot_eval.specs.Fillings.{step_in_list}
+use Rattle.heat_value.specs.declared.path.Step.{Step}
+use Rattle.heat_value.specs.declared.path.Step.TheVariants.{Index}
 use Rattle.std.proofs.lemmas.List.{drop_more, drop_all}
 use denote.Ref.{Bor}
-use Rattle.heat_value.specs.Data.{Nodes, no_nodes, node, no_members, member}
+use Rattle.heat_value.specs.Data.{Data, Nodes, no_nodes, node, no_members, member}
 use Rattle.heat_value.specs.Meaning.{data_of, nodes_of, members_of}
 use Rattle.heat_value.specs.declared.value.Value.{Value}
 use Rattle.heat_value.specs.declared.value.Member.{Member}
@@ -63,3 +66,9 @@ got_node vs n (Some v) h = node_there vs n v.now h.3.0 h.1
 pub at_named : (vs : List Value) (o : Option ℕ) (n : ℕ) (r : Option (Bor Value)) → o ≡ Some n → IsItemAt vs n r
     → option_map (λ (v : Bor Value). data_of v.now) r ≡ option_and_then (node_at (nodes_of vs)) o
 at_named vs o n r named got = got_node vs n r got ∙ ap (option_and_then (node_at (nodes_of vs))) (sym named)
+
+-- the step to it
+pub got_step : (vs : List Value) (n : ℕ) (r : Option (Bor Value)) → IsItemAt vs n r
+    → option_map {U = Step × Data} (λ (v : Bor Value). (Index n, data_of v.now)) r ≡ step_in_list (nodes_of vs) (Index n)
+got_step vs n None h = ap (option_map {U = Step × Data} (λ d. (Index n, d))) (got_node vs n None h)
+got_step vs n (Some v) h = ap (option_map {U = Step × Data} (λ d. (Index n, d))) (got_node vs n (Some v) h)

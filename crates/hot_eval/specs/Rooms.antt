@@ -1,6 +1,6 @@
 -- What a template takes while it is made, and what is made of it.
-use Rattle.std.specs.Prelude.{◌≡◌, ℕ, ◌+◌, ◌-◌, nat_le, List, ⊤, Option, Some, None, Result, Ok, Err, IfSome, MatchOption}
-use Rattle.std.specs.Prelude.{AllocError, if◌then◌else◌}
+use Rattle.std.specs.Prelude.{◌≡◌, ℕ, ◌+◌, ◌-◌, nat_le, List, ⊤, Option, Some, None, Result, Ok, Err, IfSome}
+use Rattle.std.specs.Prelude.{◌<◌, if◌then◌else◌}
 use Rattle.heat_value.specs.Data.{Data, null, flag, whole, words, items, fields, Nodes, no_nodes, node}
 use Rattle.heat_value.specs.Data.{Members, no_members, member}
 use Rattle.heat_value.specs.Meaning.{data_of}
@@ -39,12 +39,12 @@ abbrev pub IsMade : Option ℕ → Option ℕ → ℕ → Data → Data → Type
 IsMade before now n made d = (now ≡ room_behind before n) × IfSome now (λ _. made ≡ d)
 
 -- the template with keys replaced, as far as there is room; or two keys of an object became one
-abbrev pub IsFilled : Result Filled AllocError → Option ℕ → Option ℕ → ℕ → Option Data → Type 0
+abbrev pub IsFilled : {E : Type 0} → Result Filled E → Option ℕ → Option ℕ → ℕ → Option Data → Type 0
 IsFilled (Ok (filled.Template v)) before now n o = (d : Data) × (o ≡ Some d) × IsMade before now n (data_of v) d
 IsFilled (Ok filled.Same) before now n o = o ≡ None
 IsFilled (Err e) before now n o = ⊤
 
 -- the room for so many bytes is used up by a template that takes more
-abbrev pub IsTooLarge : Result Filled AllocError → Option ℕ → Option ℕ → Option Data → Type 0
+abbrev pub IsTooLarge : {E : Type 0} → Result Filled E → Option ℕ → Option ℕ → Option Data → Type 0
 IsTooLarge (Ok f) (Some m) None (Some d) = m < size d
 IsTooLarge r before now o = ⊤

@@ -1,6 +1,7 @@
 //! The choices that a repeat goes through: one item for each key, the last key's items going fastest.
-ghost use Rattle.std.specs.Prelude.{◌≡◌, ◌<◌, IfOk, Some, length, option_map};
+ghost use Rattle.std.specs.Prelude.{◌≡◌, ◌<◌, ◌≤◌, ◌+◌, IfOk, MatchOption, Some, length, option_map};
 ghost use Rattle.std.specs.List.{list_any};
+ghost use Rattle.heat_value.specs.Coercion.{coerced};
 ghost use Rattle.heat_value.specs.Meaning.{data_of, nodes_of, members_of};
 ghost use Rattle.hot_eval.specs.Choices.{repetition, lists_in as the_lists_in};
 ghost use Rattle.hot_eval.specs.Lookups.{node_at};
@@ -104,13 +105,25 @@ pub fn go_on(lists: &[Listed], places: &mut Vec<usize>) -> bool
     let mut at = lists.len();
     while at > 0 {
         at -= 1;
-        if places[at] + 1 < lists[at].items.len() {
-            places[at] += 1;
-            return true;
+        match next_place(lists[at].items, places[at]) {
+            Some(next) => {
+                places[at] = next;
+                return true;
+            }
+            None => places[at] = 0,
         }
-        places[at] = 0;
     }
     false
+}
+
+// The place behind this one; none behind the last.
+fn next_place(items: &[Value], place: usize) -> Option<usize>
+    requires { place < length items.now }
+    ensures { MatchOption result (length items.now ≤ place + 1)
+        (λ next. (next ≡ place + 1) × (next < length items.now)) }
+{
+    let left = items.len() - place;
+    if left > 1 { Some(place + 1) } else { None }
 }
 
 /// The choice of these places.
@@ -128,10 +141,17 @@ pub fn choice_at<'a>(
     let mut items = Vec::new(alloc);
     for at in 0..lists.len() {
         let item = item_at(lists[at].items, places[at]);
-        texts.push((lists[at].key.copy()?, text_of(alloc, item)?))?;
+        texts.push(with_text(alloc, lists[at].key, item)?)?;
         items.push(item)?;
     }
     Ok(Choice { texts, items })
+}
+
+// A key with its item's text.
+fn with_text(alloc: Global, key: &Text, item: &Value) -> Result<(Text, Text), AllocError>
+    ensures { IfOk result (λ p. p ≡ (key.now, coerced (data_of item.now))) }
+{
+    Ok((key.copy()?, text_of(alloc, item)?))
 }
 
 // The item at a place.

@@ -1,13 +1,16 @@
 //! The literal template of a repeat with a choice's items in place of the keys, and where its parts stood.
-ghost use Rattle.std.specs.Prelude.{◌≡◌, ◌<◌, ◌-◌, ◌^◌, ◌≤◌, IfOk, MatchOption, Some, None, is_none, is_some};
-ghost use Rattle.std.specs.Prelude.{option_map, unwrap_or};
+ghost use Rattle.std.specs.Prelude.{◌≡◌, ◌<◌, ◌-◌, ◌^◌, ◌≤◌, ◌≢◌, IfOk, OnOk, MatchOption, Some, None, is_none, is_some};
+ghost use Rattle.std.specs.Prelude.{option_map, unwrap_or, bytes_eq, MatchBool, true, false};
+ghost use Rattle.hot_functions.specs.Forms.{stands};
 ghost use Rattle.heat_value.specs.Data.{words as words_data, items as items_data, fields as fields_data};
+ghost use Rattle.heat_value.specs.Data.{put};
 ghost use Rattle.heat_value.specs.Meaning.{data_of, nodes_of, members_of};
+ghost use Rattle.heat_value.specs.declared.path.Step.TheVariants.{Index};
 ghost use Rattle.hot_eval.specs.Faults.{IsSeenFrom};
 ghost use Rattle.hot_eval.specs.Fillings.{filled as the_filled, text_filled as the_text_filled};
 ghost use Rattle.hot_eval.specs.Fillings.{words_filled as the_words_filled, item_of as the_item_of};
 ghost use Rattle.hot_eval.specs.Fillings.{literal_path as the_literal_path, literal_step as the_literal_step};
-ghost use Rattle.hot_eval.specs.Fillings.{member_becoming as the_member_becoming};
+ghost use Rattle.hot_eval.specs.Fillings.{step_in_list, member_becoming as the_member_becoming};
 ghost use Rattle.hot_eval.specs.Outcomes.{size};
 ghost use Rattle.hot_eval.specs.Repeats.{choice_of, IsChoice};
 ghost use Rattle.hot_eval.specs.Rooms.{taken, room_behind, IsMade, IsFilled, IsTooLarge};
@@ -126,11 +129,14 @@ fn value_filled(
         Value::Words(words) => Ok(Filled::Template(words_filled(alloc, choice, words, room)?)),
         Value::Items(items) => items_filled(alloc, choice, items.as_slice(), room),
         Value::Fields(fields) => fields_filled(alloc, choice, fields.as_slice(), room),
-        Value::Null | Value::Flag(_) | Value::Whole(_) => Ok(Filled::Template(template.copy()?)),
+        Value::Null => Ok(Filled::Template(Value::Null)),
+        Value::Flag(flag) => Ok(Filled::Template(Value::Flag(*flag))),
+        Value::Whole(_) => Ok(Filled::Template(template.copy()?)),
     }
 }
 
 #[cycle(filling)]
+#[tactic(auto, using(crate::proofs::Weights::for_walks))]
 fn items_filled(
     alloc: Global,
     choice: &Choice,
@@ -153,6 +159,7 @@ fn items_filled(
 }
 
 #[cycle(filling)]
+#[tactic(auto, using(crate::proofs::Weights::for_walks))]
 fn fields_filled(
     alloc: Global,
     choice: &Choice,
@@ -169,15 +176,33 @@ fn fields_filled(
         match value_filled(alloc, choice, &member.value, room)? {
             Filled::Template(value) => {
                 let key = key_filled(alloc, choice, &member.key)?;
-                if fields.get(&key).is_some() {
+                if !put_new(&mut fields, key, value)? {
                     return Ok(Filled::Same);
                 }
-                fields.put(key, value)?;
             }
             Filled::Same => return Ok(Filled::Same),
         }
     }
     Ok(Filled::Template(Value::Fields(fields)))
+}
+
+// Puts a value under a key that doesn't stand yet; false where it does.
+fn put_new(fields: &mut Props, key: Text, value: Value) -> Result<bool, AllocError>
+    ensures { IfOk result (λ b. MatchBool b
+        ((stands key fields.old ≡ false) × (fields.new ≡ put key (data_of value) fields.old))
+        (stands key fields.old ≡ true)) }
+{
+    if has_key(fields, &key) {
+        return Ok(false);
+    }
+    fields.put(key, value)?;
+    Ok(true)
+}
+
+fn has_key(fields: &Props, key: &Text) -> bool
+    ensures { result ≡ stands key.now fields.now }
+{
+    fields.get(key).is_some()
 }
 
 // A text that is just one key becomes the item itself; null in its place where there is no room.
@@ -241,11 +266,17 @@ fn item_of<'a>(choice: &Choice<'a>, words: &Text) -> Option<&'a Value>
     ensures { option_map (λ v. data_of v.now) result ≡ the_item_of (choice_of choice.now) words.now }
 {
     for (at, text) in choice.texts.iter().enumerate() {
-        if text.0 == *words {
+        if is_key(text, words) {
             return Some(choice.items[at]);
         }
     }
     None
+}
+
+fn is_key(text: &(Text, Text), words: &Text) -> bool
+    ensures { result ≡ bytes_eq text.now.0 words.now }
+{
+    text.0.as_str() == words.as_str()
 }
 
 // An object's key with keys replaced. One that takes more than a whole evaluation may cost isn't made.
@@ -276,8 +307,18 @@ fn text_filled(
     }
     match replace_within(alloc, words, choice.texts.as_slice(), limit) {
         Ok(text) => Ok(Some(text)),
-        Err(StringFault::Memory) => Err(AllocError),
-        Err(StringFault::F02 | StringFault::F03 | StringFault::F04 | StringFault::F06) => Ok(None),
+        Err(fault) => none_for(fault),
+    }
+}
+
+// No text, where there was memory.
+fn none_for(fault: StringFault) -> Result<Option<Text>, AllocError>
+    ensures none { IfOk result (λ o. o ≡ None) }
+    ensures cause { OnOk result (fault ≢ StringFault.Memory) }
+{
+    match fault {
+        StringFault::F02 | StringFault::F03 | StringFault::F04 | StringFault::F06 => Ok(None),
+        StringFault::Memory => Err(AllocError),
     }
 }
 
@@ -341,14 +382,22 @@ fn literal_step<'a>(
         ≡ the_literal_step (choice_of choice.now) (data_of template.now) step.now) }
 {
     match (template, step) {
-        (Value::Items(items), Step::Index(at)) => match items.as_slice().get(*at) {
-            Some(value) => Ok(Some((Step::Index(*at), value))),
-            None => Ok(None),
-        },
+        (Value::Items(items), Step::Index(at)) => Ok(item_step(items.as_slice(), *at)),
         (Value::Fields(fields), Step::Key(key)) => {
             member_becoming(alloc, choice, key, fields.as_slice())
         }
         _ => Ok(None),
+    }
+}
+
+// The step to a place of a list.
+fn item_step<'a>(values: &'a [Value], at: usize) -> Option<(Step, &'a Value)>
+    ensures { option_map (λ p. (p.0, data_of p.1.now)) result
+        ≡ step_in_list (nodes_of values.now) (Index at) }
+{
+    match values.get(at) {
+        Some(value) => Some((Step::Index(at), value)),
+        None => None,
     }
 }
 
