@@ -1,13 +1,15 @@
 -- What is made whatever it costs.
-use Rattle.std.proofs.Common.{◌≡◌, ◌∙◌, ℕ, List, Result, Ok, Err, Bool, true, false, ◌&&◌, nat_le, ap, sym, refl}
-use Rattle.std.proofs.Common.{if◌then◌else◌}
-use Rattle.heat_value.specs.Data.{Data, Members, fields}
+use Rattle.std.proofs.Common.{◌≡◌, ◌∙◌, ℕ, List, Result, Ok, Err, Bool, true, false, ◌&&◌, nat_le, ap, sym, subst, refl}
+use Rattle.std.proofs.Common.{◌≤◌, [], if◌then◌else◌}
+use Rattle.std.proofs.lemmas.Bool.{leb-true}
+use Rattle.heat_value.specs.Data.{Data, Members, fields, depth}
 use Rattle.heat_value.specs.declared.path.Step.{Step}
 use Rattle.hot_eval.specs.Answers.{IsFaultIn, IsOutcome, IsMadeOf}
-use Rattle.hot_eval.specs.Outcomes.{Outcome, Gives, Faults, is_result}
+use Rattle.hot_eval.specs.Outcomes.{Outcome, Gives, Faults, is_result, size}
 use Rattle.hot_eval.specs.Evaluation.{Evaluating, value_outcome, members_outcome, evaluation}
 use Rattle.hot_eval.specs.Resolutions.{unless_large, eval, properties}
 use Rattle.hot_eval.specs.Scenes.{SceneData}
+use Rattle.hot_eval.specs.declared.code.FaultCode.TheVariants.{F06}
 use Rattle.hot_eval.specs.declared.fault.EvalFault.{EvalFault}
 use Rattle.hot_eval.specs.declared.fault.EvalFault.TheVariants as fault
 
@@ -37,3 +39,27 @@ properties_are X S T ms ls n scene again none same =
     ∙ ap (λ (s : SceneData). members_outcome (evaluation S) s ls n) scene
     ∙ ap (λ (l : Members). members_outcome (evaluation S) S l n) same
     ∙ ap (members_outcome (evaluation S) S ms) none)
+
+-- ---- the whole map
+
+second : (a b : Bool) → (a && b) ≡ true → b ≡ true
+second true b e = e
+second false b e = cc
+
+pub depth_small : (b : Bool) (ms : Members) → b ≡ is_result (fields ms) → b ≡ true → depth (fields ms) ≤ 64
+depth_small b ms same is = leb-true (depth (fields ms)) 64 (second (nat_le (size (fields ms)) 1048576) _ (sym same ∙ is))
+
+pub large_is : (b : Bool) (ms : Members) (n : ℕ) → b ≡ is_result (fields ms) → b ≡ false
+    → unless_large (Gives ms n) ≡ Faults F06 []
+large_is b ms n same is = ap (λ b. if b then Gives ms n else Faults F06 []) (sym same ∙ is)
+
+pub small_is : (b : Bool) (ms : Members) (n : ℕ) → b ≡ is_result (fields ms) → b ≡ true
+    → unless_large (Gives ms n) ≡ Gives ms n
+small_is b ms n same is = ap (λ b. if b then Gives ms n else Faults F06 []) (sym same ∙ is)
+
+-- what is done with a map that was made is what is done with what the outcome gives
+pub made_by : {V : Type 0} {content : V → Members} (r : Result V EvalFault) (o p : Outcome Members) (ms : Members) {n : ℕ}
+    → o ≡ p → p ≡ Gives ms n → ((sum : ℕ) → IsMadeOf content r (unless_large (Gives ms sum)))
+    → IsMadeOf content r (unless_large o)
+made_by {V} {content} r o p ms {n} same is told =
+    subst (λ (x : Outcome Members). IsMadeOf content r (unless_large x)) (sym (same ∙ is)) (told n)
