@@ -1,10 +1,10 @@
 //! A value, or the properties of an item, with the facts that are known.
 ghost use Rattle.std.specs.Prelude.{◌≡◌, ◌++◌, ℕ};
-ghost use Rattle.heat_value.specs.Data.{Members};
+ghost use Rattle.heat_value.specs.Data.{Members, fields};
 ghost use Rattle.heat_value.specs.Meaning.{data_of};
 ghost use Rattle.hot_eval.specs.Answers.{IsMadeOf, again};
 ghost use Rattle.hot_eval.specs.Evaluation.{evaluation};
-ghost use Rattle.hot_eval.specs.Outcomes.{Outcome, Gives, seen_from};
+ghost use Rattle.hot_eval.specs.Outcomes.{Outcome, Gives, seen_from, is_result as the_is_result};
 ghost use Rattle.hot_eval.specs.Resolutions.{eval as the_eval, resolve as the_resolve};
 ghost use Rattle.hot_eval.specs.Resolutions.{properties as the_properties, properties_path, unless_large};
 ghost use Rattle.hot_eval.specs.Scenes.{scene_of, scene_data};
@@ -15,7 +15,7 @@ use crate::setting::Setting;
 use crate::sum::Sum;
 use crate::{EvalFault, FaultCode, Scene};
 use heat_plan::{Item, KnownFacts, Plan, Properties, ResName};
-use heat_value::{Props, Text, Value};
+use heat_value::{MAX_DEPTH, Props, Text, Value};
 use hot_strings::map_fits;
 use std::alloc::Global;
 
@@ -70,13 +70,20 @@ fn properties(
 fn large_or(alloc: Global, made: Props) -> Result<Properties, EvalFault>
     ensures { (sum : ℕ) → IsMadeOf (λ ms. ms) result (unless_large (Gives made sum)) }
 {
-    if !map_fits(&made) {
+    if !is_result(&made) {
         return Err(EvalFault::here(alloc, FaultCode::F06));
     }
     match Properties::from_props(made) {
         Some(props) => Ok(props),
-        None => Err(EvalFault::here(alloc, FaultCode::F06)),
+        None => unreachable!(),
     }
+}
+
+// Whether a map has the size and the depth that results may have.
+fn is_result(made: &Props) -> bool
+    ensures { result ≡ the_is_result (fields made.now) }
+{
+    map_fits(made) && made.are_within(MAX_DEPTH - 1)
 }
 
 /// An evaluation's setting at the root of a value.
