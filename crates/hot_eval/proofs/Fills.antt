@@ -1,5 +1,5 @@
 -- A template that is replaced part by part.
-use Rattle.std.proofs.Common.{◌≡◌, ◌∙◌, ◌<◌, ◌≤◌, ◌+◌, ◌||◌, ℕ, ℤ, List, [], ◌∷◌, Bool, true, false, Option, Some, None}
+use Rattle.std.proofs.Common.{◌≡◌, ◌∙◌, ◌<◌, ◌≤◌, ◌+◌, ◌||◌, ℕ, List, [], ◌∷◌, Bool, true, false, Option, Some, None}
 use Rattle.std.proofs.Common.{option_map, option_and_then, is_some, refl, ap, sym, subst, arith, bytes_eq}
 use Rattle.std.specs.Cmp.Lexicographic.{slice_cmp}
 use Rattle.std.specs.Option.{IfSome}
@@ -7,10 +7,7 @@ use Rattle.std.specs.Ordering.{nat_cmp, match_ordering}
 use Rattle.std.specs.Prelude.{if◌then◌else◌}
 use Rattle.std.specs.declared.cmp.Ordering.{Ordering}
 use Rattle.std.specs.declared.cmp.Ordering.TheVariants.{Less, Equal, Greater}
-use Rattle.heat_value.specs.Data.{Data, whole, items, fields, Nodes, no_nodes, node, node_last, Members, no_members, member, keys_of, put}
-use Rattle.heat_value.specs.Meaning.{data_of}
-use Rattle.heat_value.specs.declared.value.Value.{Value}
-use Rattle.heat_value.specs.declared.value.Value.TheVariants as value
+use Rattle.heat_value.specs.Data.{Data, items, fields, Nodes, no_nodes, node, node_last, Members, no_members, member, keys_of, put}
 use Rattle.hot_functions.specs.Forms.{stands}
 use Rattle.hot_eval.specs.Choices.{Choice}
 use Rattle.hot_eval.specs.Fillings.{filled, nodes_filled, members_filled, text_filled}
@@ -31,7 +28,7 @@ pub record AreFilling (c : Choice) (before now : Option ℕ) (done rest whole : 
   pub room : now ≡ room_behind before spent
   pub same : IfSome now (λ _. done ≡ made)
 
-always : (P : Type 0) (o : Option ℕ) → P → IfSome o (λ _. P)
+pub always : (P : Type 0) (o : Option ℕ) → P → IfSome o (λ _. P)
 always P None p = tt
 always P (Some m) p = p
 
@@ -228,19 +225,3 @@ keys_all c before now done rest whole end h = (
     ifs (done ≡ h.made) (fields done ≡ fields h.made) now (λ e. ap fields e) h.same,
   ),
 )
-
--- ---- scalars
-
-pub scalar_filled : (c : Choice) (v : Value) (d made : Data) (o : Option ℕ) → data_of v ≡ d → filled c d ≡ Some d
-    → taken c d ≡ 0 → made ≡ d
-    → (e : Data) × (filled c (data_of v) ≡ Some e) × IsMade o o (taken c (data_of v)) made e
-scalar_filled c v d made o is same none made_is = (
-  d,
-  ap (filled c) is ∙ same,
-  (sym (ap (room_behind o) (ap (taken c) is ∙ none) ∙ room_behind-none o), always (made ≡ d) o made_is),
-)
-
-pub scalar_whole : (c : Choice) (v : Value) (z : ℤ) (made : Data) (o : Option ℕ) → v ≡ value.Whole z → made ≡ data_of v
-    → (e : Data) × (filled c (data_of v) ≡ Some e) × IsMade o o (taken c (data_of v)) made e
-scalar_whole c v z made o is made_is =
-    scalar_filled c v (whole z) made o (ap data_of is) refl refl (made_is ∙ ap data_of is)

@@ -10,6 +10,7 @@ pub mod Picks
 pub mod Listings
 pub mod Rooms
 pub mod Fills
+pub mod Scalars
 pub mod Takes
 pub mod Finds
 pub mod Weights

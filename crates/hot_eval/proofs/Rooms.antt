@@ -87,11 +87,3 @@ both_some P Q (Some m) n q p = go (room_behind (Some m) n) p
     go : (o : Option ℕ) → IfSome o (λ _. P) → IfSome o (λ _. P × Q)
     go None p = tt
     go (Some k) p = (p, q)
-
--- what takes nothing
-pub made_at_once : (o : Option ℕ) (d : Data) → IsMade o o 0 d d
-made_at_once o d = (sym (room_behind-none o), owed o)
-  where
-    owed : (o : Option ℕ) → IfSome o (λ _. d ≡ d)
-    owed None = tt
-    owed (Some m) = refl

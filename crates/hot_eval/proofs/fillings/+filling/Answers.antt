@@ -2,7 +2,8 @@ use Rattle.std.proofs.Common.{◌≡◌, ◌∙◌, ap, refl}
 use Rattle.heat_value.specs.Data.{null, flag, whole}
 use Rattle.heat_value.specs.Meaning.{data_of}
 use Rattle.hot_eval.specs.Repeats.{choice_of}
-use Rattle.hot_eval.proofs.Fills.{filling_next, filling_all, keys_next, keys_same, keys_all, scalar_filled, scalar_whole}
+use Rattle.hot_eval.proofs.Fills.{filling_next, filling_all, keys_next, keys_same, keys_all}
+use Rattle.hot_eval.proofs.Scalars.{scalar_filled, scalar_whole}
 use Rattle.hot_eval.proofs.Places.{nodes_at, nodes_end, members_at, members_end}
 use Rattle.hot_eval.proofs.fillings.+filling.Goals as goal
 
