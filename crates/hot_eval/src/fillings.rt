@@ -93,7 +93,11 @@ fn left_behind(left: Option<usize>, bytes: usize) -> Option<usize>
     ensures { result ≡ room_behind left bytes }
 {
     match left {
-        Some(left) => if bytes <= left { Some(left - bytes) } else { None },
+        Some(left) => if bytes <= left {
+            Some(left - bytes)
+        } else {
+            None
+        },
         None => None,
     }
 }

@@ -98,10 +98,7 @@ fn renaming_in<'a>(
 }
 
 // Both, where the names are texts.
-fn both<'a>(
-    names: Option<&'a Props>,
-    values: Option<&'a Props>,
-) -> Option<(&'a Props, &'a Props)>
+fn both<'a>(names: Option<&'a Props>, values: Option<&'a Props>) -> Option<(&'a Props, &'a Props)>
     ensures { option_map (λ p. (p.0.now, p.1.now)) result
         ≡ named_by (option_map (λ m. m.now) names.entry) (option_map (λ m. m.now) values.entry) }
 {
