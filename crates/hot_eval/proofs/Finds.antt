@@ -7,7 +7,7 @@ use Rattle.heat_plan.specs.declared.facts.Facts.{Facts}
 use Rattle.heat_plan.specs.declared.facts.KnownFacts.{KnownFacts}
 use Rattle.hot_eval.specs.Scenes.{is_one_of, present, facts_told}
 
-none_at : {X : Type 0} (b : Bool) → cond b (None {T = X}) None ≡ None
+none_at : {X : Type 0} (b : Bool) → cond {A = Option X} b None None ≡ None
 none_at true = refl
 none_at false = refl
 
