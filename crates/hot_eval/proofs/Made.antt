@@ -1,12 +1,12 @@
 -- What is made whatever it costs.
 use Rattle.std.proofs.Common.{◌≡◌, ◌∙◌, ℕ, List, Result, Ok, Err, Bool, true, false, ◌&&◌, nat_le, ap, sym, subst, refl}
-use Rattle.std.proofs.Common.{◌≤◌, [], if◌then◌else◌}
+use Rattle.std.proofs.Common.{◌≤◌, ◌-◌, [], arith, if◌then◌else◌}
 use Rattle.std.proofs.lemmas.Bool.{leb-true}
 use Rattle.heat_value.specs.Data.{Data, Members, fields, depth}
 use Rattle.heat_value.specs.declared.path.Step.{Step}
 use Rattle.hot_eval.specs.Answers.{IsFaultIn, IsOutcome, IsMadeOf}
-use Rattle.hot_eval.specs.Outcomes.{Outcome, Gives, Faults, is_result, size}
-use Rattle.hot_eval.specs.Evaluation.{Evaluating, value_outcome, members_outcome, evaluation}
+use Rattle.hot_eval.specs.Outcomes.{Outcome, Gives, Faults, is_result, size, cost_limit}
+use Rattle.hot_eval.specs.Evaluation.{Evaluating, value_outcome, members_outcome, evaluation, evaluation_within}
 use Rattle.hot_eval.specs.Resolutions.{unless_large, eval, properties}
 use Rattle.hot_eval.specs.Scenes.{SceneData}
 use Rattle.hot_eval.specs.declared.code.FaultCode.TheVariants.{F06}
@@ -58,8 +58,19 @@ pub small_is : (b : Bool) (ms : Members) (n : ℕ) → b ≡ is_result (fields m
 small_is b ms n same is = ap (λ b. if b then Gives ms n else Faults F06 []) (sym same ∙ is)
 
 -- what is done with a map that was made is what is done with what the outcome gives
-pub made_by : {V : Type 0} {content : V → Members} (r : Result V EvalFault) (o p : Outcome Members) (ms : Members) {n : ℕ}
+pub made_by : {V : Type 0} (content : V → Members) (r : Result V EvalFault) (o p : Outcome Members) (ms : Members) {n : ℕ}
     → o ≡ p → p ≡ Gives ms n → ((sum : ℕ) → IsMadeOf content r (unless_large (Gives ms sum)))
     → IsMadeOf content r (unless_large o)
-made_by {V} {content} r o p ms {n} same is told =
+made_by {V} content r o p ms {n} same is told =
     subst (λ (x : Outcome Members). IsMadeOf content r (unless_large x)) (sym (same ∙ is)) (told n)
+
+-- ---- the root
+
+up_to : (limit r : ℕ) (S T : SceneData) → r ≡ 0 → T ≡ S → evaluation_within (limit - r) T ≡ evaluation_within limit S
+up_to limit r S T none scene =
+    let all : limit - r ≡ limit = omega (arith, none) in
+    ap (λ (m : ℕ). evaluation_within m T) all ∙ ap (evaluation_within limit) scene
+
+pub root_is : (r : ℕ) (S T : SceneData) → r ≡ 0 → T ≡ S → evaluation_within (cost_limit - r) T ≡ evaluation S
+unfolding evaluation
+root_is r S T none scene = up_to cost_limit r S T none scene

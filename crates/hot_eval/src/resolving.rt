@@ -21,7 +21,6 @@ use std::alloc::Global;
 
 /// What a value of a plan comes to, with the facts that are known, or the first fault, whose path begins
 /// at the value.
-#[tactic(auto, unfolding(crate::specs::Resolutions::eval))]
 pub fn eval(
     alloc: Global,
     given: &Value,
@@ -35,7 +34,6 @@ pub fn eval(
 
 /// The properties of an item of the plan, with the facts that are known, or the first fault, whose path
 /// begins at the template.
-#[tactic(auto, unfolding(crate::specs::Resolutions::resolve))]
 pub fn resolve(
     alloc: Global,
     plan: &Plan,
@@ -87,7 +85,6 @@ fn is_result(made: &Props) -> bool
 }
 
 /// An evaluation's setting at the root of a value.
-#[tactic(auto, unfolding(crate::specs::Evaluation::evaluation))]
 pub fn setting<'a>(alloc: Global, plan: &'a Plan, known: &'a [KnownFacts]) -> Setting<'a>
     ensures scene { scene_data result.scene ≡ scene_of plan.now known.now }
     ensures again { again result ≡ evaluation (scene_of plan.now known.now) }

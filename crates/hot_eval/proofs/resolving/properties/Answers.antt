@@ -6,9 +6,9 @@ use Rattle.hot_eval.specs.Scenes.{scene_data, scene_of}
 use Rattle.hot_eval.proofs.Made.{large_fault, made_by, properties_are}
 use Rattle.hot_eval.proofs.resolving.properties.Goals as goal
 
-pub returns-in_ok-made : goal.returns-in_ok-made
-returns-in_ok-made c =
-    made_by c.large_or.result _ _ _
+pub returns : goal.returns
+returns c =
+    made_by _ c.large_or.result _ _ _
     (properties_are (again c.setting.result) (scene_of c.args.plan.now c.args.known.now)
     (scene_data c.setting.result.scene) c.args.given.now c.as_props.result.now _ c.setting.ensures.scene
     c.setting.ensures.again c.new.ensures c.as_props.ensures.value)
