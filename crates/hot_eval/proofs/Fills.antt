@@ -63,15 +63,15 @@ filling_next c before now then' done pushed rest next whole e v d at is made pus
   made = node_last h.made d;
   spent = h.spent + taken c e;
   filled = onto_next h.made d (nodes_filled c next)
-  ∙ (ap (λ o. option_map (both_lists h.made) (option_and_then (λ x. option_map (node x) (nodes_filled c next)) o)) (sym is)
-  ∙ (ap (λ x. option_map (both_lists h.made) (nodes_filled c x)) (sym at) ∙ h.filled));
+      ∙ (ap (λ o. option_map (both_lists h.made) (option_and_then (λ x. option_map (node x) (nodes_filled c next)) o)) (sym is)
+      ∙ (ap (λ x. option_map (both_lists h.made) (nodes_filled c x)) (sym at) ∙ h.filled));
   taken = omega (arith, h.taken, ap (nodes_taken c) at);
   room = made.0 ∙ (ap (λ o. room_behind o (taken c e)) h.room ∙ room_behind-both before h.spent (taken c e));
   same = subst (λ (o : Option ℕ). IfSome o (λ _. pushed ≡ node_last h.made d)) (sym made.0) (ifs
-  ((v ≡ d) × (done ≡ h.made)) (pushed ≡ node_last h.made d) (room_behind now (taken c e))
-  (λ two. push ∙ (ap (λ x. node_last x v) two.1 ∙ ap (node_last h.made) two.0))
-  (both_some (v ≡ d) (done ≡ h.made) now (taken c e) h.same
-  (subst (λ (o : Option ℕ). IfSome o (λ _. v ≡ d)) made.0 made.1)));
+      ((v ≡ d) × (done ≡ h.made)) (pushed ≡ node_last h.made d) (room_behind now (taken c e))
+      (λ two. push ∙ (ap (λ x. node_last x v) two.1 ∙ ap (node_last h.made) two.0))
+      (both_some (v ≡ d) (done ≡ h.made) now (taken c e) h.same
+      (subst (λ (o : Option ℕ). IfSome o (λ _. v ≡ d)) made.0 made.1)));
 }
 
 pub filling_same : (c : Choice) (before now : Option ℕ) (done rest next whole : Nodes) (e : Data)
@@ -89,7 +89,7 @@ pub filling_all : (c : Choice) (before now : Option ℕ) (done rest whole : Node
 filling_all c before now done rest whole end h = (
   items h.made,
   ap (option_map items) (sym h.filled ∙ (ap (λ x. option_map (both_lists h.made) (nodes_filled c x)) end
-  ∙ ap Some (both_lists-none h.made))),
+      ∙ ap Some (both_lists-none h.made))),
   (
     h.room ∙ ap (room_behind before) (omega (arith, h.taken, ap (nodes_taken c) end)),
     ifs (done ≡ h.made) (items done ≡ items h.made) now (λ e. ap items e) h.same,
@@ -182,16 +182,16 @@ keys_next c before now then' done pushed rest next whole k l e v d at is made ke
   made = put l d h.made;
   spent = h.spent + taken c e;
   filled = sym (onto_new h.made l d (members_filled c next) (sym (stands-keys l done h.made h.keys) ∙ other))
-  ∙ (ap (λ x. option_and_then (mapped_onto h.made) (option_map (member x d) (members_filled c next))) key
-  ∙ left_some c h.made rest next whole k e at h.filled d is);
+      ∙ (ap (λ x. option_and_then (mapped_onto h.made) (option_map (member x d) (members_filled c next))) key
+      ∙ left_some c h.made rest next whole k e at h.filled d is);
   taken = omega (arith, h.taken, ap (members_taken c) at);
   room = made.0 ∙ (ap (λ o. room_behind o (taken c e)) h.room ∙ room_behind-both before h.spent (taken c e));
   keys = ap keys_of push ∙ keys_of-put l v d done h.made h.keys;
   same = subst (λ (o : Option ℕ). IfSome o (λ _. pushed ≡ put l d h.made)) (sym made.0) (ifs
-  ((v ≡ d) × (done ≡ h.made)) (pushed ≡ put l d h.made) (room_behind now (taken c e))
-  (λ two. push ∙ (ap (put l v) two.1 ∙ ap (λ x. put l x h.made) two.0))
-  (both_some (v ≡ d) (done ≡ h.made) now (taken c e) h.same
-  (subst (λ (o : Option ℕ). IfSome o (λ _. v ≡ d)) made.0 made.1)));
+      ((v ≡ d) × (done ≡ h.made)) (pushed ≡ put l d h.made) (room_behind now (taken c e))
+      (λ two. push ∙ (ap (put l v) two.1 ∙ ap (λ x. put l x h.made) two.0))
+      (both_some (v ≡ d) (done ≡ h.made) now (taken c e) h.same
+      (subst (λ (o : Option ℕ). IfSome o (λ _. v ≡ d)) made.0 made.1)));
 }
 
 -- a value has two keys that become one
@@ -219,7 +219,7 @@ pub keys_all : (c : Choice) (before now : Option ℕ) (done rest whole : Members
 keys_all c before now done rest whole end h = (
   fields h.made,
   ap (option_map fields) (sym h.filled
-  ∙ ap (λ x. option_and_then (mapped_onto h.made) (members_filled c x)) end),
+      ∙ ap (λ x. option_and_then (mapped_onto h.made) (members_filled c x)) end),
   (
     h.room ∙ ap (room_behind before) (omega (arith, h.taken, ap (members_taken c) end)),
     ifs (done ≡ h.made) (fields done ≡ fields h.made) now (λ e. ap fields e) h.same,

@@ -135,11 +135,11 @@ pub making_next : (ls : Lists) (ps : List ℕ) (n : ℕ) (l : List ℕ × Nodes)
 making_next ls ps n l p texts vs k t v below within at here is key text h = record {
   lengths = omega (arith, h.lengths, length-append texts ((k, t) ∷ []), length-append vs (v ∷ []));
   texts_are = sym (ap texts_for pushed ∙ (map-append (λ q. (q.0, coerced q.1)) (with_items texts vs) ((k, data_of v.now) ∷ [])
-  ∙ (ap (λ x. x ++ (k, coerced (data_of v.now)) ∷ []) (sym h.texts_are) ∙ ap (λ x. texts ++ (k, x) ∷ []) (sym text))));
+      ∙ (ap (λ x. x ++ (k, coerced (data_of v.now)) ∷ []) (sym h.texts_are) ∙ ap (λ x. texts ++ (k, x) ∷ []) (sym text))));
   whole = ap (λ x. x ++ choice_at (drop (n + 1) ls) (drop (n + 1) ps)) pushed
-  ∙ (append_assoc (with_items texts vs) ((k, data_of v.now) ∷ []) (choice_at (drop (n + 1) ls) (drop (n + 1) ps))
-  ∙ (ap (λ x. with_items texts vs ++ (x, data_of v.now) ∷ choice_at (drop (n + 1) ls) (drop (n + 1) ps)) key
-  ∙ (ap (λ x. with_items texts vs ++ x) (sym (choice_at-next ls ps n l p (data_of v.now) below within at here is)) ∙ h.whole)));
+      ∙ (append_assoc (with_items texts vs) ((k, data_of v.now) ∷ []) (choice_at (drop (n + 1) ls) (drop (n + 1) ps))
+      ∙ (ap (λ x. with_items texts vs ++ (x, data_of v.now) ∷ choice_at (drop (n + 1) ls) (drop (n + 1) ps)) key
+      ∙ (ap (λ x. with_items texts vs ++ x) (sym (choice_at-next ls ps n l p (data_of v.now) below within at here is)) ∙ h.whole)));
 }
   where
     pushed : with_items (texts ++ (k, t) ∷ []) (vs ++ v ∷ []) ≡ with_items texts vs ++ (k, data_of v.now) ∷ []

@@ -37,15 +37,15 @@ mutual
   are_same-Decides (node d ms) no_nodes = (λ h. cc, λ h. cc)
   are_same-Decides (node d ms) (node e ns) = (
     λ h. (
-    let t = both (is_same d e) (are_same ms ns) h in
-    let here : d ≡ e = (is_same-Decides d e).0 t.0 in
-    let rest : ms ≡ ns = (are_same-Decides ms ns).0 t.1 in cc
-    ),
+        let t = both (is_same d e) (are_same ms ns) h in
+        let here : d ≡ e = (is_same-Decides d e).0 t.0 in
+        let rest : ms ≡ ns = (are_same-Decides ms ns).0 t.1 in cc
+        ),
     λ h. (
-    let here : d ≡ e = cc in
-    let rest : ms ≡ ns = cc in
-    rw ((is_same-Decides d e).1 here, (are_same-Decides ms ns).1 rest) refl
-    ),
+        let here : d ≡ e = cc in
+        let rest : ms ≡ ns = cc in
+        rw ((is_same-Decides d e).1 here, (are_same-Decides ms ns).1 rest) refl
+        ),
   )
 
   hold_same-Decides : (ms ns : Members) → Decides (hold_same ms ns) (ms ≡ ns)
@@ -54,18 +54,18 @@ mutual
   hold_same-Decides (member k d ms) no_members = (λ h. cc, λ h. cc)
   hold_same-Decides (member k d ms) (member l e ns) = (
     λ h. (
-    let t = both (bytes_eq k l && is_same d e) (hold_same ms ns) h in
-    let u = both (bytes_eq k l) (is_same d e) t.0 in
-    let key : k ≡ l = (bytes_eq-Decides k l).0 u.0 in
-    let here : d ≡ e = (is_same-Decides d e).0 u.1 in
-    let rest : ms ≡ ns = (hold_same-Decides ms ns).0 t.1 in cc
-    ),
+        let t = both (bytes_eq k l && is_same d e) (hold_same ms ns) h in
+        let u = both (bytes_eq k l) (is_same d e) t.0 in
+        let key : k ≡ l = (bytes_eq-Decides k l).0 u.0 in
+        let here : d ≡ e = (is_same-Decides d e).0 u.1 in
+        let rest : ms ≡ ns = (hold_same-Decides ms ns).0 t.1 in cc
+        ),
     λ h. (
-    let key : k ≡ l = cc in
-    let here : d ≡ e = cc in
-    let rest : ms ≡ ns = cc in
-    rw ((bytes_eq-Decides k l).1 key, (is_same-Decides d e).1 here, (hold_same-Decides ms ns).1 rest) refl
-    ),
+        let key : k ≡ l = cc in
+        let here : d ≡ e = cc in
+        let rest : ms ≡ ns = cc in
+        rw ((bytes_eq-Decides k l).1 key, (is_same-Decides d e).1 here, (hold_same-Decides ms ns).1 rest) refl
+        ),
   )
 
 -- what `equals` answers

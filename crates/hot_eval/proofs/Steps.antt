@@ -229,14 +229,14 @@ module _ (part : List ℕ → Data → ℕ → Outcome Data) (go : Members → �
       (subst (IsStrictlySortedBy cmp) (sym split) rising) in
       record {
         goes =
-        way.goes ∙ at_member made es i e n below at
-        ∙ ap (λ (o : Outcome Data). made_into (in_front made) (and_then o
-        (λ w s. made_into (member e.key w) (go (members_of (drop (i + 1) es)) s)))) is
-        ∙ member_made made e.key d (go (members_of (drop (i + 1) es)) m)
-        ∙ ap (λ (ms : Members). made_into (in_front ms) (go (members_of (drop (i + 1) es)) m)) (sym last);
+            way.goes ∙ at_member made es i e n below at
+            ∙ ap (λ (o : Outcome Data). made_into (in_front made) (and_then o
+            (λ w s. made_into (member e.key w) (go (members_of (drop (i + 1) es)) s)))) is
+            ∙ member_made made e.key d (go (members_of (drop (i + 1) es)) m)
+            ∙ ap (λ (ms : Members). made_into (in_front ms) (go (members_of (drop (i + 1) es)) m)) (sym last);
         keys =
-        ap (λ (ms : Members). keys_of ms ++ keys_of (members_of (drop (i + 1) es))) last
-        ∙ keys_last made e.key d (keys_of (members_of (drop (i + 1) es))) ∙ split;
+            ap (λ (ms : Members). keys_of ms ++ keys_of (members_of (drop (i + 1) es))) last
+            ∙ keys_last made e.key d (keys_of (members_of (drop (i + 1) es))) ∙ split;
       }
 
   pub map_stops : (f : EvalFault) (whole : Outcome Members) (made all : Members) (es : List Member) (i : ℕ) (e : Member)
@@ -321,10 +321,12 @@ module _ (again : Evaluating) (template : Data) (whole : Outcome Nodes) (ls : Li
       → choice_outcome again template c (filled c template) n ≡ Gives d m → GoesOn b ls ps qs
       → IsChoiceWay again template whole now (choices_from ls qs) m × ArePlaces ls qs
   turn_goes_on false qs made now d n m b way put is goes = cc
-  turn_goes_on true qs made now d n m b way put is goes =
-      (choices_go_on again template whole made now c (choices_from ls qs) d n m
-      (subst (λ (cs : List Choice). IsChoiceWay again template whole made cs n)
-      (at_choice (choices_from ls qs) goes.1) way) put is, goes.0)
+  turn_goes_on true qs made now d n m b way put is goes = (
+    choices_go_on again template whole made now c (choices_from ls qs) d n m
+        (subst (λ (cs : List Choice). IsChoiceWay again template whole made cs n)
+        (at_choice (choices_from ls qs) goes.1) way) put is,
+    goes.0,
+  )
 
   pub turn_ends : (b : Bool) (qs : List ℕ) (made now : Nodes) (d : Data) (n m : ℕ) → b ≡ false
       → IsChoiceWay again template whole made (choices_from ls ps) n → now ≡ node_last made d

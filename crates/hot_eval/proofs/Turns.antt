@@ -190,9 +190,9 @@ turned_back ls old now n p l was h below at here above = record {
   within = omega (arith, below);
   front = take_front n old now h.front ∙ sym (take-set now n 0);
   first = rw (rest_at ls n l l below at, new_at) (ap (λ cs. each_from l.0 l.1 0 cs (choices (drop (n + 1) ls))) h.first
-  ∙ each_from-zero l.0 l.1 (choices (drop (n + 1) ls)) (omega (arith, placed)));
+      ∙ each_from-zero l.0 l.1 (choices (drop (n + 1) ls)) (omega (arith, placed)));
   last = rw (rest_at ls n l l below at, old_at) (ap (λ cs. each_from l.0 l.1 p cs (choices (drop (n + 1) ls))) h.last
-  ∙ each_from-last l.0 l.1 p (choice_at (drop (n + 1) ls) (drop (n + 1) old)) (choices (drop (n + 1) ls)) (omega (arith, placed, above)));
+      ∙ each_from-last l.0 l.1 p (choice_at (drop (n + 1) ls) (drop (n + 1) old)) (choices (drop (n + 1) ls)) (omega (arith, placed, above)));
 }
   where
     placed : p < count_of l.1

@@ -52,10 +52,7 @@ pub fn repetition_in(alloc: Global, argument: &Value) -> Result<Repetition, Func
 }
 
 // The lists of an object; none where some value is no list.
-fn lists_in<'a>(
-    alloc: Global,
-    members: &'a [Member],
-) -> Result<Option<Vec<Listed<'a>>>, AllocError>
+fn lists_in<'a>(alloc: Global, members: &'a [Member]) -> Result<Option<Vec<Listed<'a>>>, AllocError>
     ensures { IfOk result (λ o. option_map (λ ls. lists_of ls.items) o
         ≡ the_lists_in (members_of members.now)) }
 {

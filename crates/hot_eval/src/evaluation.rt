@@ -147,12 +147,7 @@ fn all_but(set: &Setting, but: &str, given: &Props, sum: &mut Sum) -> Result<Pro
 
 // The part under a key, as written where this is the key.
 #[cycle(evaluation)]
-fn unless_key(
-    set: &Setting,
-    but: &str,
-    member: &Member,
-    sum: &mut Sum,
-) -> Result<Value, EvalFault>
+fn unless_key(set: &Setting, but: &str, member: &Member, sum: &mut Sum) -> Result<Value, EvalFault>
     ensures { IsOutcome data_of result sum.new
         (outcome_unless (again set.now) (scene_data set.now.scene) but.now member.now.key
         (data_of member.now.value) sum.old) }

@@ -14,7 +14,7 @@ loop-value-preserved c =
     c.value-item.is in
     let answer = sym (c.has.ensures ∙ ap (has d) c.as_slice.ensures) in
     elim c.if-not-has.branch [
-      then-not-has+in_ok-copy+in_ok-push w ↦ next_new c.loop-value.items _ _ _ _ d at (answer ∙ w.if-not-has.true)
+      | then-not-has+in_ok-copy+in_ok-push w ↦ next_new c.loop-value.items _ _ _ _ d at (answer ∙ w.if-not-has.true)
           (w.items-is ∙ (w.in_ok-push.ensures.ok ∙ ap (λ v. node_last c.loop-value.items (data_of v)) w.in_ok-copy.ensures))
           c.loop-value.invariant
       | else-not-has w ↦ next_seen c.loop-value.items _ _ _ _ d at (answer ∙ w.if-not-has.false) w.items-is

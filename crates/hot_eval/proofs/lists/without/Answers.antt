@@ -12,7 +12,7 @@ loop-item-preserved c =
     let d = data_of c.item-item.result in
     let at = nodes_at c.args.from.now c.loop-item.item-index c.item-item.result c.loop-item-test.true c.item-item.is in
     elim c.if-not-has.branch [
-      then-not-has+in_ok-copy+in_ok-push w ↦ next_left out c.loop-item.items _ _ _ _ d at
+      | then-not-has+in_ok-copy+in_ok-push w ↦ next_left out c.loop-item.items _ _ _ _ d at
           (sym c.has.ensures ∙ w.if-not-has.true)
           (w.items-is ∙ (w.in_ok-push.ensures.ok ∙ ap (λ v. node_last c.loop-item.items (data_of v)) w.in_ok-copy.ensures))
           c.loop-item.invariant
