@@ -1,5 +1,5 @@
-use Rattle.std.proofs.Common.{◌≡◌, ◌∙◌, ap, refl}
-use Rattle.heat_value.specs.Data.{null, flag, whole}
+use Rattle.std.proofs.Common.{ap, refl}
+use Rattle.heat_value.specs.Data.{null, flag}
 use Rattle.heat_value.specs.Meaning.{data_of}
 use Rattle.hot_eval.specs.Repeats.{choice_of}
 use Rattle.hot_eval.proofs.Fills.{filling_next, filling_all, keys_next, keys_same, keys_all}
