@@ -1,7 +1,6 @@
 -- Lists that are made part by part, and what stands in a text.
-use Rattle.std.proofs.Common.{◌≡◌, ◌∙◌, ◌&&◌, ◌||◌, ◌++◌, ℕ, List, [], ◌∷◌, Bool, true, false, refl, ap, sym, cond}
+use Rattle.std.proofs.Common.{◌≡◌, ◌∙◌, ◌||◌, ◌++◌, List, [], ◌∷◌, Bool, true, false, refl, ap, sym}
 use Rattle.std.proofs.Common.{Option, Some, None, option_map, option_and_then}
-use Rattle.std.specs.Bool.{MatchBool}
 use Rattle.heat_value.specs.Data.{Data, Nodes, no_nodes, node, node_last}
 use Rattle.heat_value.specs.Meaning.{data_of, nodes_of}
 use Rattle.heat_value.specs.declared.value.Value.{Value}

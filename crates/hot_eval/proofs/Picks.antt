@@ -1,6 +1,6 @@
 -- Keys with their lists, and choices made key by key.
-use Rattle.std.proofs.Common.{◌≡◌, ◌≢◌, ◌∙◌, ◌<◌, ◌≤◌, ◌+◌, ◌||◌, ℕ, zero, suc, List, [], ◌∷◌, ◌++◌, Bool, true, false}
-use Rattle.std.proofs.Common.{Option, Some, None, option_map, option_and_then, length, get_or, take, drop, map, refl, ap, sym}
+use Rattle.std.proofs.Common.{◌≡◌, ◌≢◌, ◌∙◌, ◌<◌, ◌≤◌, ◌+◌, ◌||◌, ℕ, suc, List, [], ◌∷◌, ◌++◌, Bool, true, false}
+use Rattle.std.proofs.Common.{Option, Some, None, option_map, option_and_then, length, get_or, drop, refl, ap, sym}
 use Rattle.std.proofs.Common.{subst, arith, append_assoc}
 use Rattle.std.proofs.lemmas.List.{map-append, append-nil, length-append, length-map, drop_all, drop_more}
 use Rattle.std.proofs.lemmas.List.Elements.{All-nil, All-cons}
@@ -10,19 +10,19 @@ use Rattle.std.specs.Cmp.Lexicographic.{slice_cmp}
 use Rattle.std.specs.List.{All, list_any, AllByRecursion}
 use Rattle.std.specs.List.Sorted.{IsStrictlySortedBy}
 use Rattle.std.specs.Ordering.{nat_cmp, is_eq}
-use Rattle.std.specs.Prelude.{⊤, unwrap_or, if◌then◌else◌}
+use Rattle.std.specs.Prelude.{unwrap_or, if◌then◌else◌}
 use Rattle.std.specs.Str.{bytes_eq}
 use Rattle.std.specs.declared.cmp.Ordering.TheVariants.{Less}
 use denote.Ref.{Bor}
 use Rattle.heat_value.specs.Coercion.{coerced}
-use Rattle.heat_value.specs.Data.{Data, null, Nodes, no_nodes, node, Members, no_members, member, keys_of, Rises}
+use Rattle.heat_value.specs.Data.{Data, null, Nodes, Members, no_members, member, keys_of, Rises}
 use Rattle.heat_value.specs.Meaning.{data_of}
 use Rattle.heat_value.specs.declared.value.Value.{Value}
 use Rattle.hot_strings.specs.Pieces.{Params, AreDistinct, HasNoEmptyKey}
-use Rattle.hot_eval.specs.Choices.{Lists, Choice, lists_in}
+use Rattle.hot_eval.specs.Choices.{Lists, lists_in}
 use Rattle.hot_eval.specs.Fillings.{texts_for, item_of}
 use Rattle.hot_eval.specs.Lookups.{node_at}
-use Rattle.hot_eval.specs.Repeats.{AreKeys, ArePlaces, choice_at, with_items}
+use Rattle.hot_eval.specs.Repeats.{AreKeys, choice_at, with_items}
 use Rattle.hot_eval.specs.Sorts.{list_in}
 use Rattle.hot_eval.specs.Texts.{is_empty}
 use Rattle.hot_eval.proofs.Places.{rest_at}

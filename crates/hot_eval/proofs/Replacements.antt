@@ -1,7 +1,6 @@
 -- What the text functions of `hot_strings` answer is what the definitions say.
-use Rattle.std.proofs.Common.{◌≡◌, ◌≢◌, ◌∙◌, ◌<◌, ◌≤◌, ◌==◌, ◌&&◌, ◌||◌, ◌⊎◌, inl, inr, ℕ, zero, suc, List, [], ◌∷◌}
-use Rattle.std.proofs.Common.{Bool, true, false, not, Option, Some, None, Result, Ok, Err, IsTrue, length, refl, ap, sym, subst, arith}
-use Rattle.std.proofs.lemmas.Bool.{cases_lt}
+use Rattle.std.proofs.Common.{◌≡◌, ◌≢◌, ◌∙◌, ◌<◌, ◌&&◌, inl, inr, ℕ, List, []}
+use Rattle.std.proofs.Common.{Bool, true, false, not, Some, None, Ok, IsTrue, length, refl, ap, sym, subst, arith}
 use Rattle.std.proofs.lemmas.Bool.Decides.{Decides-eqb}
 use Rattle.std.proofs.lemmas.List.Folds.{list_any-from_Any, list_any_none}
 use Rattle.std.proofs.lemmas.List.{nil_from_length}
@@ -10,7 +9,7 @@ use Rattle.std.proofs.lemmas.List.Elements.{All-nil, All-cons}
 use Rattle.std.proofs.lemmas.Map.Text.{is_eq-slice_cmp}
 use Rattle.std.proofs.lemmas.Slice.Eq.{bytes_eq-Decides}
 use Rattle.std.specs.Cmp.Lexicographic.{slice_cmp}
-use Rattle.std.specs.List.{All, Any, list_any, slice_get, AllByRecursion}
+use Rattle.std.specs.List.{All, AllByRecursion}
 use Rattle.std.specs.List.Sorted.{IsStrictlySortedBy}
 use Rattle.std.specs.Ordering.{nat_cmp, is_eq}
 use Rattle.std.specs.Str.{bytes_eq}
@@ -20,19 +19,17 @@ use Rattle.heat_value.specs.Data.{Members, no_members, member, keys_of, Rises}
 use Rattle.std.specs.Bool.{nat_le, if◌then◌else◌}
 use Rattle.heat_value.specs.Data.{Data, words, items}
 use Rattle.hot_strings.proofs.AnswerLemmas.{cuts-split}
-use Rattle.hot_strings.specs.Answers.{cuts, with_values, is_part, HasAnswer}
+use Rattle.hot_strings.specs.Answers.{is_part, HasAnswer}
 use Rattle.hot_strings.specs.Pieces.{Params, AreDistinct, IsReplaced, IsReplaceFault, HasEmptyKey, HasNoEmptyKey, LacksSomeKey, HasEveryKey, replaced}
-use Rattle.hot_strings.specs.Places.{IsPart, Lacks}
 use Rattle.hot_strings.specs.Size.{IsTooLong}
-use Rattle.hot_strings.specs.Split.{AreSplit, Asked, all, one, unfit, texts, IsSplitFault}
+use Rattle.hot_strings.specs.Split.{Asked, all, one, unfit, texts, IsSplitFault}
 use Rattle.hot_strings.specs.declared.fault.StringFault.{StringFault}
 use Rattle.hot_strings.specs.declared.fault.StringFault.TheVariants as text
 use Rattle.hot_eval.specs.Answers.{code_of, IsFaultOf}
 use Rattle.hot_eval.specs.Faults.{of_text_function}
-use Rattle.hot_eval.specs.Outcomes.{is_result, size}
-use Rattle.hot_eval.specs.Texts.{is_empty, split_asked, piece_found, has_empty_key, lacks_some_key, put_into, params_of}
-use Rattle.hot_eval.specs.declared.code.FaultCode.{FaultCode}
-use Rattle.hot_eval.specs.declared.code.FaultCode.TheVariants.{F02, F03, F04, F06}
+use Rattle.hot_eval.specs.Outcomes.{size}
+use Rattle.hot_eval.specs.Texts.{is_empty, split_asked, has_empty_key, lacks_some_key, put_into, params_of}
+use Rattle.hot_eval.specs.declared.code.FaultCode.TheVariants.{F06}
 use Rattle.hot_eval.proofs.Contained.{is_part-found}
 
 -- ---- lengths

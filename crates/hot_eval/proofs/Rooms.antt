@@ -1,11 +1,10 @@
 -- What is left of a room, and what was made while it lasted.
-use Rattle.std.proofs.Common.{◌≡◌, ◌∙◌, ◌<◌, ◌≤◌, ◌+◌, ◌-◌, ◌^◌, ◌⊎◌, inl, inr, ℕ, Bool, true, false, Option, Some, None}
-use Rattle.std.proofs.Common.{is_some, min, refl, ap, sym, subst, arith}
+use Rattle.std.proofs.Common.{◌≡◌, ◌∙◌, ◌<◌, ◌≤◌, ◌+◌, ◌-◌, ◌⊎◌, inl, inr, ℕ, false, Option, Some, None}
+use Rattle.std.proofs.Common.{refl, ap, sym, arith}
 use Rattle.std.proofs.lemmas.Bool.{cases_lt, le-leb}
 use Rattle.std.specs.Option.{IfSome}
-use Rattle.std.specs.Prelude.{nat_le, ⊤, if◌then◌else◌}
-use Rattle.heat_value.specs.Data.{Data}
-use Rattle.hot_eval.specs.Rooms.{room_behind, IsMade}
+use Rattle.std.specs.Prelude.{nat_le, if◌then◌else◌}
+use Rattle.hot_eval.specs.Rooms.{room_behind}
 
 above : (n m : ℕ) → m < n → nat_le n m ≡ false
 above n m l = grind arith
@@ -33,50 +32,6 @@ room_behind-both (Some m) a b = go (cases_lt m a) (cases_lt m (a + b))
     go (inr fits) (inr both) =
         ap (λ o. room_behind o b) (room_some m a fits)
         ∙ (room_some (m - a) b (omega (arith, fits, both)) ∙ (ap Some (omega (arith, fits, both)) ∙ sym (room_some m (a + b) both)))
-
--- what a size takes counts no further than the room goes
-pub room_behind-min : (o : Option ℕ) (n : ℕ) → IfSome o (λ m. m < 2 ^ 64 - 1)
-    → room_behind o (min n (2 ^ 64 - 1)) ≡ room_behind o n
-room_behind-min None n h = refl
-room_behind-min (Some m) n h = go (cases_lt m n)
-  where
-    go : (m < n) ⊎ (n ≤ m) → room_behind (Some m) (min n (2 ^ 64 - 1)) ≡ room_behind (Some m) n
-    go (inl less) = room_none m (min n (2 ^ 64 - 1)) (omega (arith, h, less)) ∙ sym (room_none m n less)
-    go (inr fits) = ap (room_behind (Some m)) (omega (arith, h, fits))
-
-pub room_small : (o : Option ℕ) (n : ℕ) → IfSome o (λ m. m < 2 ^ 64 - 1) → IfSome (room_behind o n) (λ m. m < 2 ^ 64 - 1)
-room_small None n h = tt
-room_small (Some m) n h = go (cases_lt m n)
-  where
-    go : (m < n) ⊎ (n ≤ m) → IfSome (room_behind (Some m) n) (λ m. m < 2 ^ 64 - 1)
-    go (inl less) = subst (λ (o : Option ℕ). IfSome o (λ m. m < 2 ^ 64 - 1)) (sym (room_none m n less)) tt
-    go (inr fits) =
-        subst (λ (o : Option ℕ). IfSome o (λ m. m < 2 ^ 64 - 1)) (sym (room_some m n fits)) (omega (arith, h))
-
--- nothing is owed where the room is used up
-pub made_none : (before now : Option ℕ) (n : ℕ) (made d : Data) → now ≡ room_behind before n → false ≡ is_some now
-    → IsMade before now n made d
-made_none before now n made d room none = (room, nothing now none)
-  where
-    nothing : (o : Option ℕ) → false ≡ is_some o → IfSome o (λ _. made ≡ d)
-    nothing None e = tt
-    nothing (Some m) e = cc
-
-pub made_same : (before now : Option ℕ) (n : ℕ) (made d : Data) → now ≡ room_behind before n → made ≡ d
-    → IsMade before now n made d
-made_same before now n made d room same = (room, owed now)
-  where
-    owed : (o : Option ℕ) → IfSome o (λ _. made ≡ d)
-    owed None = tt
-    owed (Some m) = same
-
--- the room was smaller than what is taken
-pub made_late : (before now : Option ℕ) (n limit : ℕ) (made d : Data) → now ≡ None
-    → IfSome before (λ m. m < n) → IsMade before now n made d
-made_late None now n limit made d none h =
-    (none, subst (λ (o : Option ℕ). IfSome o (λ _. made ≡ d)) (sym none) tt)
-made_late (Some m) now n limit made d none h =
-    (none ∙ sym (room_none m n h), subst (λ (o : Option ℕ). IfSome o (λ _. made ≡ d)) (sym none) tt)
 
 -- the room is there after so many bytes more only if it was before
 pub both_some : (P Q : Type 0) (o : Option ℕ) (n : ℕ) → IfSome o (λ _. Q) → IfSome (room_behind o n) (λ _. P)

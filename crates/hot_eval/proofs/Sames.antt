@@ -1,6 +1,6 @@
 -- Equality of values as a flag is equality.
-use Rattle.std.proofs.Common.{◌≡◌, ◌∙◌, ◌<◌, ◌&&◌, ◌||◌, ◌↔◌, ℕ, zero, suc, List, [], ◌∷◌, Bool, true, false, IsTrue}
-use Rattle.std.proofs.Common.{length, get_or, drop, refl, ap, sym, subst, arith, bytes_eq}
+use Rattle.std.proofs.Common.{◌≡◌, ◌<◌, ◌&&◌, ◌||◌, ◌↔◌, ℕ, zero, suc, List, [], ◌∷◌, Bool, true, false, IsTrue}
+use Rattle.std.proofs.Common.{length, get_or, drop, refl, ap, subst, arith, bytes_eq}
 use Rattle.std.proofs.lemmas.Bool.Decides.{Decides-int_eq, same_from_decides}
 use Rattle.std.proofs.lemmas.Slice.Eq.{bytes_eq-Decides}
 use Rattle.std.specs.Bool.{Decides}

@@ -1,6 +1,6 @@
 -- From choice to choice: what stands behind the choice at some places.
-use Rattle.std.proofs.Common.{◌≡◌, ◌≢◌, ◌∙◌, ◌<◌, ◌≤◌, ◌+◌, ℕ, zero, suc, List, [], ◌∷◌, ◌++◌, Option, Some, None}
-use Rattle.std.proofs.Common.{length, get_or, take, drop, map, refl, ap, sym, subst, arith}
+use Rattle.std.proofs.Common.{◌≡◌, ◌∙◌, ◌<◌, ◌≤◌, ◌+◌, ℕ, zero, suc, List, [], ◌∷◌, ◌++◌}
+use Rattle.std.proofs.Common.{length, get_or, take, drop, refl, ap, sym, subst, arith}
 use Rattle.std.proofs.lemmas.List.{drop_all, drop-set, take-set, length-set, take-take, get_or-take}
 use Rattle.std.proofs.Math.ListN.{set}
 use Rattle.std.specs.Prelude.{⊤, unwrap_or}

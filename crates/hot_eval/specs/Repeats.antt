@@ -1,9 +1,8 @@
 -- What the program's lists and choices of a repeat show, and how it goes from choice to choice.
 use Rattle.std.specs.Prelude.{◌≡◌, ◌≢◌, ◌<◌, ℕ, zero, suc, List, [], ◌∷◌, ◌++◌, ⊤, All, Bool, MatchBool, Option}
-use Rattle.std.specs.Prelude.{Some, None, Result, Ok, Err, map, length, unwrap_or}
+use Rattle.std.specs.Prelude.{Some, None, Result, Ok, Err, map, unwrap_or}
 use denote.Ref.{Bor}
-use Rattle.heat_value.specs.Coercion.{coerced}
-use Rattle.heat_value.specs.Data.{Data, null, Nodes, no_nodes, node}
+use Rattle.heat_value.specs.Data.{null, Nodes, no_nodes, node}
 use Rattle.heat_value.specs.Meaning.{data_of, nodes_of}
 use Rattle.heat_value.specs.declared.value.Value.{Value}
 use Rattle.hot_strings.specs.Pieces.{Params, AreDistinct, HasNoEmptyKey}

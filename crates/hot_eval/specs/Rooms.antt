@@ -1,10 +1,9 @@
 -- What a template takes while it is made, and what is made of it.
-use Rattle.std.specs.Prelude.{◌≡◌, ℕ, ◌+◌, ◌-◌, nat_le, List, ⊤, Option, Some, None, Result, Ok, Err, IfSome}
+use Rattle.std.specs.Prelude.{◌≡◌, ℕ, ◌+◌, ◌-◌, nat_le, ⊤, Option, Some, None, Result, Ok, Err, IfSome}
 use Rattle.std.specs.Prelude.{◌<◌, if◌then◌else◌}
 use Rattle.heat_value.specs.Data.{Data, null, flag, whole, words, items, fields, Nodes, no_nodes, node}
 use Rattle.heat_value.specs.Data.{Members, no_members, member}
 use Rattle.heat_value.specs.Meaning.{data_of}
-use Rattle.heat_value.specs.declared.value.Value.{Value}
 use Rattle.hot_eval.specs.Choices.{Choice}
 use Rattle.hot_eval.specs.Fillings.{words_filled}
 use Rattle.hot_eval.specs.Outcomes.{size}

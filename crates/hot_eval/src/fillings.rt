@@ -1,9 +1,7 @@
 //! The literal template of a repeat with a choice's items in place of the keys, and where its parts stood.
 ghost use Rattle.std.specs.Prelude.{◌≡◌, ◌<◌, ◌-◌, ◌^◌, ◌≤◌, ◌≢◌, IfOk, OnOk, MatchOption, Some, None, is_none, is_some};
-ghost use Rattle.std.specs.Prelude.{option_map, unwrap_or, bytes_eq, MatchBool, true, false};
-ghost use Rattle.hot_functions.specs.Forms.{stands};
+ghost use Rattle.std.specs.Prelude.{option_map, unwrap_or, bytes_eq};
 ghost use Rattle.heat_value.specs.Data.{words as words_data, items as items_data, fields as fields_data};
-ghost use Rattle.heat_value.specs.Data.{put};
 ghost use Rattle.heat_value.specs.Meaning.{data_of, nodes_of, members_of};
 ghost use Rattle.heat_value.specs.declared.path.Step.TheVariants.{Index};
 ghost use Rattle.hot_eval.specs.Faults.{IsSeenFrom};
@@ -17,6 +15,7 @@ ghost use Rattle.hot_eval.specs.Rooms.{taken, room_behind, IsMade, IsFilled, IsT
 
 use crate::EvalFault;
 use crate::choices::Choice;
+use crate::maps::put_new;
 use heat_value::{Items, Member, Path, Props, Step, Text, TryCopy, Value};
 use hot_strings::{StringFault, replace_within, value_size};
 use std::alloc::{AllocError, Global};
@@ -188,25 +187,6 @@ fn fields_filled(
         }
     }
     Ok(Filled::Template(Value::Fields(fields)))
-}
-
-// Puts a value under a key that doesn't stand yet; false where it does.
-fn put_new(fields: &mut Props, key: Text, value: Value) -> Result<bool, AllocError>
-    ensures { IfOk result (λ b. MatchBool b
-        ((stands key fields.old ≡ false) × (fields.new ≡ put key (data_of value) fields.old))
-        (stands key fields.old ≡ true)) }
-{
-    if has_key(fields, &key) {
-        return Ok(false);
-    }
-    fields.put(key, value)?;
-    Ok(true)
-}
-
-fn has_key(fields: &Props, key: &Text) -> bool
-    ensures { result ≡ stands key.now fields.now }
-{
-    fields.get(key).is_some()
 }
 
 // A text that is just one key becomes the item itself; null in its place where there is no room.

@@ -1,9 +1,9 @@
 //! What the functions of maps give.
-ghost use Rattle.std.specs.Prelude.{◌≡◌, [], ◌∷◌, OnOk, IfOk, codes, option_map, unwrap_or};
-ghost use Rattle.heat_value.specs.Data.{no_members};
+ghost use Rattle.std.specs.Prelude.{◌≡◌, [], ◌∷◌, OnOk, IfOk, MatchBool, true, false, codes, option_map, unwrap_or};
+ghost use Rattle.heat_value.specs.Data.{no_members, put};
 ghost use Rattle.heat_value.specs.Meaning.{data_of, members_of};
 ghost use Rattle.hot_forms.specs.Checks.{is_among as the_is_among};
-ghost use Rattle.hot_functions.specs.Forms.{are_among};
+ghost use Rattle.hot_functions.specs.Forms.{are_among, stands as the_stands};
 ghost use Rattle.hot_eval.specs.Answers.{IsAnswer};
 ghost use Rattle.hot_eval.specs.Maps.{map_merge as the_map_merge, put_all as the_put_all};
 ghost use Rattle.hot_eval.specs.Maps.{map_replace as the_map_replace, rename_in as the_rename_in};
@@ -72,12 +72,31 @@ fn renamed(
     let mut renamed = Props::new(alloc);
     for member in members {
         let key = name_for(names, &member.key)?;
-        if renamed.get(&key).is_some() {
+        let value = value_for(alloc, values, &member.value)?;
+        if !put_new(&mut renamed, key, value)? {
             return Err(FunctionFault::Wrong(FaultCode::F05));
         }
-        renamed.put(key, value_for(alloc, values, &member.value)?)?;
     }
     Ok(Value::Fields(renamed))
+}
+
+/// Puts a value under a key that doesn't stand yet; false where it does.
+pub fn put_new(map: &mut Props, key: Text, value: Value) -> Result<bool, AllocError>
+    ensures { IfOk result (λ b. MatchBool b
+        ((the_stands key map.old ≡ false) × (map.new ≡ put key (data_of value) map.old))
+        (the_stands key map.old ≡ true)) }
+{
+    if has_key(map, &key) {
+        return Ok(false);
+    }
+    map.put(key, value)?;
+    Ok(true)
+}
+
+fn has_key(map: &Props, key: &Text) -> bool
+    ensures { result ≡ the_stands key.now map.now }
+{
+    map.get(key).is_some()
 }
 
 // What a map is renamed by: names of keys, each a text, and values.

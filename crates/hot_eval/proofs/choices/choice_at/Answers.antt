@@ -1,4 +1,4 @@
-use Rattle.std.proofs.Common.{◌≡◌, ◌≤◌, ◌∙◌, ap, sym, subst, arith, length, get_or, refl}
+use Rattle.std.proofs.Common.{◌≤◌, ◌∙◌, ap, sym, subst, arith, length, get_or, refl}
 use Rattle.hot_strings.specs.Pieces.{AreDistinct, HasNoEmptyKey}
 use Rattle.hot_eval.specs.Fillings.{texts_for}
 use Rattle.hot_eval.specs.Repeats.{lists_of}

@@ -1,5 +1,4 @@
-use Rattle.std.proofs.Common.{◌-◌, ◌<◌, length, get_or, refl, arith}
-use Rattle.hot_eval.specs.Repeats.{lists_of}
+use Rattle.std.proofs.Common.{◌-◌, get_or, refl, arith}
 use Rattle.hot_eval.proofs.Listings.{place_there, listed_next, listed_back, length-lists}
 use Rattle.hot_eval.proofs.Turns.{places_length}
 use Rattle.hot_eval.proofs.choices.go_on.Goals as goal

@@ -1,5 +1,5 @@
-use Rattle.std.proofs.Common.{◌≡◌, ◌∙◌, ap, refl}
-use Rattle.heat_value.specs.Data.{null, flag, whole}
+use Rattle.std.proofs.Common.{ap, refl}
+use Rattle.heat_value.specs.Data.{null, flag}
 use Rattle.heat_value.specs.Meaning.{data_of}
 use Rattle.hot_eval.specs.Repeats.{choice_of}
 use Rattle.hot_eval.proofs.Fills.{filling_next, filling_all, keys_next, keys_same, keys_all}
@@ -39,7 +39,7 @@ fields_filled-loop-member-preserved t c =
     let f = rw c.in-Template.is at c.in_ok-value.ensures in
     let e = rw c.if-not-branch.false at c.in_ok-put_new-in-Template.ensures in
     keys_next (choice_of c.args.choice.now) c.args.room.now c.loop-member.room c.value_filled.new.room c.loop-member.fields
-    c.put_new.new.fields _ _ _ c.member-item.result.key c.in_ok-key-in-Template.key (data_of c.member-item.result.value)
+    c.put_new.new.map _ _ _ c.member-item.result.key c.in_ok-key-in-Template.key (data_of c.member-item.result.value)
     (data_of c.in-Template.value) f.0
     (members_at c.args.members.now c.loop-member.member-index c.member-item.result c.loop-member-test.true c.member-item.is)
     f.1 f.2 c.in_ok-key-in-Template.ensures e.0 e.1 c.loop-member.invariant

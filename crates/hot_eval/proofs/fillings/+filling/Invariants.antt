@@ -1,4 +1,4 @@
-use Rattle.std.proofs.Common.{◌*◌, ◌+◌, drop}
+use Rattle.std.proofs.Common.{◌*◌, drop}
 use Rattle.heat_value.specs.Meaning.{data_of, nodes_of, members_of, weight, nodes_weight, members_weight}
 use Rattle.hot_eval.specs.Repeats.{choice_of}
 use Rattle.hot_eval.proofs.Fills.{AreFilling, AreFillingKeys}

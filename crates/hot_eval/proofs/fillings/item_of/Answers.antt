@@ -1,4 +1,4 @@
-use Rattle.std.proofs.Common.{◌≡◌, ◌∙◌, ◌<◌, ap, sym, subst, arith, length, get_or}
+use Rattle.std.proofs.Common.{◌≡◌, ◌∙◌, ap, sym, subst, arith, length, get_or}
 use Rattle.hot_strings.specs.Pieces.{Params}
 use Rattle.hot_eval.proofs.Picks.{length-items, item_next, item_here}
 use Rattle.hot_eval.proofs.fillings.item_of.Goals as goal

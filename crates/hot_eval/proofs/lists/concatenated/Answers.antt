@@ -1,4 +1,4 @@
-use Rattle.std.proofs.Common.{◌≡◌, ◌∙◌, ap, sym, map}
+use Rattle.std.proofs.Common.{◌∙◌, ap, map}
 use denote.Ref.{Bor}
 use Rattle.heat_value.specs.Meaning.{data_of, nodes_of}
 use Rattle.heat_value.specs.declared.value.Value.{Value}

@@ -1,5 +1,5 @@
-use Rattle.std.proofs.Common.{◌≡◌, ◌∙◌, ap, sym}
-use Rattle.heat_value.specs.Data.{node, node_last}
+use Rattle.std.proofs.Common.{◌∙◌, ap, sym}
+use Rattle.heat_value.specs.Data.{node_last}
 use Rattle.heat_value.specs.Meaning.{data_of}
 use Rattle.hot_eval.specs.Sameness.{has}
 use Rattle.hot_eval.proofs.Joins.{next_new, next_seen, all_new}

@@ -1,5 +1,5 @@
-use Rattle.std.proofs.Common.{◌≡◌, ◌∙◌, ap, sym}
-use Rattle.heat_value.specs.Data.{node, node_last}
+use Rattle.std.proofs.Common.{◌∙◌, ap, sym}
+use Rattle.heat_value.specs.Data.{node_last}
 use Rattle.heat_value.specs.Meaning.{data_of, nodes_of}
 use Rattle.hot_eval.proofs.Joins.{next_left, next_out, all_left}
 use Rattle.hot_eval.proofs.Places.{nodes_at, nodes_end}
