@@ -1,22 +1,22 @@
 -- What objects, calls and repeats come to, from what their parts come to.
-use Rattle.std.proofs.Common.{◌≡◌, ◌∙◌, ◌+◌, ◌<◌, ◌≤◌, ℕ, suc, List, [], ◌∷◌, Bool, true, false, Option, Some, None}
-use Rattle.std.proofs.Common.{Result, Ok, Err, nat_le, refl, sym, ap, subst, arith, length, option_map, if◌then◌else◌}
+use Rattle.std.proofs.Common.{◌≡◌, ◌∙◌, ◌+◌, ℕ, List, [], Bool, true, false, Option, Some, None}
+use Rattle.std.proofs.Common.{Result, Ok, Err, nat_le, refl, sym, ap, subst, option_map, if◌then◌else◌}
 use Rattle.std.specs.Prelude.{⊤}
-use Rattle.heat_value.specs.Data.{Data, words, items, fields, Nodes, no_nodes, node, Members, no_members, member}
+use Rattle.heat_value.specs.Data.{Data, items, fields, Nodes, Members, no_members, member}
 use Rattle.heat_value.specs.Meaning.{data_of}
-use Rattle.heat_value.specs.declared.path.Step.TheVariants.{Key, Index}
+use Rattle.heat_value.specs.declared.path.Step.TheVariants.{Key}
 use Rattle.heat_value.specs.declared.value.Value.{Value}
 use Rattle.hot_eval.specs.Answers.{IsFaultIn, IsOutcome, IsAnswer, IsOwnAnswer}
 use Rattle.hot_eval.specs.Choices.{Choice, Repetition, choices, repetition}
-use Rattle.hot_eval.specs.Evaluation.{Evaluating, Sole, sole, sole_of, argument, call, called, answered_by, repeated}
+use Rattle.hot_eval.specs.Evaluation.{Evaluating, Sole, sole_of, argument, call, called, answered_by, repeated}
 use Rattle.hot_eval.specs.Evaluation.{answer_of, choice_outcome, choices_outcome, counted, in_repeat}
-use Rattle.hot_eval.specs.Evaluation.{value_outcome, members_outcome, condition_outcome, object_outcome, object_condition}
+use Rattle.hot_eval.specs.Evaluation.{value_outcome, members_outcome, condition_outcome}
 use Rattle.hot_eval.specs.Faults.{of_function}
 use Rattle.hot_eval.specs.Manners.{manner_of}
 use Rattle.hot_eval.specs.Names.{function_of, condition_function_of, named_in, is_formed, is_condition_formed}
 use Rattle.hot_eval.specs.Outcomes.{Outcome, Gives, Faults, and_then, made_into, seen_from, under, charged, size, answered}
 use Rattle.hot_eval.specs.Outcomes.{cost_limit}
-use Rattle.hot_eval.specs.Repeats.{lists_of, IsRepetition, IsCode}
+use Rattle.hot_eval.specs.Repeats.{lists_of, IsRepetition}
 use Rattle.hot_eval.specs.Scenes.{SceneData}
 use Rattle.hot_eval.specs.declared.choices.Repetition.{Repetition as Held}
 use Rattle.hot_eval.specs.declared.code.FaultCode.{FaultCode}
@@ -26,9 +26,7 @@ use Rattle.hot_eval.specs.declared.fault.EvalFault.TheVariants as fault
 use Rattle.hot_eval.specs.declared.fault.FunctionFault.{FunctionFault}
 use Rattle.hot_eval.specs.declared.fault.FunctionFault.TheVariants.{Wrong, Memory}
 use Rattle.hot_eval.specs.declared.function.Function.{Function}
-use Rattle.hot_forms.specs.Shapes.{members_in}
-use Rattle.hot_functions.specs.Forms.{lone}
-use Rattle.hot_eval.proofs.Steps.{fault_same, fault_next, fault_made}
+use Rattle.hot_eval.proofs.Steps.{fault_same, fault_next}
 
 -- ---- the same outcome, said otherwise
 

@@ -1,9 +1,8 @@
 -- What a search finds among the elements that a filter keeps.
-use Rattle.std.proofs.Common.{◌≡◌, ◌∙◌, ℕ, List, [], ◌∷◌, Bool, true, false, not, Option, Some, None, refl, sym, ap}
+use Rattle.std.proofs.Common.{◌≡◌, ◌∙◌, ℕ, List, [], ◌∷◌, Bool, true, false, not, Some, None, refl, sym, ap}
 use Rattle.std.proofs.Common.{find, cond, bytes_eq, option_map}
 use Rattle.std.proofs.lemmas.Slice.Eq.{bytes_eq-Decides}
 use Rattle.std.specs.List.{filter}
-use Rattle.heat_plan.specs.declared.facts.Facts.{Facts}
 use Rattle.heat_plan.specs.declared.facts.KnownFacts.{KnownFacts}
 use Rattle.hot_eval.specs.Scenes.{is_one_of, present, facts_told}
 

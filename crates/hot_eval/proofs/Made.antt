@@ -1,9 +1,8 @@
 -- What is made whatever it costs.
-use Rattle.std.proofs.Common.{◌≡◌, ◌∙◌, ℕ, List, Result, Ok, Err, Bool, true, false, ◌&&◌, nat_le, ap, sym, subst, refl}
+use Rattle.std.proofs.Common.{◌≡◌, ◌∙◌, ℕ, Result, Ok, Err, Bool, true, false, ◌&&◌, nat_le, ap, sym, subst}
 use Rattle.std.proofs.Common.{◌≤◌, ◌-◌, [], arith, if◌then◌else◌}
 use Rattle.std.proofs.lemmas.Bool.{leb-true}
 use Rattle.heat_value.specs.Data.{Data, Members, fields, depth}
-use Rattle.heat_value.specs.declared.path.Step.{Step}
 use Rattle.hot_eval.specs.Answers.{IsFaultIn, IsOutcome, IsMadeOf}
 use Rattle.hot_eval.specs.Outcomes.{Outcome, Gives, Faults, is_result, size, cost_limit}
 use Rattle.hot_eval.specs.Evaluation.{Evaluating, value_outcome, members_outcome, evaluation, evaluation_within}

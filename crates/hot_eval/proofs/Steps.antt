@@ -1,5 +1,5 @@
 -- How outcomes go on, and how a list, a map or a repeat's list is made part by part.
-use Rattle.std.proofs.Common.{◌≡◌, ◌∙◌, ◌+◌, ◌<◌, ◌≤◌, ◌++◌, ℕ, zero, suc, List, [], ◌∷◌, Result, Ok, Err, refl, sym, ap}
+use Rattle.std.proofs.Common.{◌≡◌, ◌∙◌, ◌+◌, ◌<◌, ◌≤◌, ◌++◌, ℕ, zero, suc, List, [], ◌∷◌, refl, sym, ap}
 use Rattle.std.proofs.Common.{Bool, true, false, map, unwrap_or, subst, drop, length, get_or, arith, add-one}
 use Rattle.std.proofs.lemmas.Cmp.{nat_list_cmp_total}
 use Rattle.std.specs.Cmp.Lexicographic.{slice_cmp}
@@ -10,8 +10,7 @@ use Rattle.std.specs.declared.cmp.Ordering.{Ordering}
 use Rattle.std.specs.declared.cmp.Ordering.TheVariants.{Less, Greater}
 use Rattle.heat_value.specs.Data.{Data, null, Nodes, no_nodes, node, node_last, Members, no_members, member, keys_of, put}
 use Rattle.heat_value.specs.Meaning.{data_of, nodes_of, members_of}
-use Rattle.heat_value.specs.declared.path.Step.{Step}
-use Rattle.heat_value.specs.declared.path.Step.TheVariants.{Key, Index}
+use Rattle.heat_value.specs.declared.path.Step.TheVariants.{Index}
 use Rattle.heat_value.specs.declared.value.Value.{Value}
 use Rattle.heat_value.specs.declared.value.Member.{Member}
 use Rattle.hot_eval.specs.Answers.{IsFaultIn}
@@ -20,7 +19,7 @@ use Rattle.hot_eval.specs.Evaluation.{Evaluating, choice_outcome, choices_outcom
 use Rattle.hot_eval.specs.Fillings.{filled}
 use Rattle.hot_eval.specs.Lookups.{node_at}
 use Rattle.hot_eval.specs.Repeats.{ArePlaces, GoesOn, choice_at, choices_from, each_from, count_of}
-use Rattle.hot_eval.specs.Outcomes.{Outcome, Gives, Faults, and_then, made_into, seen_from, under}
+use Rattle.hot_eval.specs.Outcomes.{Outcome, Gives, Faults, and_then, made_into, under}
 use Rattle.hot_eval.specs.declared.fault.EvalFault.{EvalFault}
 use Rattle.hot_eval.specs.declared.fault.EvalFault.TheVariants as fault
 

@@ -1,4 +1,4 @@
-use Rattle.std.proofs.Common.{◌≡◌, Result, ap}
+use Rattle.std.proofs.Common.{Result, ap}
 use Rattle.std.proofs.lemmas.Result.{err_from_is_err_and}
 use Rattle.heat_value.specs.Data.{Data}
 use Rattle.hot_eval.specs.Answers.{IsFaultOf, IsOwnFault, code_of}

@@ -1,8 +1,8 @@
-use Rattle.std.proofs.Common.{◌≡◌, ◌∙◌, ℕ, refl, sym, ap}
+use Rattle.std.proofs.Common.{◌∙◌, refl, sym, ap}
 use Rattle.std.proofs.lemmas.Result.{err_from_is_err_and}
-use Rattle.heat_value.specs.Data.{Data, Members, fields}
+use Rattle.heat_value.specs.Data.{Members, fields}
 use Rattle.heat_value.specs.Meaning.{data_of, members_of}
-use Rattle.heat_value.specs.declared.path.Step.TheVariants.{Key, Index}
+use Rattle.heat_value.specs.declared.path.Step.TheVariants.{Key}
 use Rattle.hot_eval.specs.Answers.{again, picked_outcome}
 use Rattle.hot_eval.specs.Evaluation.{value_outcome, values_outcome, members_outcome, all_but_outcome, alone}
 use Rattle.hot_eval.specs.Choices.{choices, repetition}
@@ -13,7 +13,7 @@ use Rattle.hot_eval.specs.Outcomes.{Gives, made_into, under}
 use Rattle.hot_eval.specs.Repeats.{lists_of, choice_of}
 use Rattle.hot_eval.specs.Scenes.{scene_data}
 use Rattle.hot_eval.specs.declared.branches.Picked.{Picked}
-use Rattle.hot_eval.proofs.Steps.{fault_same, fault_next, fault_made, list_goes_on, list_ends, map_goes_on, map_ends}
+use Rattle.hot_eval.proofs.Steps.{fault_same, fault_made, list_goes_on, list_ends, map_goes_on, map_ends}
 use Rattle.hot_eval.proofs.Steps.{turn_stops, turn_goes_on, turn_ends}
 use Rattle.hot_eval.proofs.Calls.{outcome_is, there, object_calls, object_plain, condition_calls, condition_plain}
 use Rattle.hot_eval.proofs.Calls.{repeated_gives}

@@ -1,4 +1,4 @@
-use Rattle.std.proofs.Common.{◌≡◌, ◌+◌, ◌*◌, length}
+use Rattle.std.proofs.Common.{◌+◌, ◌*◌, length}
 use Rattle.heat_value.specs.Meaning.{data_of, nodes_of, members_of}
 use Rattle.hot_eval.specs.Answers.{again}
 use Rattle.hot_eval.specs.Choices.{choices}

@@ -1,4 +1,4 @@
-use Rattle.std.proofs.Common.{◌≡◌, ◌≤◌, ℕ, List, Result, Ok, Err, IfOk, Bor, map, take, length, subst, ap}
+use Rattle.std.proofs.Common.{◌≡◌, ◌≤◌, ℕ, List, Result, Ok, Err, IfOk, Bor, map, take, length, subst}
 use Rattle.std.proofs.lemmas.List.{take_all}
 use Rattle.heat_plan.specs.Order.{Rising}
 use Rattle.heat_value.specs.declared.text.Text.{Text}

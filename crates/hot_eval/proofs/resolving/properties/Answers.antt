@@ -1,7 +1,5 @@
-use Rattle.std.proofs.Common.{◌≡◌, ◌∙◌, ap, sym}
 use Rattle.std.proofs.lemmas.Result.{err_from_is_err_and}
-use Rattle.hot_eval.specs.Answers.{again, IsMadeOf}
-use Rattle.hot_eval.specs.Resolutions.{unless_large}
+use Rattle.hot_eval.specs.Answers.{again}
 use Rattle.hot_eval.specs.Scenes.{scene_data, scene_of}
 use Rattle.hot_eval.proofs.Made.{large_fault, made_by, properties_are}
 use Rattle.hot_eval.proofs.resolving.properties.Goals as goal

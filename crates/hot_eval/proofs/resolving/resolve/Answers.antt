@@ -1,4 +1,3 @@
-use Rattle.hot_eval.specs.Answers.{IsMadeOf}
 use Rattle.hot_eval.specs.Resolutions.{resolve}
 use Rattle.hot_eval.proofs.resolving.resolve.Goals as goal
 
