@@ -7,14 +7,14 @@ use Rattle.heat_plan.specs.declared.facts.Facts.{Facts}
 use Rattle.heat_plan.specs.declared.facts.KnownFacts.{KnownFacts}
 use Rattle.hot_eval.specs.Scenes.{is_one_of, present, facts_told}
 
-none_at : {X : Type 0} (b : Bool) → cond {A = Option X} b None None ≡ None
-none_at true = refl
-none_at false = refl
+either_way : {A : Type 0} (b : Bool) (a : A) → a ≡ cond b a a
+either_way true a = refl
+either_way false a = refl
 
 -- what the search can't tell apart is kept or left out together
 pub find-filter : {X : Type 0} (test p : X → Bool) (b : Bool) → ((x : X) → test x ≡ true → p x ≡ b) → (xs : List X)
     → find test (filter p xs) ≡ cond b (find test xs) None
-find-filter test p b h [] = sym (none_at b)
+find-filter test p b h [] = either_way b None
 find-filter {X} test p b h (x ∷ xs) = by (test x) (p x) refl refl (h x) (find-filter test p b h xs)
   where
     by : (t c : Bool) → test x ≡ t → p x ≡ c → (test x ≡ true → p x ≡ b)

@@ -27,6 +27,11 @@ abbrev pub IsFaultOf : FunctionFault → Result Data FaultCode → Type 0
 IsFaultOf (Wrong c) r = code_of r ≡ Some c
 IsFaultOf Memory r = ⊤
 
+-- the fault is the answer itself, or want of memory
+abbrev pub IsOwnFault : FunctionFault → Result Data FaultCode → Type 0
+IsOwnFault (Wrong c) r = r ≡ Err c
+IsOwnFault Memory r = ⊤
+
 -- the call tells the answer, or its fault
 abbrev pub IsAnswer : Result Value FunctionFault → Result Data FaultCode → Type 0
 IsAnswer (Ok v) r = r ≡ Ok (data_of v)

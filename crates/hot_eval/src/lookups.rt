@@ -1,8 +1,9 @@
 //! What functions read: parameters, facts of resources, files, and the values at a path in them.
-ghost use Rattle.std.specs.Prelude.{◌≡◌, IfOk, MatchOption, Ok, Some, None, option_map, option_and_then, unwrap_or};
+ghost use Rattle.std.specs.Prelude.{◌≡◌, IfOk, IfErr, MatchOption, Ok, Some, None, option_map};
+ghost use Rattle.std.specs.Prelude.{option_and_then, unwrap_or};
 ghost use Rattle.heat_value.specs.Data.{lookup, null};
 ghost use Rattle.heat_value.specs.Meaning.{data_of, nodes_of};
-ghost use Rattle.hot_eval.specs.Answers.{IsAnswer};
+ghost use Rattle.hot_eval.specs.Answers.{IsAnswer, IsOwnFault};
 ghost use Rattle.hot_eval.specs.Lookups.{parameter as the_parameter, resource as the_resource};
 ghost use Rattle.hot_eval.specs.Lookups.{attribute as the_attribute, file as the_file, walked as the_walked};
 ghost use Rattle.hot_eval.specs.Lookups.{parameter_at as the_parameter_at, attributes_at as the_attributes_at};
@@ -20,7 +21,9 @@ use std::alloc::{AllocError, Global};
 
 /// get_param: the bound value at the path, empty text where it is missing.
 pub fn parameter(alloc: Global, scene: &Scene, argument: &Value) -> Result<Value, FunctionFault>
-    ensures { IsAnswer result (the_parameter (scene_data scene.now) (data_of argument.now)) }
+    ensures answer { IsAnswer result (the_parameter (scene_data scene.now) (data_of argument.now)) }
+    ensures fault { IfErr result (λ e.
+        IsOwnFault e (the_parameter (scene_data scene.now) (data_of argument.now))) }
 {
     match argument {
         Value::Words(_) => parameter_at(alloc, scene, argument, &[]),
@@ -40,8 +43,10 @@ fn parameter_at(
     name: &Value,
     path: &[Value],
 ) -> Result<Value, FunctionFault>
-    ensures { IsAnswer result
+    ensures answer { IsAnswer result
         (the_parameter_at (scene_data scene.now) (data_of name.now, nodes_of path.now)) }
+    ensures fault { IfErr result (λ e. IsOwnFault e
+        (the_parameter_at (scene_data scene.now) (data_of name.now, nodes_of path.now))) }
 {
     let name = wanted(text_in(name))?;
     let bound = wanted(scene.params.get(name))?;

@@ -10,6 +10,8 @@ returns-then-not-is_result c sum =
     (large_is c.is_result.result c.args.made sum c.is_result.ensures c.if-not-is_result.true)
 
 pub returns : goal.returns
-returns c sum =
-    (sum, small_is c.is_result.result c.args.made sum c.is_result.ensures c.if-not-is_result.false
-    ∙ ap (λ (ms : Members). Gives ms sum) (sym c.in-Some.ensures.1))
+returns c sum = (
+  sum,
+  small_is c.is_result.result c.args.made sum c.is_result.ensures c.if-not-is_result.false
+      ∙ ap (λ (ms : Members). Gives ms sum) (sym c.in-Some.ensures.1),
+)
