@@ -1,23 +1,21 @@
-//! The literal template of a repeat with a choice's items in place of the keys, and where its parts stood.
-ghost use Rattle.std.specs.Prelude.{◌≡◌, ◌<◌, ◌-◌, ◌^◌, ◌≤◌, ◌≢◌, IfOk, OnOk, MatchOption, Some, None, is_none, is_some};
+//! The literal template of a repeat with a choice's items in place of the keys.
+mod literal;
+
+ghost use Rattle.std.specs.Prelude.{◌≡◌, ◌<◌, ◌-◌, ◌^◌, ◌≢◌, IfOk, OnOk, MatchOption, Some, None, is_none, is_some};
 ghost use Rattle.std.specs.Prelude.{option_map, unwrap_or, bytes_eq};
 ghost use Rattle.heat_value.specs.Data.{words as words_data, items as items_data, fields as fields_data};
 ghost use Rattle.heat_value.specs.Meaning.{data_of, nodes_of, members_of};
-ghost use Rattle.heat_value.specs.declared.path.Step.TheVariants.{Index};
-ghost use Rattle.hot_eval.specs.Faults.{IsSeenFrom};
 ghost use Rattle.hot_eval.specs.Fillings.{filled as the_filled, text_filled as the_text_filled};
 ghost use Rattle.hot_eval.specs.Fillings.{words_filled as the_words_filled, item_of as the_item_of};
-ghost use Rattle.hot_eval.specs.Fillings.{literal_path as the_literal_path, literal_step as the_literal_step};
-ghost use Rattle.hot_eval.specs.Fillings.{step_in_list, member_becoming as the_member_becoming};
 ghost use Rattle.hot_eval.specs.Outcomes.{size};
 ghost use Rattle.hot_eval.specs.Repeats.{choice_of, IsChoice};
 ghost use Rattle.hot_eval.specs.Rooms.{taken, room_behind, IsMade, IsFilled, IsTooLarge};
 
-use crate::EvalFault;
 use crate::choices::Choice;
 use crate::maps::put_new;
-use heat_value::{Items, Member, Path, Props, Step, Text, TryCopy, Value};
+use heat_value::{Items, Member, Props, Text, TryCopy, Value};
 use hot_strings::{StringFault, replace_within, value_size};
+pub use literal::at_literal_place;
 use std::alloc::{AllocError, Global};
 use std::marker::Model;
 
@@ -263,8 +261,8 @@ fn is_key(text: &(Text, Text), words: &Text) -> bool
     text.0.as_str() == words.as_str()
 }
 
-// An object's key with keys replaced. One that takes more than a whole evaluation may cost isn't made.
-fn key_filled(alloc: Global, choice: &Choice, key: &Text) -> Result<Text, AllocError>
+/// An object's key with keys replaced. One that takes more than a whole evaluation may cost isn't made.
+pub fn key_filled(alloc: Global, choice: &Choice, key: &Text) -> Result<Text, AllocError>
     requires { IsChoice choice.now }
     ensures { IfOk result (λ t. t ≡ the_text_filled (choice_of choice.now) key.now) }
 {
@@ -304,102 +302,4 @@ fn none_for(fault: StringFault) -> Result<Option<Text>, AllocError>
         StringFault::F02 | StringFault::F03 | StringFault::F04 | StringFault::F06 => Ok(None),
         StringFault::Memory => Err(AllocError),
     }
-}
-
-/// The fault of a replaced template, at its place in the literal one: what lies inside an item that
-/// replaced a text has the path of that text.
-pub fn at_literal_place(
-    alloc: Global,
-    choice: &Choice,
-    template: &Value,
-    fault: EvalFault,
-) -> EvalFault
-    requires { IsChoice choice.now }
-    ensures { IsSeenFrom (the_literal_path (choice_of choice.now) (data_of template.now)) fault result }
-{
-    match fault {
-        EvalFault::Wrong(code, path) => match literal_path(
-            alloc,
-            choice,
-            template,
-            path.as_slice(),
-        ) {
-            Ok(path) => EvalFault::Wrong(code, path),
-            Err(_) => EvalFault::Memory,
-        },
-        EvalFault::Memory => EvalFault::Memory,
-    }
-}
-
-fn literal_path(
-    alloc: Global,
-    choice: &Choice,
-    template: &Value,
-    steps: &[Step],
-) -> Result<Path, AllocError>
-    requires { IsChoice choice.now }
-    ensures { IfOk result (λ p. p ≡ the_literal_path (choice_of choice.now) (data_of template.now) steps.now) }
-{
-    let mut path = Path::root(alloc);
-    let mut at = template;
-    for step in steps {
-        match literal_step(alloc, choice, at, step)? {
-            Some((step, inner)) => {
-                path.push(step)?;
-                at = inner;
-            }
-            None => return Ok(path),
-        }
-    }
-    Ok(path)
-}
-
-// The step in the literal template, and what stands behind it.
-fn literal_step<'a>(
-    alloc: Global,
-    choice: &Choice,
-    template: &'a Value,
-    step: &Step,
-) -> Result<Option<(Step, &'a Value)>, AllocError>
-    requires { IsChoice choice.now }
-    ensures { IfOk result (λ o. option_map (λ p. (p.0, data_of p.1.now)) o
-        ≡ the_literal_step (choice_of choice.now) (data_of template.now) step.now) }
-{
-    match (template, step) {
-        (Value::Items(items), Step::Index(at)) => Ok(item_step(items.as_slice(), *at)),
-        (Value::Fields(fields), Step::Key(key)) => {
-            member_becoming(alloc, choice, key, fields.as_slice())
-        }
-        _ => Ok(None),
-    }
-}
-
-// The step to a place of a list.
-fn item_step<'a>(values: &'a [Value], at: usize) -> Option<(Step, &'a Value)>
-    ensures { option_map (λ p. (p.0, data_of p.1.now)) result
-        ≡ step_in_list (nodes_of values.now) (Index at) }
-{
-    match values.get(at) {
-        Some(value) => Some((Step::Index(at), value)),
-        None => None,
-    }
-}
-
-// The step to the member whose key becomes this one.
-fn member_becoming<'a>(
-    alloc: Global,
-    choice: &Choice,
-    key: &Text,
-    members: &'a [Member],
-) -> Result<Option<(Step, &'a Value)>, AllocError>
-    requires { IsChoice choice.now }
-    ensures { IfOk result (λ o. option_map (λ p. (p.0, data_of p.1.now)) o
-        ≡ the_member_becoming (choice_of choice.now) key.now (members_of members.now)) }
-{
-    for member in members {
-        if key_filled(alloc, choice, &member.key)? == *key {
-            return Ok(Some((Step::Key(member.key.copy()?), &member.value)));
-        }
-    }
-    Ok(None)
 }

@@ -2,7 +2,7 @@ use Rattle.std.proofs.Common.{◌≡◌, drop}
 use Rattle.heat_value.specs.Meaning.{members_of}
 use Rattle.hot_eval.specs.Fillings.{member_becoming}
 use Rattle.hot_eval.specs.Repeats.{choice_of}
-use Rattle.hot_eval.proofs.fillings.member_becoming.Given as goal
+use Rattle.hot_eval.proofs.fillings.literal.member_becoming.Given as goal
 
 -- what is left decides
 abbrev pub invariant-loop-member : goal.invariant-loop-member

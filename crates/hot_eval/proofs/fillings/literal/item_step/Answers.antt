@@ -1,6 +1,6 @@
 use Rattle.std.proofs.Common.{Some, None}
 use Rattle.hot_eval.proofs.Places.{got_step}
-use Rattle.hot_eval.proofs.fillings.item_step.Goals as goal
+use Rattle.hot_eval.proofs.fillings.literal.item_step.Goals as goal
 
 pub returns-in-Some : goal.returns-in-Some
 returns-in-Some c = got_step c.args.values.now c.args.at (Some c.in-Some.value) c.in-Some.ensures.lookup
