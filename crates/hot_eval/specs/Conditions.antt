@@ -12,7 +12,7 @@ use Rattle.hot_functions.specs.Forms.{lone}
 use Rattle.hot_functions.specs.Places.{item_place, member_place}
 use Rattle.hot_functions.specs.declared.place.Place.{Place}
 use Rattle.hot_functions.specs.declared.place.Place.TheVariants as place
-use Rattle.hot_eval.specs.Evaluation.{evaluated, condition_value}
+use Rattle.hot_eval.specs.Evaluation.{evaluation, condition_outcome}
 use Rattle.hot_eval.specs.Outcomes.{Outcome, Gives, Faults}
 use Rattle.hot_eval.specs.Scenes.{SceneData}
 use Rattle.hot_eval.specs.Sorts.{flag_in}
@@ -35,16 +35,16 @@ abbrev mutual
   names_read p (flag b) = []
   names_read p (whole z) = []
   names_read p (words s) = name_at p s
-  names_read p (items ns) = names_among p 0 ns
-  names_read p (fields ms) = names_under (member_place p (lone ms)) ms
+  names_read p (items ns) = names_read_among p 0 ns
+  names_read p (fields ms) = names_read_under (member_place p (lone ms)) ms
 
-  pub names_among : Place → ℕ → Nodes → List (List ℕ)
-  names_among p i no_nodes = []
-  names_among p i (node d ns) = names_read (item_place p i) d ++ names_among p (i + 1) ns
+  pub names_read_among : Place → ℕ → Nodes → List (List ℕ)
+  names_read_among p i no_nodes = []
+  names_read_among p i (node d ns) = names_read (item_place p i) d ++ names_read_among p (i + 1) ns
 
-  pub names_under : Place → Members → List (List ℕ)
-  names_under p no_members = []
-  names_under p (member k d ms) = names_read p d ++ names_under p ms
+  pub names_read_under : Place → Members → List (List ℕ)
+  names_read_under p no_members = []
+  names_read_under p (member k d ms) = names_read p d ++ names_read_under p ms
 
 -- the condition a names b
 abbrev pub Names : Members → List ℕ → List ℕ → Type 0
@@ -76,7 +76,8 @@ flag_made (Faults c p) = None
 
 -- the flag that a condition expression gives, from no cost on, where these conditions have values
 abbrev pub flag_of : Members → List Condition → Data → Option Bool
-flag_of params known d = flag_made (condition_value (evaluated (in_conditions params known)) (in_conditions params known) d 0)
+flag_of params known d =
+    flag_made (condition_outcome (evaluation (in_conditions params known)) (in_conditions params known) d 0)
 
 abbrev pub with_value : List ℕ → Option Bool → List Condition → List Condition
 with_value name None rest = rest
@@ -132,9 +133,16 @@ first_in_section params known section (member k d ms) = option_or
     (unvalued_in params known (Key section ∷ Key k ∷ Key (codes "condition") ∷ []) (condition_in d))
     (first_in_section params known section ms)
 
--- the path of the first without a value: of the conditions, then of the resources, then of the outputs
+-- the path of the first without a value: of the conditions, then of the resources' `condition`s, then of the outputs'
 abbrev pub unvalued : Members → Members → Members → Members → Option (List Step)
 unvalued params conds resources outputs =
     option_or (first_unvalued params (values_of params conds) conds) (
     option_or (first_in_section params (values_of params conds) (codes "resources") resources)
     (first_in_section params (values_of params conds) (codes "outputs") outputs))
+
+-- ---- what is wrong with them
+
+-- the first expression without a value, in a template where no condition is on a cycle
+pub record IsFirstUnvalued (params conds resources outputs : Members) (path : List Step) : Type 0 where
+  pub acyclic : (name : List ℕ) → ¬ IsOnCycle conds name
+  pub first : unvalued params conds resources outputs ≡ Some path

@@ -3,6 +3,7 @@ use Rattle.std.specs.Prelude.{ℕ, zero, suc, ◌+◌, List, [], ◌∷◌, Bool
 use Rattle.std.specs.Prelude.{Result, Ok, Err, bytes_eq, codes, if◌then◌else◌}
 use Rattle.heat_value.specs.Data.{Data, null, flag, whole, words, items, fields, Nodes, no_nodes, node}
 use Rattle.heat_value.specs.Data.{Members, no_members, member}
+use Rattle.heat_value.specs.declared.path.Step.{Step}
 use Rattle.heat_value.specs.declared.path.Step.TheVariants.{Key, Index}
 use Rattle.hot_eval.specs.Choices.{Choice, Repetition, repetition}
 use Rattle.hot_eval.specs.Fillings.{filled, literal_path}
@@ -30,56 +31,68 @@ Evaluating = Data → ℕ → Outcome Data
 
 -- ---- repeat
 
--- the replaced template is counted and evaluated; its faults stand where the literal template has the place
-abbrev pub replaced_value : Evaluating → Data → Choice → Data → ℕ → Outcome Data
-replaced_value again template c r spent =
-    and_then (charged r (size r) spent) (λ r sum.
-    seen_from (λ p. Key (codes "repeat") ∷ Key (codes "template") ∷ literal_path c template p) (again r sum))
+-- the replaced template, counted; F05 where two keys of an object became one
+abbrev pub counted : Option Data → ℕ → Outcome Data
+counted None spent = Faults F05 []
+counted (Some r) spent = charged r (size r) spent
 
--- F05 where two keys of an object become one; else what the replaced template comes to
-abbrev pub choice_value : Evaluating → Data → Choice → Option Data → ℕ → Outcome Data
-choice_value again template c None spent = Faults F05 []
-choice_value again template c (Some r) spent = replaced_value again template c r spent
+-- the place in a repeat's object of what stands at a path of the replaced template
+abbrev pub in_repeat : Choice → Data → List Step → List Step
+in_repeat c template p = Key (codes "repeat") ∷ Key (codes "template") ∷ literal_path c template p
+
+-- what a replaced template comes to; its faults stand where the literal template has the place
+abbrev pub choice_outcome : Evaluating → Data → Choice → Option Data → ℕ → Outcome Data
+choice_outcome again template c r spent =
+    and_then (counted r spent) (λ r sum. seen_from (in_repeat c template) (again r sum))
 
 -- choice by choice
-abbrev pub choice_values : Evaluating → Data → List Choice → ℕ → Outcome Nodes
-choice_values again template [] spent = Gives no_nodes spent
-choice_values again template (c ∷ cs) spent =
-    and_then (choice_value again template c (filled c template) spent) (λ v sum.
-    made_into (node v) (choice_values again template cs sum))
+abbrev pub choices_outcome : Evaluating → Data → List Choice → ℕ → Outcome Nodes
+choices_outcome again template [] spent = Gives no_nodes spent
+choices_outcome again template (c ∷ cs) spent =
+    and_then (choice_outcome again template c (filled c template) spent) (λ v sum.
+    made_into (node v) (choices_outcome again template cs sum))
 
 -- its own faults come before all choices
 abbrev pub repeated : Evaluating → Result Repetition FaultCode → ℕ → Outcome Data
 repeated again (Ok (cs, template)) spent =
-    and_then (choice_values again template cs spent) (λ ns sum. answered (Ok (items ns)) sum)
+    and_then (choices_outcome again template cs spent) (λ ns sum. answered (Ok (items ns)) sum)
 repeated again (Err c) spent = Faults c []
 
 -- ---- a function, with its argument evaluated
 
--- what a function of values answers
+-- the answer of a function that evaluates nothing more; none for a repeat
+abbrev pub own_answer : SceneData → Function → Data → Option (Result Data FaultCode)
+own_answer scene function.Parameter a = Some (parameter scene a)
+own_answer scene function.Resource a = Some (resource scene a)
+own_answer scene function.Attribute a = Some (attribute scene a)
+own_answer scene function.File a = Some (file scene a)
+own_answer scene function.Join a = Some (list_join a)
+own_answer scene function.Split a = Some (str_split a)
+own_answer scene function.Replace a = Some (str_replace false a)
+own_answer scene function.ReplaceStrictly a = Some (str_replace true a)
+own_answer scene function.Repeat a = None
+own_answer scene function.Digest a = Some (digest a)
+own_answer scene function.MergeMaps a = Some (map_merge a)
+own_answer scene function.ReplaceInMap a = Some (map_replace a)
+own_answer scene function.Concat a = Some (list_concat a)
+own_answer scene function.ConcatUnique a = Some (list_concat_unique a)
+own_answer scene function.Filter a = Some (filter a)
+own_answer scene function.Contains a = Some (contains a)
+own_answer scene function.If a = Some (branch a)
+own_answer scene function.FlagParameter a = Some (only_flag (parameter scene a))
+own_answer scene function.Equals a = Some (equals a)
+own_answer scene function.Not a = Some (negated a)
+own_answer scene function.And a = Some (conjoined a)
+own_answer scene function.Or a = Some (disjoined a)
+
+-- a repeat evaluates its replaced templates first
+abbrev pub answered_by : Evaluating → Data → Option (Result Data FaultCode) → ℕ → Outcome Data
+answered_by again a None spent = repeated again (repetition a) spent
+answered_by again a (Some r) spent = answered r spent
+
+-- what a function answers
 abbrev pub answer_of : Evaluating → SceneData → Function → Data → ℕ → Outcome Data
-answer_of again scene function.Parameter a spent = answered (parameter scene a) spent
-answer_of again scene function.Resource a spent = answered (resource scene a) spent
-answer_of again scene function.Attribute a spent = answered (attribute scene a) spent
-answer_of again scene function.File a spent = answered (file scene a) spent
-answer_of again scene function.Join a spent = answered (list_join a) spent
-answer_of again scene function.Split a spent = answered (str_split a) spent
-answer_of again scene function.Replace a spent = answered (str_replace false a) spent
-answer_of again scene function.ReplaceStrictly a spent = answered (str_replace true a) spent
-answer_of again scene function.Repeat a spent = repeated again (repetition a) spent
-answer_of again scene function.Digest a spent = answered (digest a) spent
-answer_of again scene function.MergeMaps a spent = answered (map_merge a) spent
-answer_of again scene function.ReplaceInMap a spent = answered (map_replace a) spent
-answer_of again scene function.Concat a spent = answered (list_concat a) spent
-answer_of again scene function.ConcatUnique a spent = answered (list_concat_unique a) spent
-answer_of again scene function.Filter a spent = answered (filter a) spent
-answer_of again scene function.Contains a spent = answered (contains a) spent
-answer_of again scene function.If a spent = answered (branch a) spent
-answer_of again scene function.FlagParameter a spent = answered (only_flag (parameter scene a)) spent
-answer_of again scene function.Equals a spent = answered (equals a) spent
-answer_of again scene function.Not a spent = answered (negated a) spent
-answer_of again scene function.And a spent = answered (conjoined a) spent
-answer_of again scene function.Or a spent = answered (disjoined a) spent
+answer_of again scene f a spent = answered_by again a (own_answer scene f a) spent
 
 -- ---- calls
 
@@ -115,9 +128,9 @@ called again scene None formed m plain spent = plain
 called again scene (Some f) formed m plain spent = call again scene f formed m spent
 
 -- an object with one key is the function of values that the key names, if it names one
-abbrev pub object_value : Evaluating → SceneData → Option Sole → Outcome Data → ℕ → Outcome Data
-object_value again scene None plain spent = plain
-object_value again scene (Some m) plain spent =
+abbrev pub object_outcome : Evaluating → SceneData → Option Sole → Outcome Data → ℕ → Outcome Data
+object_outcome again scene None plain spent = plain
+object_outcome again scene (Some m) plain spent =
     called again scene (function_of m.key) (is_formed m.key m.given) m plain spent
 
 -- and as a condition the function of conditions that it names
@@ -134,28 +147,28 @@ alone d = node d no_nodes
 
 abbrev mutual
   -- scalars are themselves, lists and objects go part by part, an object with one key may be a function
-  pub value : Evaluating → SceneData → Data → ℕ → Outcome Data
-  value again scene null spent = Gives null spent
-  value again scene (flag b) spent = Gives (flag b) spent
-  value again scene (whole z) spent = Gives (whole z) spent
-  value again scene (words s) spent = Gives (words s) spent
-  value again scene (items ns) spent = made_into items (values again scene 0 ns spent)
-  value again scene (fields ms) spent =
-      object_value again scene (sole again scene ms) (made_into fields (members again scene ms spent)) spent
+  pub value_outcome : Evaluating → SceneData → Data → ℕ → Outcome Data
+  value_outcome again scene null spent = Gives null spent
+  value_outcome again scene (flag b) spent = Gives (flag b) spent
+  value_outcome again scene (whole z) spent = Gives (whole z) spent
+  value_outcome again scene (words s) spent = Gives (words s) spent
+  value_outcome again scene (items ns) spent = made_into items (values_outcome again scene 0 ns spent)
+  value_outcome again scene (fields ms) spent =
+      object_outcome again scene (sole again scene ms) (made_into fields (members_outcome again scene ms spent)) spent
 
   -- the parts of a list from the place i on
-  pub values : Evaluating → SceneData → ℕ → Nodes → ℕ → Outcome Nodes
-  values again scene i no_nodes spent = Gives no_nodes spent
-  values again scene i (node d ns) spent =
-      and_then (under (Index i) (value again scene d spent)) (λ v sum.
-      made_into (node v) (values again scene (i + 1) ns sum))
+  pub values_outcome : Evaluating → SceneData → ℕ → Nodes → ℕ → Outcome Nodes
+  values_outcome again scene i no_nodes spent = Gives no_nodes spent
+  values_outcome again scene i (node d ns) spent =
+      and_then (under (Index i) (value_outcome again scene d spent)) (λ v sum.
+      made_into (node v) (values_outcome again scene (i + 1) ns sum))
 
   -- the parts of an object, which itself is no function
-  pub members : Evaluating → SceneData → Members → ℕ → Outcome Members
-  members again scene no_members spent = Gives no_members spent
-  members again scene (member k d ms) spent =
-      and_then (under (Key k) (value again scene d spent)) (λ v sum.
-      made_into (member k v) (members again scene ms sum))
+  pub members_outcome : Evaluating → SceneData → Members → ℕ → Outcome Members
+  members_outcome again scene no_members spent = Gives no_members spent
+  members_outcome again scene (member k d ms) spent =
+      and_then (under (Key k) (value_outcome again scene d spent)) (λ v sum.
+      made_into (member k v) (members_outcome again scene ms sum))
 
   -- the only member of an object that has just one
   pub sole : Evaluating → SceneData → Members → Option Sole
@@ -163,99 +176,117 @@ abbrev mutual
   sole again scene (member k d no_members) = Some (record {
     key = k;
     given = d;
-    each = parts_value again scene d;
-    all_but_template = repeat_parts again scene d;
-    chosen_branch = if_parts again scene d;
-    condition = condition_value again scene d;
-    conditions = condition_parts again scene d;
+    each = parts_outcome again scene d;
+    all_but_template = repeat_outcome again scene d;
+    chosen_branch = if_outcome again scene d;
+    condition = condition_outcome again scene d;
+    conditions = condition_parts_outcome again scene d;
   })
   sole again scene (member k d (member l e ms)) = None
 
   -- each part as a value
-  pub parts_value : Evaluating → SceneData → Data → ℕ → Outcome Data
-  parts_value again scene null spent = Gives null spent
-  parts_value again scene (flag b) spent = Gives (flag b) spent
-  parts_value again scene (whole z) spent = Gives (whole z) spent
-  parts_value again scene (words s) spent = Gives (words s) spent
-  parts_value again scene (items ns) spent = made_into items (values again scene 0 ns spent)
-  parts_value again scene (fields ms) spent = made_into fields (members again scene ms spent)
+  pub parts_outcome : Evaluating → SceneData → Data → ℕ → Outcome Data
+  parts_outcome again scene null spent = Gives null spent
+  parts_outcome again scene (flag b) spent = Gives (flag b) spent
+  parts_outcome again scene (whole z) spent = Gives (whole z) spent
+  parts_outcome again scene (words s) spent = Gives (words s) spent
+  parts_outcome again scene (items ns) spent = made_into items (values_outcome again scene 0 ns spent)
+  parts_outcome again scene (fields ms) spent = made_into fields (members_outcome again scene ms spent)
 
   -- of a repeat
-  pub repeat_parts : Evaluating → SceneData → Data → ℕ → Outcome Data
-  repeat_parts again scene null spent = Gives null spent
-  repeat_parts again scene (flag b) spent = Gives (flag b) spent
-  repeat_parts again scene (whole z) spent = Gives (whole z) spent
-  repeat_parts again scene (words s) spent = Gives (words s) spent
-  repeat_parts again scene (items ns) spent = Gives (items ns) spent
-  repeat_parts again scene (fields ms) spent = made_into fields (all_but again scene (codes "template") ms spent)
+  pub repeat_outcome : Evaluating → SceneData → Data → ℕ → Outcome Data
+  repeat_outcome again scene null spent = Gives null spent
+  repeat_outcome again scene (flag b) spent = Gives (flag b) spent
+  repeat_outcome again scene (whole z) spent = Gives (whole z) spent
+  repeat_outcome again scene (words s) spent = Gives (words s) spent
+  repeat_outcome again scene (items ns) spent = Gives (items ns) spent
+  repeat_outcome again scene (fields ms) spent =
+      made_into fields (all_but_outcome again scene (codes "template") ms spent)
 
   -- the parts of an object but the one under this key
-  pub all_but : Evaluating → SceneData → List ℕ → Members → ℕ → Outcome Members
-  all_but again scene but no_members spent = Gives no_members spent
-  all_but again scene but (member k d ms) spent =
-      and_then (if bytes_eq k but then Gives d spent else under (Key k) (value again scene d spent)) (λ v sum.
-      made_into (member k v) (all_but again scene but ms sum))
+  pub all_but_outcome : Evaluating → SceneData → List ℕ → Members → ℕ → Outcome Members
+  all_but_outcome again scene but no_members spent = Gives no_members spent
+  all_but_outcome again scene but (member k d ms) spent =
+      and_then (if bytes_eq k but then Gives d spent else under (Key k) (value_outcome again scene d spent)) (λ v sum.
+      made_into (member k v) (all_but_outcome again scene but ms sum))
 
   -- of an `if`
-  pub if_parts : Evaluating → SceneData → Data → ℕ → Outcome Data
-  if_parts again scene null spent = Gives null spent
-  if_parts again scene (flag b) spent = Gives (flag b) spent
-  if_parts again scene (whole z) spent = Gives (whole z) spent
-  if_parts again scene (words s) spent = Gives (words s) spent
-  if_parts again scene (items ns) spent = made_into items (chosen again scene ns spent)
-  if_parts again scene (fields ms) spent = Gives (fields ms) spent
+  pub if_outcome : Evaluating → SceneData → Data → ℕ → Outcome Data
+  if_outcome again scene null spent = Gives null spent
+  if_outcome again scene (flag b) spent = Gives (flag b) spent
+  if_outcome again scene (whole z) spent = Gives (whole z) spent
+  if_outcome again scene (words s) spent = Gives (words s) spent
+  if_outcome again scene (items ns) spent = made_into items (chosen_outcome again scene ns spent)
+  if_outcome again scene (fields ms) spent = Gives (fields ms) spent
 
   -- the condition's value, and behind it that of the branch which it chooses
-  pub chosen : Evaluating → SceneData → Nodes → ℕ → Outcome Nodes
-  chosen again scene no_nodes spent = Gives no_nodes spent
-  chosen again scene (node c ns) spent =
-      and_then (under (Index 0) (condition_value again scene c spent)) (λ v sum.
-      made_into (node v) (branch_value again scene (flag_in v) ns sum))
+  pub chosen_outcome : Evaluating → SceneData → Nodes → ℕ → Outcome Nodes
+  chosen_outcome again scene no_nodes spent = Gives no_nodes spent
+  chosen_outcome again scene (node c ns) spent =
+      and_then (under (Index 0) (condition_outcome again scene c spent)) (λ v sum.
+      made_into (node v) (branch_outcome again scene (flag_in v) ns sum))
 
   -- the first branch where the condition is true, the second or null where it is false, none where it has no value
-  pub branch_value : Evaluating → SceneData → Option Bool → Nodes → ℕ → Outcome Nodes
-  branch_value again scene None ns spent = Gives no_nodes spent
-  branch_value again scene (Some true) no_nodes spent = Gives no_nodes spent
-  branch_value again scene (Some true) (node d ns) spent =
-      made_into alone (under (Index 1) (value again scene d spent))
-  branch_value again scene (Some false) no_nodes spent = Gives (alone null) spent
-  branch_value again scene (Some false) (node d no_nodes) spent = Gives (alone null) spent
-  branch_value again scene (Some false) (node d (node e ns)) spent =
-      made_into alone (under (Index 2) (value again scene e spent))
+  pub branch_outcome : Evaluating → SceneData → Option Bool → Nodes → ℕ → Outcome Nodes
+  branch_outcome again scene None ns spent = Gives no_nodes spent
+  branch_outcome again scene (Some true) no_nodes spent = Gives no_nodes spent
+  branch_outcome again scene (Some true) (node d ns) spent =
+      made_into alone (under (Index 1) (value_outcome again scene d spent))
+  branch_outcome again scene (Some false) no_nodes spent = Gives (alone null) spent
+  branch_outcome again scene (Some false) (node d no_nodes) spent = Gives (alone null) spent
+  branch_outcome again scene (Some false) (node d (node e ns)) spent =
+      made_into alone (under (Index 2) (value_outcome again scene e spent))
 
   -- a flag is itself, a text the condition of that name, an object with one key the function that the key names
-  pub condition_value : Evaluating → SceneData → Data → ℕ → Outcome Data
-  condition_value again scene null spent = Gives null spent
-  condition_value again scene (flag b) spent = Gives (flag b) spent
-  condition_value again scene (whole z) spent = Gives (whole z) spent
-  condition_value again scene (words s) spent = Gives (named_condition scene s) spent
-  condition_value again scene (items ns) spent = Gives (items ns) spent
-  condition_value again scene (fields ms) spent =
+  pub condition_outcome : Evaluating → SceneData → Data → ℕ → Outcome Data
+  condition_outcome again scene null spent = Gives null spent
+  condition_outcome again scene (flag b) spent = Gives (flag b) spent
+  condition_outcome again scene (whole z) spent = Gives (whole z) spent
+  condition_outcome again scene (words s) spent = Gives (named_condition scene s) spent
+  condition_outcome again scene (items ns) spent = Gives (items ns) spent
+  condition_outcome again scene (fields ms) spent =
       object_condition again scene (sole again scene ms) (Gives (fields ms) spent) spent
 
   -- of `and` and `or`
-  pub condition_parts : Evaluating → SceneData → Data → ℕ → Outcome Data
-  condition_parts again scene null spent = Gives null spent
-  condition_parts again scene (flag b) spent = Gives (flag b) spent
-  condition_parts again scene (whole z) spent = Gives (whole z) spent
-  condition_parts again scene (words s) spent = Gives (words s) spent
-  condition_parts again scene (items ns) spent = made_into items (condition_values again scene 0 ns spent)
-  condition_parts again scene (fields ms) spent = Gives (fields ms) spent
+  pub condition_parts_outcome : Evaluating → SceneData → Data → ℕ → Outcome Data
+  condition_parts_outcome again scene null spent = Gives null spent
+  condition_parts_outcome again scene (flag b) spent = Gives (flag b) spent
+  condition_parts_outcome again scene (whole z) spent = Gives (whole z) spent
+  condition_parts_outcome again scene (words s) spent = Gives (words s) spent
+  condition_parts_outcome again scene (items ns) spent = made_into items (conditions_outcome again scene 0 ns spent)
+  condition_parts_outcome again scene (fields ms) spent = Gives (fields ms) spent
 
   -- each part, from the place i on; what is true or false already ends nothing
-  pub condition_values : Evaluating → SceneData → ℕ → Nodes → ℕ → Outcome Nodes
-  condition_values again scene i no_nodes spent = Gives no_nodes spent
-  condition_values again scene i (node d ns) spent =
-      and_then (under (Index i) (condition_value again scene d spent)) (λ v sum.
-      made_into (node v) (condition_values again scene (i + 1) ns sum))
+  pub conditions_outcome : Evaluating → SceneData → ℕ → Nodes → ℕ → Outcome Nodes
+  conditions_outcome again scene i no_nodes spent = Gives no_nodes spent
+  conditions_outcome again scene i (node d ns) spent =
+      and_then (under (Index i) (condition_outcome again scene d spent)) (λ v sum.
+      made_into (node v) (conditions_outcome again scene (i + 1) ns sum))
+
+-- a part of an object, as written where its key is this one
+abbrev pub outcome_unless : Evaluating → SceneData → List ℕ → List ℕ → Data → ℕ → Outcome Data
+outcome_unless again scene but k d spent =
+    if bytes_eq k but then Gives d spent else under (Key k) (value_outcome again scene d spent)
+
+-- a member that stands alone
+abbrev pub sole_of : Evaluating → SceneData → List ℕ → Data → Sole
+sole_of again scene k d = record {
+  key = k;
+  given = d;
+  each = parts_outcome again scene d;
+  all_but_template = repeat_outcome again scene d;
+  chosen_branch = if_outcome again scene d;
+  condition = condition_outcome again scene d;
+  conditions = condition_parts_outcome again scene d;
+}
 
 -- ---- the whole
 
 -- evaluation where at most so many repeats stand in one another
-abbrev pub evaluated_within : ℕ → SceneData → Data → ℕ → Outcome Data
-evaluated_within zero scene d spent = Faults F07 []
-evaluated_within (suc depth) scene d spent = value (evaluated_within depth scene) scene d spent
+abbrev pub evaluation_within : ℕ → SceneData → Data → ℕ → Outcome Data
+evaluation_within zero scene d spent = Faults F07 []
+evaluation_within (suc depth) scene d spent = value_outcome (evaluation_within depth scene) scene d spent
 
 -- evaluation: each repeat costs more than nothing, so that the limit of costs comes before any number of them ends it
-unfoldable pub evaluated : SceneData → Evaluating
-evaluated scene = evaluated_within cost_limit scene
+unfoldable pub evaluation : SceneData → Evaluating
+evaluation scene = evaluation_within cost_limit scene

@@ -4,14 +4,14 @@ use Rattle.std.specs.Prelude.{option_map, option_and_then}
 use Rattle.std.specs.Prelude.{[], ◌∷◌}
 use Rattle.std.specs.List.{list_all, list_any}
 use Rattle.heat_value.specs.Data.{Data, flag, Nodes, no_nodes, node}
-use Rattle.hot_eval.specs.Sorts.{wanted, flag_in, parts, two_of}
+use Rattle.hot_eval.specs.Sorts.{wanted, flag_in, listed, two_of}
 use Rattle.hot_eval.specs.declared.code.FaultCode.{FaultCode}
 
 -- ---- if
 
 -- the value of the branch that was chosen; F01 where the condition has no value, so that none was
 abbrev pub branch : Data → Result Data FaultCode
-branch a = wanted (two_of (parts a)) (λ p. Ok p.1)
+branch a = wanted (two_of (listed a)) (λ p. Ok p.1)
 
 -- ---- not, and, or
 
@@ -24,10 +24,10 @@ abbrev pub negated : Data → Result Data FaultCode
 negated a = wanted (flag_in a) (λ b. Ok (flag (not b)))
 
 abbrev pub conjoined : Data → Result Data FaultCode
-conjoined a = wanted (flags_in (parts a)) (λ bs. Ok (flag (list_all (λ b. b) bs)))
+conjoined a = wanted (flags_in (listed a)) (λ bs. Ok (flag (list_all (λ b. b) bs)))
 
 abbrev pub disjoined : Data → Result Data FaultCode
-disjoined a = wanted (flags_in (parts a)) (λ bs. Ok (flag (list_any (λ b. b) bs)))
+disjoined a = wanted (flags_in (listed a)) (λ bs. Ok (flag (list_any (λ b. b) bs)))
 
 -- ---- get_param as a condition
 

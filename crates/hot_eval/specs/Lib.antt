@@ -1,4 +1,5 @@
 pub mod Codes
+pub mod Faults
 pub mod Outcomes
 pub mod Scenes
 pub mod Sameness
@@ -10,9 +11,12 @@ pub mod Lists
 pub mod Maps
 pub mod Choices
 pub mod Fillings
+pub mod Repeats
+pub mod Rooms
 pub mod Functions
 pub mod Manners
 pub mod Evaluation
+pub mod Answers
 pub mod Resolutions
 pub mod Conditions
 pub mod Needs

@@ -4,7 +4,7 @@ use Rattle.std.specs.Prelude.{if◌then◌else◌}
 use Rattle.heat_value.specs.Data.{Data, null, flag, whole, words, items, fields, Nodes, no_nodes, node}
 use Rattle.hot_strings.specs.Answers.{is_part}
 use Rattle.hot_eval.specs.Sameness.{is_same, has}
-use Rattle.hot_eval.specs.Sorts.{wanted, text_in, list_in, list_or_null, parts, two_of}
+use Rattle.hot_eval.specs.Sorts.{wanted, text_in, list_in, list_or_null, listed, two_of}
 use Rattle.hot_eval.specs.declared.code.FaultCode.{FaultCode}
 use Rattle.hot_eval.specs.declared.code.FaultCode.TheVariants.{F01}
 
@@ -20,7 +20,7 @@ concatenated no_nodes = Some no_nodes
 concatenated (node d ns) = option_and_then (λ l. option_map (both_lists l) (concatenated ns)) (list_or_null d)
 
 abbrev pub list_concat : Data → Result Data FaultCode
-list_concat a = wanted (concatenated (parts a)) (λ ns. Ok (items ns))
+list_concat a = wanted (concatenated (listed a)) (λ ns. Ok (items ns))
 
 -- each value at its first place only, where these came before
 abbrev pub new_ones : Nodes → Nodes → Nodes
@@ -28,7 +28,7 @@ new_ones seen no_nodes = no_nodes
 new_ones seen (node d ns) = if has d seen then new_ones seen ns else node d (new_ones (node d seen) ns)
 
 abbrev pub list_concat_unique : Data → Result Data FaultCode
-list_concat_unique a = wanted (concatenated (parts a)) (λ ns. Ok (items (new_ones no_nodes ns)))
+list_concat_unique a = wanted (concatenated (listed a)) (λ ns. Ok (items (new_ones no_nodes ns)))
 
 -- ---- filter
 
@@ -41,7 +41,7 @@ abbrev pub filter_with : Data × Data → Result Data FaultCode
 filter_with (out, from) = wanted (list_in out) (λ ns. wanted (list_in from) (λ ps. Ok (items (without ns ps))))
 
 abbrev pub filter : Data → Result Data FaultCode
-filter a = wanted (two_of (parts a)) filter_with
+filter a = wanted (two_of (listed a)) filter_with
 
 -- ---- contains
 
@@ -59,9 +59,9 @@ contains_in d (items ns) = Ok (flag (has d ns))
 contains_in d (fields ms) = Err F01
 
 abbrev pub contains : Data → Result Data FaultCode
-contains a = wanted (two_of (parts a)) (λ p. contains_in p.0 p.1)
+contains a = wanted (two_of (listed a)) (λ p. contains_in p.0 p.1)
 
 -- ---- equals
 
 abbrev pub equals : Data → Result Data FaultCode
-equals a = wanted (two_of (parts a)) (λ p. Ok (flag (is_same p.0 p.1)))
+equals a = wanted (two_of (listed a)) (λ p. Ok (flag (is_same p.0 p.1)))

@@ -9,7 +9,7 @@ use Rattle.heat_plan.specs.declared.facts.KnownFacts.{KnownFacts}
 use Rattle.heat_plan.specs.declared.plan.Condition.{Condition}
 use Rattle.heat_plan.specs.declared.plan.File.{File}
 use Rattle.hot_eval.specs.Scenes.{SceneData}
-use Rattle.hot_eval.specs.Sorts.{wanted, text_in, first_and_rest, parts}
+use Rattle.hot_eval.specs.Sorts.{wanted, text_in, first_and_rest, listed, parts}
 use Rattle.hot_eval.specs.declared.code.FaultCode.{FaultCode}
 
 -- ---- paths
@@ -20,18 +20,21 @@ node_at no_nodes i = None
 node_at (node d ns) zero = Some d
 node_at (node d ns) (suc i) = node_at ns i
 
-abbrev pub node_at_whole : Nodes → ℤ → Option Data
-node_at_whole ns (pos i) = node_at ns i
-node_at_whole ns (negsuc i) = None
+abbrev pub place_at : ℤ → Option ℕ
+place_at (pos i) = Some i
+place_at (negsuc i) = None
 
--- a list is walked by a whole number from 0
+-- the place that a step names: a whole number from 0
+abbrev pub place_in : Data → Option ℕ
+place_in null = None
+place_in (flag b) = None
+place_in (whole z) = place_at z
+place_in (words s) = None
+place_in (items ps) = None
+place_in (fields ms) = None
+
 abbrev pub step_into_list : Nodes → Data → Option Data
-step_into_list ns null = None
-step_into_list ns (flag b) = None
-step_into_list ns (whole z) = node_at_whole ns z
-step_into_list ns (words s) = None
-step_into_list ns (items ps) = None
-step_into_list ns (fields ms) = None
+step_into_list ns s = option_and_then (node_at ns) (place_in s)
 
 -- an object is walked by the text of a key, a list by a whole number; any other step is missing
 abbrev pub step_into : Data → Data → Option Data
@@ -84,7 +87,7 @@ attribute_of scene (name, rest) =
     wanted (text_in name) (λ s. Ok (unwrap_or (option_and_then (attributes_at rest) (facts_of scene s)) null))
 
 abbrev pub attribute : SceneData → Data → Result Data FaultCode
-attribute scene a = wanted (first_and_rest (parts a)) (attribute_of scene)
+attribute scene a = wanted (first_and_rest (listed a)) (attribute_of scene)
 
 -- ---- get_file
 

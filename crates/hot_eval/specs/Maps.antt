@@ -6,7 +6,7 @@ use Rattle.heat_value.specs.Data.{Data, null, flag, whole, words, items, fields,
 use Rattle.heat_value.specs.Data.{Members, no_members, member, lookup, put}
 use Rattle.hot_forms.specs.Shapes.{is_text}
 use Rattle.hot_functions.specs.Forms.{are_among, stands}
-use Rattle.hot_eval.specs.Sorts.{wanted, text_in, object_in, object_or_null, parts, two_of}
+use Rattle.hot_eval.specs.Sorts.{wanted, text_in, object_in, object_or_null, listed, two_of}
 use Rattle.hot_eval.specs.declared.code.FaultCode.{FaultCode}
 use Rattle.hot_eval.specs.declared.code.FaultCode.TheVariants.{F05}
 
@@ -23,7 +23,7 @@ merged_onto base no_nodes = Some base
 merged_onto base (node d ns) = option_and_then (λ ms. merged_onto (put_all ms base) ns) (object_or_null d)
 
 abbrev pub map_merge : Data → Result Data FaultCode
-map_merge a = wanted (merged_onto no_members (parts a)) (λ ms. Ok (fields ms))
+map_merge a = wanted (merged_onto no_members (listed a)) (λ ms. Ok (fields ms))
 
 -- ---- entries whose keys may have become one
 
@@ -46,22 +46,20 @@ hold_texts (member k d ms) = is_text d && hold_texts ms
 abbrev pub object_under : List ℕ → Members → Option Members
 object_under k ms = object_in (unwrap_or (lookup k ms) (fields no_members))
 
--- the new names of keys, each a text
-abbrev pub names_in : Members → Option Members
-names_in ms =
-    option_and_then (λ ns. if hold_texts ns then Some ns else None) (object_under (codes "keys") ms)
-
 -- `keys`, `values` or both, and nothing else
 abbrev pub is_renaming : Members → Bool
 is_renaming ms =
     are_among (codes "keys" ∷ codes "values" ∷ []) ms && (stands (codes "keys") ms || stands (codes "values") ms)
 
--- what a map is renamed by: names of keys, and values
+-- names of keys, each a text, and values
+abbrev pub named_by : Option Members → Option Members → Option (Members × Members)
+named_by names values =
+    option_and_then (λ ns. if hold_texts ns then option_map (λ vs. (ns, vs)) values else None) names
+
+-- what a map is renamed by
 abbrev pub renaming_in : Members → Option (Members × Members)
 renaming_in ms =
-    if is_renaming ms
-    then option_and_then (λ ns. option_map (λ vs. (ns, vs)) (object_under (codes "values") ms)) (names_in ms)
-    else None
+    if is_renaming ms then named_by (object_under (codes "keys") ms) (object_under (codes "values") ms) else None
 
 -- a key that is among the names is renamed
 abbrev pub name_for : Members → List ℕ → List ℕ
@@ -91,4 +89,4 @@ rename_in (map, by) =
     unless_same (map_of (renamed r ms))))
 
 abbrev pub map_replace : Data → Result Data FaultCode
-map_replace a = wanted (two_of (parts a)) rename_in
+map_replace a = wanted (two_of (listed a)) rename_in

@@ -1,8 +1,9 @@
 -- The functions by their keys, and the form that each one's argument has to have.
 use Rattle.std.specs.Prelude.{ℕ, List, Bool, false, not, ◌&&◌, Option, Some, None, bytes_eq, codes, if◌then◌else◌}
-use Rattle.heat_value.specs.Data.{Data}
+use Rattle.std.specs.Prelude.{option_map, option_and_then}
+use Rattle.heat_value.specs.Data.{Data, Members}
 use Rattle.hot_forms.specs.Shapes.{members_in}
-use Rattle.hot_functions.specs.Forms.{form_of, condition_form_of, has_form, stands}
+use Rattle.hot_functions.specs.Forms.{form_of, condition_form_of, has_form, stands, lone}
 use Rattle.hot_functions.specs.declared.form.Form.{Form}
 use Rattle.hot_eval.specs.declared.function.Function.{Function}
 use Rattle.hot_eval.specs.declared.function.Function.TheVariants as function
@@ -49,3 +50,7 @@ is_formed k d = has_form_of (form_of k) d && not (stands (codes "permutations") 
 -- the argument of a function of conditions has its form
 abbrev pub is_condition_formed : List ℕ → Data → Bool
 is_condition_formed k d = has_form_of (condition_form_of k) d
+
+-- the only member of an object, its key and its value, and the function that its key names; none where that is no call
+abbrev pub named_in : (List ℕ → Option Function) → Members → Option (List ℕ × Data × Function)
+named_in named ms = option_and_then (λ m. option_map (λ f. (m.0, m.1, f)) (named m.0)) (lone ms)

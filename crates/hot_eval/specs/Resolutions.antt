@@ -6,14 +6,14 @@ use Rattle.heat_value.specs.declared.path.Step.TheVariants.{Key}
 use Rattle.heat_plan.specs.Plans.{PlanData}
 use Rattle.heat_plan.specs.declared.facts.KnownFacts.{KnownFacts}
 use Rattle.heat_plan.specs.declared.item.Item.{Item}
-use Rattle.hot_eval.specs.Evaluation.{evaluated, value, members}
+use Rattle.hot_eval.specs.Evaluation.{evaluation, value_outcome, members_outcome}
 use Rattle.hot_eval.specs.Outcomes.{Outcome, Gives, Faults, seen_from, is_result}
 use Rattle.hot_eval.specs.Scenes.{SceneData, scene_of}
 use Rattle.hot_eval.specs.declared.code.FaultCode.TheVariants.{F06}
 
 -- a value, from no cost on
 unfoldable pub eval : SceneData → Data → Outcome Data
-eval scene d = value (evaluated scene) scene d 0
+eval scene d = value_outcome (evaluation scene) scene d 0
 
 -- where an item's properties stand in its template
 abbrev pub properties_path : List ℕ → List Step
@@ -21,7 +21,7 @@ properties_path name = Key (codes "resources") ∷ Key name ∷ Key (codes "prop
 
 -- each property in byte order, from no cost on
 abbrev pub properties : SceneData → Members → Outcome Members
-properties scene ms = members (evaluated scene) scene ms 0
+properties scene ms = members_outcome (evaluation scene) scene ms 0
 
 -- F06 where the whole map is too large
 abbrev pub unless_large : Outcome Members → Outcome Members

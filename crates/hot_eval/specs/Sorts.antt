@@ -78,6 +78,15 @@ abbrev pub first_and_rest : Nodes → Option (Data × Nodes)
 first_and_rest no_nodes = None
 first_and_rest (node d ns) = Some (d, ns)
 
+-- the parts of a list; anything else has none
+abbrev pub listed : Data → Nodes
+listed null = no_nodes
+listed (flag b) = no_nodes
+listed (whole z) = no_nodes
+listed (words s) = no_nodes
+listed (items ns) = ns
+listed (fields ms) = no_nodes
+
 -- the parts of a list; a text counts as a list of itself
 abbrev pub parts : Data → Nodes
 parts null = no_nodes

@@ -10,7 +10,7 @@ use Rattle.hot_strings.specs.Joined.{joined}
 use Rattle.hot_strings.specs.Pieces.{Params}
 use Rattle.hot_strings.specs.Split.{Asked, all, one, unfit, asked_by, texts}
 use Rattle.hot_eval.specs.Lists.{concatenated}
-use Rattle.hot_eval.specs.Sorts.{wanted, text_in, text_taken, object_in, parts, first_and_rest, two_of}
+use Rattle.hot_eval.specs.Sorts.{wanted, text_in, text_taken, object_in, listed, first_and_rest, two_of}
 use Rattle.hot_eval.specs.declared.code.FaultCode.{FaultCode}
 use Rattle.hot_eval.specs.declared.code.FaultCode.TheVariants.{F02, F03, F04}
 
@@ -30,7 +30,7 @@ join_with (delimiter, lists) =
     wanted (text_taken delimiter) (λ d. wanted (concatenated lists) (λ ns. Ok (words (joined d (texts_of ns)))))
 
 abbrev pub list_join : Data → Result Data FaultCode
-list_join a = wanted (first_and_rest (parts a)) join_with
+list_join a = wanted (first_and_rest (listed a)) join_with
 
 -- ---- str_split
 
@@ -57,7 +57,7 @@ abbrev pub split_with : Data × Nodes → Result Data FaultCode
 split_with (delimiter, rest) = wanted (text_taken delimiter) (λ d. wanted (first_and_rest rest) (split_text d))
 
 abbrev pub str_split : Data → Result Data FaultCode
-str_split a = wanted (first_and_rest (parts a)) split_with
+str_split a = wanted (first_and_rest (listed a)) split_with
 
 -- ---- str_replace and str_replace_strict
 
@@ -95,4 +95,4 @@ digest_with (name, text) =
 
 -- F01 too where no digest has the name
 abbrev pub digest : Data → Result Data FaultCode
-digest a = wanted (two_of (parts a)) digest_with
+digest a = wanted (two_of (listed a)) digest_with

@@ -1,12 +1,38 @@
 //! What values with functions come to: the value, or the first fault with its place, and the properties
-//! of a plan's items. Each evaluation counts what it costs and ends where that is too much. Here stand the
-//! definitions; there is no code yet.
+//! of a plan's items. Each evaluation counts what it costs and ends where that is too much.
 #![tactic(auto)]
 
+mod answering;
+mod branches;
+mod choices;
 mod code;
+mod depth;
+mod evaluation;
+mod fault;
+mod fillings;
 mod function;
+mod functions;
+mod lists;
+mod lookups;
 mod manner;
+mod maps;
+mod names;
+mod needs;
+mod placing;
+mod replacing;
+mod resolving;
+mod scene;
+mod setting;
+mod sorts;
+mod sum;
+#[cfg(test)]
+mod tests;
+mod texts;
 
 pub use code::FaultCode;
+pub use fault::{EvalFault, FunctionFault};
 pub use function::Function;
 pub use manner::Manner;
+pub use needs::{needs_of, needs_of_props};
+pub use resolving::{eval, resolve};
+pub use scene::Scene;

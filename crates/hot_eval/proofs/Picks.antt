@@ -1,0 +1,207 @@
+-- Keys with their lists, and choices made key by key.
+use Rattle.std.proofs.Common.{◌≡◌, ◌≢◌, ◌∙◌, ◌<◌, ◌≤◌, ◌+◌, ◌||◌, ℕ, suc, List, [], ◌∷◌, ◌++◌, Bool, true, false}
+use Rattle.std.proofs.Common.{Option, Some, None, option_map, option_and_then, length, get_or, drop, refl, ap, sym}
+use Rattle.std.proofs.Common.{subst, arith, append_assoc}
+use Rattle.std.proofs.lemmas.List.{map-append, append-nil, length-append, length-map, drop_all, drop_more}
+use Rattle.std.proofs.lemmas.List.Elements.{All-nil, All-cons}
+use Rattle.std.proofs.lemmas.Map.Text.{is_eq-slice_cmp}
+use Rattle.std.proofs.lemmas.Slice.Eq.{bytes_eq-Decides}
+use Rattle.std.specs.Cmp.Lexicographic.{slice_cmp}
+use Rattle.std.specs.List.{All, list_any, AllByRecursion}
+use Rattle.std.specs.List.Sorted.{IsStrictlySortedBy}
+use Rattle.std.specs.Ordering.{nat_cmp, is_eq}
+use Rattle.std.specs.Prelude.{unwrap_or, if◌then◌else◌}
+use Rattle.std.specs.Str.{bytes_eq}
+use Rattle.std.specs.declared.cmp.Ordering.TheVariants.{Less}
+use denote.Ref.{Bor}
+use Rattle.heat_value.specs.Coercion.{coerced}
+use Rattle.heat_value.specs.Data.{Data, null, Nodes, Members, no_members, member, keys_of, Rises}
+use Rattle.heat_value.specs.Meaning.{data_of}
+use Rattle.heat_value.specs.declared.value.Value.{Value}
+use Rattle.hot_strings.specs.Pieces.{Params, AreDistinct, HasNoEmptyKey}
+use Rattle.hot_eval.specs.Choices.{Lists, lists_in}
+use Rattle.hot_eval.specs.Fillings.{texts_for, item_of}
+use Rattle.hot_eval.specs.Lookups.{node_at}
+use Rattle.hot_eval.specs.Repeats.{AreKeys, choice_at, with_items}
+use Rattle.hot_eval.specs.Sorts.{list_in}
+use Rattle.hot_eval.specs.Texts.{is_empty}
+use Rattle.hot_eval.proofs.Places.{rest_at}
+use Rattle.hot_eval.proofs.Replacements.{is_empty-none}
+
+-- ---- the lists of an object
+
+onto-key : (done : Lists) (l : List ℕ × Nodes) (o : Option Lists)
+    → option_map (λ ls. (done ++ l ∷ []) ++ ls) o ≡ option_map (λ ls. done ++ ls) (option_map (λ ls. l ∷ ls) o)
+onto-key done l None = refl
+onto-key done l (Some ls) = ap Some (append_assoc done (l ∷ []) ls)
+
+pub next_key : (done pushed : Lists) (rest next : Members) (k : List ℕ) (d : Data) (ns : Nodes) (whole : Option Lists)
+    → rest ≡ member k d next → Some ns ≡ list_in d → pushed ≡ done ++ (k, ns) ∷ []
+    → option_map (λ ls. done ++ ls) (lists_in rest) ≡ whole → option_map (λ ls. pushed ++ ls) (lists_in next) ≡ whole
+next_key done pushed rest next k d ns whole at is push all =
+    ap (λ x. option_map (λ ls. x ++ ls) (lists_in next)) push
+    ∙ (onto-key done (k, ns) (lists_in next)
+    ∙ (ap (λ o. option_map (λ ls. done ++ ls) (option_and_then (λ ns. option_map (λ ls. (k, ns) ∷ ls) (lists_in next)) o)) is
+    ∙ (ap (λ x. option_map (λ ls. done ++ ls) (lists_in x)) (sym at) ∙ all)))
+
+pub no_key : (done : Lists) (rest next : Members) (k : List ℕ) (d : Data) (whole : Option Lists)
+    → rest ≡ member k d next → None ≡ list_in d
+    → option_map (λ ls. done ++ ls) (lists_in rest) ≡ whole → None ≡ whole
+no_key done rest next k d whole at is all =
+    ap (λ o. option_map (λ ls. done ++ ls) (option_and_then (λ ns. option_map (λ ls. (k, ns) ∷ ls) (lists_in next)) o)) is
+    ∙ (ap (λ x. option_map (λ ls. done ++ ls) (lists_in x)) (sym at) ∙ all)
+
+pub all_keys : (done : Lists) (rest : Members) (whole : Option Lists) → rest ≡ no_members
+    → option_map (λ ls. done ++ ls) (lists_in rest) ≡ whole → Some done ≡ whole
+all_keys done rest whole end all =
+    ap Some (sym (append-nil done)) ∙ (ap (λ x. option_map (λ ls. done ++ ls) (lists_in x)) (sym end) ∙ all)
+
+-- the parts of a list of an object
+cases_in : (k : List ℕ) (ms : Members) (ls : Lists) (o : Option Nodes)
+    → option_and_then (λ ns. option_map (λ ls. (k, ns) ∷ ls) (lists_in ms)) o ≡ Some ls
+    → (ns : Nodes) × (more : Lists) × (lists_in ms ≡ Some more) × (ls ≡ (k, ns) ∷ more)
+cases_in k ms ls None e = cc
+cases_in k ms ls (Some ns) e = go (lists_in ms) refl e
+  where
+    go : (o : Option Lists) → lists_in ms ≡ o → option_map (λ ls. (k, ns) ∷ ls) o ≡ Some ls
+        → (ns : Nodes) × (more : Lists) × (lists_in ms ≡ Some more) × (ls ≡ (k, ns) ∷ more)
+    go None is f = cc
+    go (Some more) is f = (ns, more, is, let same : ls ≡ (k, ns) ∷ more = cc in same)
+
+apart : (k : List ℕ) (ms : Members) (ls : Lists) → AllByRecursion (λ y. slice_cmp nat_cmp k y ≡ Less) (keys_of ms)
+    → lists_in ms ≡ Some ls → All (λ m. m.0 ≢ k) ls
+apart k no_members ls h e =
+    let none : [] ≡ ls = cc in subst (λ (x : Lists). All (λ m. m.0 ≢ k) x) none (All-nil (λ m. m.0 ≢ k))
+apart k (member l d ms) ls h e =
+    let c = cases_in l ms ls (list_in d) e in
+    subst (λ (x : Lists). All (λ m. m.0 ≢ k) x) (sym c.3) (All-cons (λ m. m.0 ≢ k) (l, c.0) c.1
+    (λ e. (
+    let same : bytes_eq k l ≡ true = (bytes_eq-Decides k l).1 (sym e) in
+    let other : false ≡ bytes_eq k l = ap is_eq (sym h.0) ∙ is_eq-slice_cmp k l in
+    cc
+    ))
+    (apart k ms c.1 h.1 c.2))
+
+neither : (a b : Bool) → (a || b) ≡ false → (a ≡ false) × (b ≡ false)
+neither true b e = cc
+neither false b e = (refl, e)
+
+-- the keys of an object with lists, none of them empty
+pub are_keys : (ms : Members) (ls : Lists) → Rises ms → lists_in ms ≡ Some ls → list_any (λ l. is_empty l.0) ls ≡ false
+    → AreKeys ls
+unfolding IsStrictlySortedBy
+are_keys no_members ls h e some = let none : [] ≡ ls = cc in subst AreKeys none tt
+are_keys (member k d ms) ls h e some =
+    let c = cases_in k ms ls (list_in d) e in
+    let two = neither (is_empty k) (list_any (λ l. is_empty l.0) c.1)
+    (subst (λ (x : Lists). list_any (λ l. is_empty l.0) x ≡ false) c.3 some) in
+    subst AreKeys (sym c.3) (
+      λ e. (let none : is_empty k ≡ true = is_empty-none k e in let full : is_empty k ≡ false = two.0 in cc),
+      apart k ms c.1 h.0 c.2,
+      are_keys ms c.1 h.1 c.2 two.1,
+    )
+
+-- ---- a choice, key by key
+
+pub with_items-push : (ps : Params) (vs : List (Bor Value)) (p : List ℕ × List ℕ) (v : Bor Value)
+    → length ps ≡ length vs → with_items (ps ++ p ∷ []) (vs ++ v ∷ []) ≡ with_items ps vs ++ (p.0, data_of v.now) ∷ []
+with_items-push [] [] p v e = refl
+with_items-push [] (w ∷ vs) p v e = absurd (omega (arith, e))
+with_items-push (q ∷ ps) [] p v e = absurd (omega (arith, e))
+with_items-push (q ∷ ps) (w ∷ vs) p v e = ap (λ c. (q.0, data_of w.now) ∷ c) (with_items-push ps vs p v (omega (arith, e)))
+
+unwrapped : (o : Option Data) (d : Data) → Some d ≡ o → unwrap_or o null ≡ d
+unwrapped None d e = cc
+unwrapped (Some x) d e = let same : d ≡ x = cc in sym same
+
+-- the choice of the places left, with the item at the next
+pub choice_at-next : (ls : Lists) (ps : List ℕ) (n : ℕ) (l : List ℕ × Nodes) (p : ℕ) (d : Data) → n < length ls
+    → n < length ps → l ≡ get_or ls n l → p ≡ get_or ps n p → Some d ≡ node_at l.1 p
+    → choice_at (drop n ls) (drop n ps) ≡ (l.0, d) ∷ choice_at (drop (n + 1) ls) (drop (n + 1) ps)
+choice_at-next ls ps n l p d below within at here is =
+    rw (rest_at ls n l l below at, rest_at ps n p p within here)
+    (ap (λ x. (l.0, x) ∷ choice_at (drop (n + 1) ls) (drop (n + 1) ps)) (unwrapped (node_at l.1 p) d is))
+
+-- one key more of a choice that is made
+pub record IsMaking (ls : Lists) (places : List ℕ) (n : ℕ) (texts : Params) (vs : List (Bor Value)) : Type 0 where
+  pub lengths : length texts ≡ length vs
+  pub texts_are : texts ≡ texts_for (with_items texts vs)
+  pub whole : with_items texts vs ++ choice_at (drop n ls) (drop n places) ≡ choice_at ls places
+
+pub making_next : (ls : Lists) (ps : List ℕ) (n : ℕ) (l : List ℕ × Nodes) (p : ℕ) (texts : Params)
+    (vs : List (Bor Value)) (k t : List ℕ) (v : Bor Value) → n < length ls → n < length ps → l ≡ get_or ls n l
+    → p ≡ get_or ps n p → Some (data_of v.now) ≡ node_at l.1 p → k ≡ l.0 → t ≡ coerced (data_of v.now)
+    → IsMaking ls ps n texts vs → IsMaking ls ps (n + 1) (texts ++ (k, t) ∷ []) (vs ++ v ∷ [])
+making_next ls ps n l p texts vs k t v below within at here is key text h = record {
+  lengths = omega (arith, h.lengths, length-append texts ((k, t) ∷ []), length-append vs (v ∷ []));
+  texts_are = sym (ap texts_for pushed ∙ (map-append (λ q. (q.0, coerced q.1)) (with_items texts vs) ((k, data_of v.now) ∷ [])
+      ∙ (ap (λ x. x ++ (k, coerced (data_of v.now)) ∷ []) (sym h.texts_are) ∙ ap (λ x. texts ++ (k, x) ∷ []) (sym text))));
+  whole = ap (λ x. x ++ choice_at (drop (n + 1) ls) (drop (n + 1) ps)) pushed
+      ∙ (append_assoc (with_items texts vs) ((k, data_of v.now) ∷ []) (choice_at (drop (n + 1) ls) (drop (n + 1) ps))
+      ∙ (ap (λ x. with_items texts vs ++ (x, data_of v.now) ∷ choice_at (drop (n + 1) ls) (drop (n + 1) ps)) key
+      ∙ (ap (λ x. with_items texts vs ++ x) (sym (choice_at-next ls ps n l p (data_of v.now) below within at here is)) ∙ h.whole)));
+}
+  where
+    pushed : with_items (texts ++ (k, t) ∷ []) (vs ++ v ∷ []) ≡ with_items texts vs ++ (k, data_of v.now) ∷ []
+    pushed = with_items-push texts vs (k, t) v h.lengths
+
+-- ---- the keys of a choice
+
+apart_texts : (k : List ℕ) (ls : Lists) (ps : List ℕ) → All (λ m. m.0 ≢ k) ls
+    → All (λ q. q.0 ≢ k) (texts_for (choice_at ls ps))
+apart_texts k [] ps h = All-nil (λ q. q.0 ≢ k)
+apart_texts k (l ∷ ls) [] h = All-nil (λ q. q.0 ≢ k)
+apart_texts k (l ∷ ls) (p ∷ ps) h =
+    All-cons (λ q. q.0 ≢ k) (l.0, coerced (unwrap_or (node_at l.1 p) null)) (texts_for (choice_at ls ps))
+    (h 0 l (omega arith)) (apart_texts k ls ps (λ i d b. h (suc i) d (omega arith)))
+
+pub distinct_texts : (ls : Lists) (ps : List ℕ) → AreKeys ls → AreDistinct (texts_for (choice_at ls ps))
+distinct_texts [] ps h = tt
+distinct_texts (l ∷ ls) [] h = tt
+distinct_texts (l ∷ ls) (p ∷ ps) h = (apart_texts l.0 ls ps h.1, distinct_texts ls ps h.2)
+
+pub full_texts : (ls : Lists) (ps : List ℕ) → AreKeys ls → HasNoEmptyKey (texts_for (choice_at ls ps))
+full_texts [] ps h = All-nil (λ q. q.0 ≢ [])
+full_texts (l ∷ ls) [] h = All-nil (λ q. q.0 ≢ [])
+full_texts (l ∷ ls) (p ∷ ps) h =
+    All-cons (λ q. q.0 ≢ []) (l.0, coerced (unwrap_or (node_at l.1 p) null)) (texts_for (choice_at ls ps)) h.0
+    (full_texts ls ps h.2)
+
+-- the whole choice
+pub making_all : (ls : Lists) (ps : List ℕ) (n : ℕ) (texts : Params) (vs : List (Bor Value)) → length ls ≤ n
+    → IsMaking ls ps n texts vs → with_items texts vs ≡ choice_at ls ps
+making_all ls ps n texts vs above h =
+    sym (append-nil (with_items texts vs))
+    ∙ (ap (λ x. with_items texts vs ++ choice_at x (drop n ps)) (sym (drop_all n ls above)) ∙ h.whole)
+
+-- ---- the item of a key
+
+pub length-items : (ps : Params) (vs : List (Bor Value)) → ps ≡ texts_for (with_items ps vs) → length ps ≤ length vs
+length-items ps vs e =
+    omega (arith, ap length e, length-map {B = List ℕ × List ℕ} (with_items ps vs) (λ q. (q.0, coerced q.1)), shorter ps vs)
+  where
+    shorter : (ps : Params) (vs : List (Bor Value)) → length (with_items ps vs) ≤ length vs
+    shorter [] vs = omega arith
+    shorter (p ∷ ps) [] = omega arith
+    shorter (p ∷ ps) (v ∷ vs) = omega (arith, shorter ps vs)
+
+-- a list is not at its end before its length
+rest_there : (vs : List (Bor Value)) (n : ℕ) → n < length vs → (v : Bor Value) × (drop n vs ≡ v ∷ drop (n + 1) vs)
+rest_there [] n below = absurd (omega (arith, below))
+rest_there (w ∷ vs) n below = (get_or (w ∷ vs) n w, drop_more (w ∷ vs) n w below)
+
+pub item_next : (s : List ℕ) (ps : Params) (vs : List (Bor Value)) (n : ℕ) (p d : List ℕ × List ℕ)
+    (whole : Option Data) → n < length ps → length ps ≤ length vs → p ≡ get_or ps n d → bytes_eq p.0 s ≡ false
+    → whole ≡ item_of (with_items (drop n ps) (drop n vs)) s
+    → whole ≡ item_of (with_items (drop (n + 1) ps) (drop (n + 1) vs)) s
+item_next s ps vs n p d whole below within at other is =
+    let t = rest_there vs n (omega (arith, below, within)) in
+    is ∙ (rw (rest_at ps n p d below at, t.1)
+    (ap (λ b. if b then Some (data_of t.0.now) else item_of (with_items (drop (n + 1) ps) (drop (n + 1) vs)) s) other))
+
+pub item_here : (s : List ℕ) (ps : Params) (vs : List (Bor Value)) (n : ℕ) (p d : List ℕ × List ℕ) (v e : Bor Value)
+    (whole : Option Data) → n < length ps → length ps ≤ length vs → p ≡ get_or ps n d → v ≡ get_or vs n e
+    → bytes_eq p.0 s ≡ true → whole ≡ item_of (with_items (drop n ps) (drop n vs)) s → Some (data_of v.now) ≡ whole
+item_here s ps vs n p d v e whole below within at there here is =
+    sym (is ∙ (rw (rest_at ps n p d below at, rest_at vs n v e (omega (arith, below, within)) there)
+    (ap (λ b. if b then Some (data_of v.now) else item_of (with_items (drop (n + 1) ps) (drop (n + 1) vs)) s) here)))

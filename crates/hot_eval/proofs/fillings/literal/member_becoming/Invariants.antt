@@ -1,0 +1,11 @@
+use Rattle.std.proofs.Common.{◌≡◌, drop}
+use Rattle.heat_value.specs.Meaning.{members_of}
+use Rattle.hot_eval.specs.Fillings.{member_becoming}
+use Rattle.hot_eval.specs.Repeats.{choice_of}
+use Rattle.hot_eval.proofs.fillings.literal.member_becoming.Given as goal
+
+-- what is left decides
+abbrev pub invariant-loop-member : goal.invariant-loop-member
+invariant-loop-member l =
+    member_becoming (choice_of l.choice) l.key (members_of l.members)
+    ≡ member_becoming (choice_of l.choice) l.key (members_of (drop l.member-index l.members))

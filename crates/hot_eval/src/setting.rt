@@ -1,0 +1,55 @@
+//! What stays the same throughout an evaluation, but for the depth.
+ghost use Rattle.std.specs.Prelude.{◌≡◌, ◌<◌, ℕ, IfOk, IfErr};
+ghost use Rattle.heat_value.specs.Data.{Data};
+ghost use Rattle.hot_eval.specs.Answers.{again};
+ghost use Rattle.hot_eval.specs.Evaluation.{value_outcome};
+ghost use Rattle.hot_eval.specs.Scenes.{scene_data};
+ghost use Rattle.hot_eval.specs.declared.fault.EvalFault.TheVariants.{Memory};
+
+use crate::depth::Depth;
+use crate::{EvalFault, Scene};
+use std::alloc::Global;
+
+/// What is read beside the value itself, and how deep it stands.
+#[derive(Clone, Copy)]
+pub struct Setting<'a> {
+    pub alloc: Global,
+    pub scene: Scene<'a>,
+    pub depth: Depth,
+}
+
+impl<'a> Setting<'a> {
+    /// One level further.
+    pub fn inside(&self) -> Result<Setting<'a>, EvalFault>
+        ensures scene { IfOk result (λ s. scene_data s.scene ≡ scene_data self.now.scene) }
+        ensures again { IfOk result (λ s. again s ≡ again self.now) }
+        ensures less { IfOk result (λ s. s.depth.levels < self.now.depth.levels) }
+        ensures err { IfErr result (λ e. e ≡ Memory) }
+    {
+        match self.depth.inside() {
+            Some(depth) => Ok(Setting {
+                alloc: self.alloc,
+                scene: self.scene,
+                depth,
+            }),
+            None => Err(EvalFault::Memory),
+        }
+    }
+
+    /// At the root of a replaced template.
+    pub fn repeated(&self) -> Result<Setting<'a>, EvalFault>
+        ensures again { IfOk result (λ s. (d : Data) (n : ℕ)
+            → again self.now d n ≡ value_outcome (again s) (scene_data s.scene) d n) }
+        ensures less { IfOk result (λ s. s.depth.levels < self.now.depth.levels) }
+        ensures err { IfErr result (λ e. e ≡ Memory) }
+    {
+        match self.depth.repeated() {
+            Some(depth) => Ok(Setting {
+                alloc: self.alloc,
+                scene: self.scene,
+                depth,
+            }),
+            None => Err(EvalFault::Memory),
+        }
+    }
+}
