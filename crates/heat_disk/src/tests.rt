@@ -150,7 +150,7 @@ fn a_fuse_passes_so_many(rt: HostRuntime) -> Result<(), Fail> {
     Ok(())
 }
 
-// Takes away what an earlier run left at this path, and at the one with `.2` behind it.
+// Takes away what a run left at this path, and at the one with `.2` behind it.
 fn clears(rt: &HostRuntime, path: &str, second: &str) -> io::Result<()> {
     for name in [path, second] {
         if fs::exists(rt, name)? {
@@ -189,6 +189,7 @@ fn a_file_keeps_what_was_synced(rt: HostRuntime) -> Result<(), Fail> {
     assert_eq!(rt; again.len(Half::First), Ok(3));
     assert_eq!(rt; again.read_at(Half::First, 1, &mut buf), Ok(2));
     assert_eq!(rt; buf, [b'b', b'c', b'.', b'.']);
+    clears(&rt, "a_file_of_the_test", "a_file_of_the_test.2")?;
     Ok(())
 }
 
@@ -201,6 +202,7 @@ fn second_lies_behind_the_path(rt: HostRuntime) -> Result<(), Fail> {
         fs::read(&rt, "another_of_the_test.2")?.as_slice(),
         b"d".as_slice()
     );
+    clears(&rt, "another_of_the_test", "another_of_the_test.2")?;
     Ok(())
 }
 
@@ -235,6 +237,7 @@ fn a_look_makes_nothing(rt: HostRuntime) -> Result<(), Fail> {
     assert_eq!(rt; disk.read_at(Half::Second, 3, &mut [0]), Ok(0));
     assert!(rt; !fs::exists(&rt, "nothing_of_the_test")?);
     assert!(rt; !fs::exists(&rt, "nothing_of_the_test.2")?);
+    clears(&rt, "nothing_of_the_test", "nothing_of_the_test.2")?;
     Ok(())
 }
 
@@ -249,6 +252,7 @@ fn a_look_reads_what_is_there(rt: HostRuntime) -> Result<(), Fail> {
     disk.room(Half::First, 4, 1, 1)?;
     assert_eq!(rt; disk.write_at(Half::First, 0, b"x"), Err(DiskFailed));
     assert_eq!(rt; disk.faults(), 1);
+    clears(&rt, "seen_of_the_test", "seen_of_the_test.2")?;
     Ok(())
 }
 
@@ -261,5 +265,6 @@ fn a_sync_that_failed_is_the_last_call(rt: HostRuntime) -> Result<(), Fail> {
     assert_eq!(rt; four_calls(&mut disk)?, [true, true, true, false]);
     assert_eq!(rt; four_calls(&mut disk)?, [false, true, false, false]);
     assert_eq!(rt; disk.faults(), 4);
+    clears(&rt, "null_of_the_test", "null_of_the_test.2")?;
     Ok(())
 }
