@@ -18,3 +18,4 @@ pub mod Kept
 pub mod Steps
 pub mod Made
 pub mod Calls
+pub mod NoItems
