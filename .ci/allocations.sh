@@ -20,9 +20,11 @@ def run(program, test, refused):
     home = f"{folder}/run{refused}"
     os.makedirs(home, exist_ok=True)
     ran = subprocess.run([program, test], env=settings, cwd=home, capture_output=True, text=True)
-    with open(counted) as file:
-        count = int(file.read().split()[-1])
-    os.remove(counted)
+    count = 0
+    if os.path.exists(counted):
+        with open(counted) as file:
+            count = int(file.read().split()[-1])
+        os.remove(counted)
     return ran.returncode == 0, count, ran.stdout + ran.stderr
 
 is_well = True
