@@ -1,5 +1,5 @@
 //! Reads and binds a template of so many resources, of about a kilobyte each, for the clock outside. The
-//! words are how far to go (`text`, `value`, `template` or `bind`) and how many resources. Prints what
+//! words are how far to go (`text`, `value`, `template`, `bind` or `admit`) and how many resources. Prints what
 //! came out, which is the same at each run.
 #![tactic(auto)]
 
@@ -15,7 +15,7 @@ fn main(rt: HostRuntime) -> Result<()> {
     let mut words = env::args(&rt)?;
     let _program = words.next();
     let Some(what) = words.next() else {
-        bail!("text, value, template or bind");
+        bail!("text, value, template, bind or admit");
     };
     let Some(size) = words.next() else {
         bail!("how many resources");
@@ -32,6 +32,7 @@ fn work_of(word: &str) -> Result<Work> {
         "value" => Ok(Work::Value),
         "template" => Ok(Work::Template),
         "bind" => Ok(Work::Bind),
-        _ => bail!("text, value, template or bind"),
+        "admit" => Ok(Work::Admit),
+        _ => bail!("text, value, template, bind or admit"),
     }
 }

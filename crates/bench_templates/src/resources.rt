@@ -17,6 +17,12 @@ const DEVICES: &str = "\"block_device_mapping\":[\
 const GROUPS: &str = "\"key_name\":{\"get_param\":\"p00\"},\"scheduler_hints\":{\"group\":\"web\"},\
     \"security_groups\":[\"default\",\"http\"],";
 
+/// The kind of the resources, as a catalogue.
+pub const KINDS: &str = "{\"OS::Nova::Server\":{\"properties\":{\
+    \"block_device_mapping\":{},\"config_drive\":{},\"flavor\":{\"required\":true},\
+    \"image\":{\"required\":true},\"key_name\":{},\"name\":{},\"networks\":{},\
+    \"scheduler_hints\":{},\"security_groups\":{},\"user_data\":{}}}}";
+
 /// Puts so many resources behind the text, `r0000` and on; each but the first depends on one before it.
 pub fn push_resources(alloc: Global, text: &mut String, size: u32) -> Result<()> {
     for i in 0..size {

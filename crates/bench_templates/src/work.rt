@@ -1,14 +1,18 @@
 //! How far a template is taken.
-ghost use Rattle.std.specs.Prelude.{◌≡◌};
+ghost use Rattle.std.specs.Prelude.{◌≡◌, ◌≤◌, IfOk};
+ghost use Rattle.heat_value.specs.Data.{depth, members_depth};
+ghost use Rattle.heat_value.specs.Meaning.{data_of};
 ghost use Rattle.hot_registry.specs.Names.{is_listed};
 ghost use Rattle.hot_registry.specs.Shipped.{flavor_test as the_flavor_test};
 
 use crate::parameters::{given, push_parameters};
-use crate::resources::push_resources;
+use crate::resources::{KINDS, push_resources};
 use anyhow::{Result, bail};
-use heat_plan::{StackName, StackNo};
+use heat_plan::{Plan, StackName, StackNo};
 use heat_value::{Props, Seq, Text, Value};
-use hot_params::{Ids, bind};
+use hot_admit::admit;
+use hot_catalog::Catalog;
+use hot_params::{Bound, Ids, bind};
 use hot_registry::{Ask, Custom, Registry, flavor_test, is_flavor};
 use hot_tree::Template;
 use std::alloc::Global;
@@ -24,9 +28,11 @@ pub enum Work {
     Template,
     /// Binds the template's parameters.
     Bind,
+    /// Makes the template's plan.
+    Admit,
 }
 
-/// How many bytes, sections, resources or parameters came out.
+/// How many bytes, sections, resources, parameters or items came out.
 pub fn count(alloc: Global, work: Work, size: u32) -> Result<usize> {
     let text = text_of(alloc, size)?;
     if work == Work::Text {
@@ -43,7 +49,7 @@ pub fn count(alloc: Global, work: Work, size: u32) -> Result<usize> {
     if work == Work::Template {
         return Ok(template.parts().resources.len());
     }
-    Ok(bound(alloc, &template)?.as_slice().len())
+    bound_on(alloc, work, &template)
 }
 
 // The template as text.
@@ -57,29 +63,29 @@ fn text_of(alloc: Global, size: u32) -> Result<String> {
     Ok(text)
 }
 
-fn read(alloc: Global, text: &str) -> Result<Value> {
+fn read(alloc: Global, text: &str) -> Result<Value>
+    ensures { IfOk result (λ v. depth (data_of v) ≤ 64) }
+{
     match Value::read(alloc, text.as_bytes()) {
         Ok(value) => Ok(value),
         Err(_) => bail!("no value"),
     }
 }
 
-fn taken(alloc: Global, value: &Value) -> Result<Template> {
+fn taken(alloc: Global, value: &Value) -> Result<Template>
+    requires { depth (data_of value.now) ≤ 64 }
+    ensures { IfOk result (λ t. members_depth t ≤ 64) }
+{
     match Template::from_value(alloc, value) {
         Ok(template) => Ok(template),
         Err(fault) => bail!("{}", fault.code().unwrap_or("no memory")),
     }
 }
 
-// What the parameters are bound to, where the test nova.flavor is registered.
-fn bound(alloc: Global, template: &Template) -> Result<Props> {
-    let Some(stack) = StackName::read(alloc, b"s")? else {
-        bail!("a name");
-    };
-    let Some(no) = StackNo::new(1) else {
-        bail!("a number");
-    };
-    let ids = Ids { stack, no };
+// How many parameters or items came out, where the test nova.flavor is registered, and no kind.
+fn bound_on(alloc: Global, work: Work, template: &Template) -> Result<usize>
+    requires { members_depth template.now ≤ 64 }
+{
     let ask: Ask = Box::new(
         alloc,
         |text: &Text| -> bool
@@ -91,8 +97,45 @@ fn bound(alloc: Global, template: &Template) -> Result<Props> {
     let Some(registry) = Registry::new(Seq::new(alloc), customs) else {
         bail!("no registry");
     };
-    match bind(alloc, template, &given(alloc)?, &ids, &registry) {
-        Ok(bound) => Ok(bound.params),
+    let bound = bound(alloc, template, &registry)?;
+    if work == Work::Bind {
+        return Ok(bound.params.as_slice().len());
+    }
+    Ok(admitted(alloc, template, &bound, &registry)?.items().len())
+}
+
+// What the parameters are bound to.
+fn bound(alloc: Global, template: &Template, registry: &Registry) -> Result<Bound>
+    requires { members_depth template.now ≤ 64 }
+    ensures { IfOk result (λ b. members_depth b.params ≤ 64) }
+{
+    let Some(stack) = StackName::read(alloc, b"s")? else {
+        bail!("a name");
+    };
+    let Some(no) = StackNo::new(1) else {
+        bail!("a number");
+    };
+    let Value::Fields(given) = read(alloc, given(alloc)?.as_str())? else {
+        bail!("an object");
+    };
+    match bind(alloc, template, &given, &Ids { stack, no }, registry) {
+        Ok(bound) => Ok(bound),
+        Err(fault) => bail!("{}", fault.code().unwrap_or("no memory")),
+    }
+}
+
+// The plan, where no file stands beside the template.
+fn admitted(alloc: Global, template: &Template, bound: &Bound, registry: &Registry) -> Result<Plan>
+    requires template { members_depth template.now ≤ 64 }
+    requires bound { members_depth bound.now.params ≤ 64 }
+{
+    let mut catalog = Catalog::new(alloc, registry)?;
+    match catalog.read(alloc, &read(alloc, KINDS)?) {
+        Ok(()) => {}
+        Err(_) => bail!("no catalogue"),
+    }
+    match admit(alloc, template, bound, &Props::new(alloc), &catalog) {
+        Ok(plan) => Ok(plan),
         Err(fault) => bail!("{}", fault.code().unwrap_or("no memory")),
     }
 }

@@ -15,4 +15,5 @@ mod shape;
 mod tests;
 
 pub use catalog::Catalog;
+pub use check::{behind_key, behind_name, behind_place, here_unless};
 pub use fault::CatalogFault;

@@ -19,3 +19,4 @@ pub mod Steps
 pub mod Made
 pub mod Calls
 pub mod NoItems
+pub mod Flags

@@ -2,7 +2,8 @@
 ghost use Rattle.std.specs.Prelude.{◌≡◌, ◌++◌, ◌∷◌, [], List, ℕ, IfOk, OnOk, map, option_map};
 ghost use Rattle.heat_plan.specs.Order.{Rising};
 ghost use Rattle.heat_value.specs.Meaning.{data_of, nodes_of, members_of};
-ghost use Rattle.hot_eval.specs.Needs.{AreNeeds, AreResNamesOf, references_in, references_among, references_under};
+ghost use Rattle.hot_eval.specs.Needs.{AreNeeds, AreResNamesOf, references_in, references_among};
+ghost use Rattle.hot_eval.specs.Needs.{references_under as the_references_under};
 ghost use Rattle.hot_eval.specs.Needs.{own_reference, referred as the_referred, first_text as the_first_text};
 
 use crate::sorts::{list_in, text_in};
@@ -24,11 +25,19 @@ pub fn needs_of(alloc: Global, value: &Value) -> Result<Needs, AllocError>
 
 /// The same of a map of properties, which itself is no function.
 pub fn needs_of_props(alloc: Global, props: &Props) -> Result<Needs, AllocError>
-    ensures { IfOk result (AreNeeds (references_under props.now)) }
+    ensures { IfOk result (AreNeeds (the_references_under props.now)) }
+{
+    let named = references_under(alloc, props)?;
+    needs_among(alloc, named.as_slice())
+}
+
+/// The names in every get_resource and get_attr anywhere in a map of properties, in reading order.
+pub fn references_under<'a>(alloc: Global, props: &'a Props) -> Result<Vec<&'a Text>, AllocError>
+    ensures { IfOk result (λ ts. map (λ t. t.now) ts.items ≡ the_references_under props.now) }
 {
     let mut named = Vec::new(alloc);
     add_under(props.as_slice(), &mut named)?;
-    needs_among(alloc, named.as_slice())
+    Ok(named)
 }
 
 // Puts the names in a value behind the last.
@@ -63,7 +72,7 @@ fn add_among<'a>(values: &'a [Value], named: &mut Vec<&'a Text>) -> Result<(), A
 #[tactic(auto, using(crate::proofs::Weights::for_walks))]
 fn add_under<'a>(members: &'a [Member], named: &mut Vec<&'a Text>) -> Result<(), AllocError>
     ensures { OnOk result (map (λ t. t.now) named.new.items
-        ≡ map (λ t. t.now) named.old.items ++ references_under (members_of members.now)) }
+        ≡ map (λ t. t.now) named.old.items ++ the_references_under (members_of members.now)) }
 {
     for member in members {
         add_in(&member.value, named)?;
@@ -85,8 +94,9 @@ fn add_own<'a>(members: &'a [Member], named: &mut Vec<&'a Text>) -> Result<(), A
     Ok(())
 }
 
-// The argument of get_resource, or the first part of get_attr's.
-fn referred(member: &Member) -> Option<&Text>
+/// The name that an object with this one member refers to: the argument of get_resource, or the first
+/// part of get_attr's, where it is a text.
+pub fn referred(member: &Member) -> Option<&Text>
     ensures { option_map (λ t. t.now) result ≡ the_referred (member.now.key, data_of member.now.value) }
 {
     if member.key.as_str() == "get_resource" {

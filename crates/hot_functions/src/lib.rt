@@ -15,6 +15,6 @@ mod walk;
 pub use argument::{has_form, stands};
 pub use condition::is_condition;
 pub use form::{Form, condition_form_of, form_of, lone};
-pub use place::Place;
+pub use place::{Place, item_place, member_place};
 pub use reference::reference_in;
 pub use walk::{members_flaw, value_flaw};

@@ -1,5 +1,7 @@
 //! All parts of a template.
-ghost use Rattle.std.specs.Prelude.{IfOk};
+ghost use Rattle.std.specs.Prelude.{IfOk, OnOk, codes};
+ghost use Rattle.heat_value.specs.Data.{Rises};
+ghost use Rattle.hot_parts.specs.Readings.{entries as the_entries};
 ghost use Rattle.hot_parts.specs.Parts.{ArePartsOf};
 
 use crate::output::outputs_of;
@@ -22,7 +24,8 @@ pub struct Parts {
 impl Parts {
     /// The parts of a template's object.
     pub fn of(alloc: Global, template: &Props) -> Result<Parts, AllocError>
-        ensures { IfOk result (λ p. ArePartsOf template.now p) }
+        ensures exact { IfOk result (λ p. ArePartsOf template.now p) }
+        ensures rising { OnOk result (Rises (the_entries (codes "resources") template.now)) }
     {
         let none = Props::new(alloc);
         Ok(Parts {

@@ -1,6 +1,6 @@
 //! The resources of a template.
 ghost use Rattle.std.specs.Prelude.{◌≡◌, IfOk, codes};
-ghost use Rattle.heat_value.specs.Data.{lookup, fields as fields_data};
+ghost use Rattle.heat_value.specs.Data.{lookup, Rises, fields as fields_data};
 ghost use Rattle.heat_value.specs.Meaning.{data_of};
 ghost use Rattle.hot_parts.specs.Readings.{AreEach, text_or, object_in, or_null as the_or_null};
 ghost use Rattle.hot_parts.specs.Entries.{IsRes};
@@ -24,9 +24,10 @@ pub struct Res {
     pub cond: Option<Value>,
 }
 
-/// The resources of the entries, in their order.
+/// The resources of the entries, in their order, which is that of their names.
 pub(crate) fn resources_of(alloc: Global, entries: &Props) -> Result<Seq<Res>, AllocError>
-    ensures { IfOk result (λ rs. AreEach IsRes entries.now rs) }
+    ensures exact { IfOk result (λ rs. AreEach IsRes entries.now rs) }
+    ensures rising { Rises entries.now }
 {
     let members = entries.as_slice();
     let mut resources = Seq::with_capacity(alloc, members.len())?;

@@ -1,7 +1,9 @@
 //! A right template.
-ghost use Rattle.std.specs.Prelude.{◌≡◌, IfOk, IfErr, None};
+ghost use Rattle.std.specs.Prelude.{◌≡◌, IfOk, IfErr, None, codes};
 ghost use Rattle.heat_value.specs.Meaning.{data_of};
+ghost use Rattle.heat_value.specs.Data.{Rises};
 ghost use Rattle.hot_parts.specs.Parts.{ArePartsOf};
+ghost use Rattle.hot_parts.specs.Readings.{entries};
 ghost use Rattle.hot_tree.specs.Template.{IsRight, IsTemplateOf, IsFaultOf};
 ghost use Rattle.hot_tree.specs.Whole.{template_flaw as the_template_flaw};
 
@@ -20,7 +22,8 @@ pub struct Template {
 }
 
 impl Model for Template {
-    ghost use Rattle.heat_value.specs.Data.{Members};
+    ghost use Rattle.std.specs.Prelude.{codes};
+    ghost use Rattle.heat_value.specs.Data.{Members, Rises};
     ghost use Rattle.heat_value.specs.Code.{members_code};
 
     ghost Value = { Members };
@@ -28,11 +31,13 @@ impl Model for Template {
     ghost coded = { members_code };
 
     ghost use Rattle.hot_parts.specs.Parts.{ArePartsOf};
+    ghost use Rattle.hot_parts.specs.Readings.{entries};
     ghost use Rattle.hot_tree.specs.Template.{IsRight};
 
     ghost view = { λ t. t.fields };
 
-    ghost invariant = { λ t. IsRight t.fields × ArePartsOf t.fields t.parts };
+    ghost invariant = { λ t. IsRight t.fields × ArePartsOf t.fields t.parts
+        × Rises (entries (codes "resources") t.fields) };
 }
 
 impl Template {
@@ -55,9 +60,12 @@ impl Template {
         &self.fields
     }
 
-    /// The parameters, conditions, resources and outputs that the object has.
+    /// The parameters, conditions, resources and outputs that the object has. The resources come in byte
+    /// order of their names.
     pub fn parts(&self) -> &Parts
-        ensures { ArePartsOf self.now result.now }
+        ensures exact { ArePartsOf self.now result.now }
+        ensures right { IsRight self.now }
+        ensures rising { Rises (entries (codes "resources") self.now) }
     {
         &self.parts
     }

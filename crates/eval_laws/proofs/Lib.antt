@@ -1,0 +1,5 @@
+pub mod Told
+pub mod Named
+pub mod Calls
+pub mod Same
+pub mod Resolved

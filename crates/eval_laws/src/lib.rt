@@ -1,0 +1,17 @@
+//! Laws of evaluation: what an item's properties depend on. Nothing here is run: each function has an
+//! empty body and stands for its clause.
+#![tactic(auto)]
+
+ghost use Rattle.eval_laws.specs.Laws.{ReadsOnlyNamed, ReadsOnlyNeeds};
+
+/// An item's properties, or their first fault, are the same with any two lists of known facts that tell
+/// of the item's needs alone and agree there.
+pub fn reads_only_needs()
+    ensures { ReadsOnlyNeeds }
+{}
+
+/// Where no repeat stands in them, they are the same with any two that agree at the names which the
+/// properties refer to, whatever else is known.
+pub fn reads_only_named()
+    ensures { ReadsOnlyNamed }
+{}

@@ -1,0 +1,26 @@
+-- Each turn finds the value of one condition more, where it has one.
+use Rattle.std.proofs.Common.{refl, arith}
+use Rattle.std.proofs.lemmas.List.Elements.{Contains-get_or}
+use Rattle.hot_admit.proofs.Adding.{one_further, all_found}
+use Rattle.hot_admit.proofs.Keyed.{keys_count}
+use Rattle.hot_admit.proofs.condition_values.find_more.Goals as goal
+
+pub find_at-requires-clause-place : goal.find_at-requires-clause-place
+find_at-requires-clause-place c =
+    omega (
+      arith,
+      (c.requires.order.listed.all _).0 (Contains-get_or c.args.order.now c.loop-place.place-index 0
+          c.loop-place-test.true),
+      keys_count c.args.conds.now,
+    )
+
+pub loop-place-preserved : goal.loop-place-preserved
+loop-place-preserved c =
+    one_further _ _ c.args.order.now _ c.loop-place.place-index _ c.loop-place.found.values.items _
+    c.loop-place.found.known _ c.loop-place.invariant refl c.in_ok-find_at.ensures.found c.in_ok-find_at.ensures.grows
+    c.in_ok-find_at.ensures.here
+
+pub returns-clause-round : goal.returns-clause-round
+returns-clause-round c =
+    all_found _ _ c.args.order.now _ c.loop-place.place-index _ _ c.requires.rising c.requires.order.listed.all
+    c.loop-place-test.false c.loop-place.invariant

@@ -1,0 +1,17 @@
+pub mod Codes
+pub mod Resources
+pub mod Basis
+pub mod Places
+pub mod Unsupported
+pub mod References
+pub mod Kinds
+pub mod Sought
+pub mod Entries
+pub mod Naming
+pub mod Valuing
+pub mod Conds
+pub mod Items
+pub mod Cycles
+pub mod Plans
+pub mod Admission
+pub mod Faults

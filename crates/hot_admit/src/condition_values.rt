@@ -1,0 +1,286 @@
+//! The conditions of a template: their values, or the first fault.
+ghost use Rattle.std.specs.Prelude.{◌≡◌, ◌<◌, [], None, IfOk, IfErr, OnOk, Some, length, map, option_map, replicate};
+ghost use Rattle.heat_value.specs.Data.{Rises};
+ghost use Rattle.heat_value.specs.Meaning.{data_of, members_of};
+ghost use Rattle.hot_admit.specs.Conds.{AreCondsOf, IsCondFaultOf, IsCyclicFault, IsUnvaluedFault, held, flags_of};
+ghost use Rattle.hot_admit.specs.Conds.{condition_path as the_condition_path, entry_path as the_entry_path};
+ghost use Rattle.hot_admit.specs.Conds.{resource_wanted, output_wanted, unvalued_resource, unvalued_output};
+ghost use Rattle.hot_admit.specs.Naming.{IsNamingOrder};
+ghost use Rattle.hot_admit.specs.Resources.{resources_data, outputs_data};
+ghost use Rattle.hot_admit.specs.Valuing.{AreFound, Grows, IsFoundAt, AddsRound};
+ghost use Rattle.hot_eval.specs.Conditions.{first_unvalued, values_of};
+
+use crate::conds::{Conds, Wanted};
+use crate::fault::CondFault;
+use crate::names::{least_on_cycle, names_graph};
+use dep_graph::Order;
+use heat_plan::Condition;
+use heat_value::{Member, Path, Props, Seq, Step, Text, TryCopy, Value};
+use hot_eval::flag_of;
+use hot_params::Bound;
+use hot_parts::{Out, Res};
+use hot_tree::Template;
+use std::alloc::{AllocError, Global};
+
+/// The values of a template's conditions, and which of its resources and outputs are wanted; or C01 at
+/// the least condition that is on a cycle of names, else C02 at the first condition, then the first
+/// resource's, then the first output's, that has no value.
+pub fn conditions(alloc: Global, template: &Template, bound: &Bound) -> Result<Conds, CondFault>
+    ensures ok { IfOk result (λ c. AreCondsOf bound.now.params template.now c) }
+    ensures fault { IfErr result (λ e. IsCondFaultOf bound.now.params template.now e) }
+{
+    let parts = template.parts();
+    let members = parts.conds.as_slice();
+    let order = order_of(alloc, members)?;
+    let conds = values_in(alloc, &bound.params, members, order.as_slice())?;
+    let known = conds.as_slice();
+    let resources = wanted_resources(alloc, &bound.params, known, parts.resources.as_slice())?;
+    let outputs = wanted_outputs(alloc, &bound.params, known, parts.outputs.as_slice())?;
+    Ok(Conds {
+        conds,
+        resources,
+        outputs,
+    })
+}
+
+// The places of the conditions in an order in which each comes behind those that it names; C01 where
+// there is none.
+fn order_of(alloc: Global, conds: &[Member]) -> Result<Seq<u32>, CondFault>
+    requires { Rises (members_of conds.now) }
+    ensures ok { IfOk result (λ order. IsNamingOrder (members_of conds.now) order) }
+    ensures fault { IfErr result (λ e. IsCyclicFault (members_of conds.now) e) }
+{
+    let graph = names_graph(alloc, conds)?;
+    match graph.order()? {
+        Order::Order(order) => Ok(order),
+        Order::Cycle(_) => match least_on_cycle(&graph)? {
+            Some(place) => Err(CondFault::C01(condition_path(alloc, &conds[place as usize].key)?)),
+            None => unreachable!(),
+        },
+    }
+}
+
+// The path of a named condition.
+fn condition_path(alloc: Global, name: &Text) -> Result<Path, AllocError>
+    ensures { IfOk result (λ p. p ≡ the_condition_path name.now) }
+{
+    let mut path = Path::root(alloc);
+    path.push(Step::Key(Text::from_str(alloc, "conditions")?))?;
+    path.push(Step::Key(name.copy()?))?;
+    Ok(path)
+}
+
+// The values of the conditions, by their names; C02 of the first that has none.
+fn values_in(
+    alloc: Global,
+    params: &Props,
+    conds: &[Member],
+    order: &[u32],
+) -> Result<Seq<Condition>, CondFault>
+    requires rising { Rises (members_of conds.now) }
+    requires order { IsNamingOrder (members_of conds.now) order.now }
+    ensures ok { IfOk result (λ known. known ≡ values_of params.now (members_of conds.now)) }
+    ensures each { OnOk result (first_unvalued params.now
+        (values_of params.now (members_of conds.now)) (members_of conds.now) ≡ None) }
+    ensures fault { IfErr result (λ e. IsUnvaluedFault (first_unvalued params.now
+        (values_of params.now (members_of conds.now)) (members_of conds.now)) e) }
+{
+    let values = evaluated(alloc, params, conds, order)?;
+    let mut known = Seq::with_capacity(alloc, conds.len())?;
+    for (place, cond) in conds.iter().enumerate() {
+        match values[place] {
+            Some(value) => known.push(named(&cond.key, value)?)?,
+            None => return Err(CondFault::C02(condition_path(alloc, &cond.key)?)),
+        }
+    }
+    Ok(known)
+}
+
+fn named(name: &Text, value: bool) -> Result<Condition, AllocError>
+    ensures { IfOk result (λ c. c ≡ record { name = name.now; value = value }) }
+{
+    Ok(Condition {
+        name: name.copy()?,
+        value,
+    })
+}
+
+// The value of each condition by its place, where it has one. An order in which each comes behind those
+// that it names finds them at once, but for what a `repeat` makes of a name that is written.
+fn evaluated(
+    alloc: Global,
+    params: &Props,
+    conds: &[Member],
+    order: &[u32],
+) -> Result<Vec<Option<bool>>, AllocError>
+    requires rising { Rises (members_of conds.now) }
+    requires order { IsNamingOrder (members_of conds.now) order.now }
+    ensures { IfOk result (λ values. values.items ≡ flags_of params.now
+        (values_of params.now (members_of conds.now)) (members_of conds.now)) }
+{
+    let mut found = nothing_found(alloc, conds.len())?;
+    for _round in 0..conds.len() {
+        let count = found.known.len();
+        find_more(alloc, params, conds, order, &mut found)?;
+        if found.known.len() == count {
+            return Ok(found.values);
+        }
+    }
+    Ok(found.values)
+}
+
+// The values that were found, by the places of the conditions and by their names.
+#[derive(Debug, Drop)]
+struct Found {
+    values: Vec<Option<bool>>,
+    known: Seq<Condition>,
+}
+
+fn nothing_found(alloc: Global, count: usize) -> Result<Found, AllocError>
+    ensures values { IfOk result (λ f. f.values.items ≡ replicate count None) }
+    ensures known { IfOk result (λ f. f.known ≡ []) }
+{
+    Ok(Found {
+        values: vec![in alloc; None; count]?,
+        known: Seq::with_capacity(alloc, count)?,
+    })
+}
+
+// Finds the values of those that have one where these are known, and of more on the way.
+fn find_more(
+    alloc: Global,
+    params: &Props,
+    conds: &[Member],
+    order: &[u32],
+    found: &mut Found,
+) -> Result<(), AllocError>
+    requires rising { Rises (members_of conds.now) }
+    requires order { IsNamingOrder (members_of conds.now) order.now }
+    requires found { AreFound params.now (members_of conds.now) found.old.values.items found.old.known }
+    ensures found { OnOk result
+        (AreFound params.now (members_of conds.now) found.new.values.items found.new.known) }
+    ensures round { OnOk result
+        (AddsRound params.now (members_of conds.now) found.old.known found.new.known) }
+{
+    for place in order {
+        find_at(alloc, params, conds, *place as usize, found)?;
+    }
+    Ok(())
+}
+
+// Finds the value of the condition at a place, if it has one where these are known.
+fn find_at(
+    alloc: Global,
+    params: &Props,
+    conds: &[Member],
+    place: usize,
+    found: &mut Found,
+) -> Result<(), AllocError>
+    requires rising { Rises (members_of conds.now) }
+    requires place { place < length conds.now }
+    requires found { AreFound params.now (members_of conds.now) found.old.values.items found.old.known }
+    ensures found { OnOk result
+        (AreFound params.now (members_of conds.now) found.new.values.items found.new.known) }
+    ensures grows { OnOk result (Grows found.old.known found.new.known) }
+    ensures here { OnOk result
+        (IsFoundAt params.now (members_of conds.now) found.old.known found.new.known place) }
+{
+    let cond = &conds[place];
+    if found.values[place].is_some() {
+        return Ok(());
+    }
+    if let Some(value) = flag_of(alloc, &cond.value, params, found.known.as_slice())? {
+        found.known.push(named(&cond.key, value)?)?;
+        found.values[place] = Some(value);
+    }
+    Ok(())
+}
+
+// Which resources are wanted; C02 of the first whose condition has no value.
+fn wanted_resources(
+    alloc: Global,
+    params: &Props,
+    known: &[Condition],
+    resources: &[Res],
+) -> Result<Seq<Wanted>, CondFault>
+    ensures ok { IfOk result (λ ws. ws
+        ≡ map (resource_wanted params.now known.now) (resources_data resources.now)) }
+    ensures each { OnOk result (unvalued_resource params.now known.now (resources_data resources.now)
+        ≡ None) }
+    ensures fault { IfErr result (λ e. IsUnvaluedFault
+        (unvalued_resource params.now known.now (resources_data resources.now)) e) }
+{
+    let mut all = Seq::with_capacity(alloc, resources.len())?;
+    for res in resources {
+        let Some(wanted) = holds(alloc, params, known, res.cond.as_ref())? else {
+            return Err(unvalued_in(alloc, "resources", &res.name));
+        };
+        all.push(Wanted {
+            name: res.name.copy()?,
+            wanted,
+        })?;
+    }
+    Ok(all)
+}
+
+// Which outputs are wanted; C02 of the first whose condition has no value.
+fn wanted_outputs(
+    alloc: Global,
+    params: &Props,
+    known: &[Condition],
+    outputs: &[Out],
+) -> Result<Seq<Wanted>, CondFault>
+    ensures ok { IfOk result (λ ws. ws
+        ≡ map (output_wanted params.now known.now) (outputs_data outputs.now)) }
+    ensures each { OnOk result (unvalued_output params.now known.now (outputs_data outputs.now) ≡ None) }
+    ensures fault { IfErr result (λ e. IsUnvaluedFault
+        (unvalued_output params.now known.now (outputs_data outputs.now)) e) }
+{
+    let mut all = Seq::with_capacity(alloc, outputs.len())?;
+    for out in outputs {
+        let Some(wanted) = holds(alloc, params, known, out.cond.as_ref())? else {
+            return Err(unvalued_in(alloc, "outputs", &out.name));
+        };
+        all.push(Wanted {
+            name: out.name.copy()?,
+            wanted,
+        })?;
+    }
+    Ok(all)
+}
+
+// Whether the `condition` of an entry holds; where there is none it does.
+fn holds(
+    alloc: Global,
+    params: &Props,
+    known: &[Condition],
+    condition: Option<&Value>,
+) -> Result<Option<bool>, AllocError>
+    ensures { IfOk result (λ o. o ≡ held params.now known.now
+        (option_map (λ v. data_of v.now) condition.entry)) }
+{
+    match condition {
+        Some(condition) => flag_of(alloc, condition, params, known),
+        None => Ok(Some(true)),
+    }
+}
+
+// C02 of an entry's `condition`.
+fn unvalued_in(alloc: Global, section: &str, name: &Text) -> CondFault
+    ensures { IsUnvaluedFault (Some (the_entry_path section.now name.now)) result }
+{
+    match entry_path(alloc, section, name) {
+        Ok(path) => CondFault::C02(path),
+        Err(_) => CondFault::Memory,
+    }
+}
+
+fn entry_path(alloc: Global, section: &str, name: &Text) -> Result<Path, AllocError>
+    ensures { IfOk result (λ p. p ≡ the_entry_path section.now name.now) }
+{
+    let mut path = Path::root(alloc);
+    path.push(Step::Key(Text::from_str(alloc, section)?))?;
+    path.push(Step::Key(name.copy()?))?;
+    path.push(Step::Key(Text::from_str(alloc, "condition")?))?;
+    Ok(path)
+}

@@ -1,0 +1,112 @@
+//! A01, A05 and A06: a resource's type, and its properties by that type.
+ghost use Rattle.std.specs.Prelude.{◌≡◌, IfOk, bytes_eq, option_map};
+ghost use Rattle.std.specs.List.{list_any};
+ghost use Rattle.heat_value.specs.Meaning.{members_of};
+ghost use Rattle.hot_registry.specs.declared.kind.PropDef.{PropDef as prop_type};
+ghost use Rattle.hot_admit.specs.Basis.{basis_data};
+ghost use Rattle.hot_admit.specs.Kinds.{of_unknown_kind as the_of_unknown_kind};
+ghost use Rattle.hot_admit.specs.Kinds.{with_unknown_property as the_with_unknown_property};
+ghost use Rattle.hot_admit.specs.Kinds.{unknown_property as the_unknown_property, has_property as the_has_property};
+ghost use Rattle.hot_admit.specs.Kinds.{first_unknown as the_first_unknown};
+ghost use Rattle.hot_admit.specs.Kinds.{without_property as the_without_property, lacks as the_lacks};
+ghost use Rattle.hot_admit.specs.Kinds.{missing_property as the_missing_property};
+ghost use Rattle.hot_admit.specs.Resources.{resource_data};
+
+use crate::Basis;
+use heat_value::{Member, Path, Props};
+use hot_catalog::{behind_key, behind_name, here_unless};
+use hot_parts::Res;
+use hot_registry::{KindDef, PropDef};
+use std::alloc::{AllocError, Global};
+
+/// A01: the type isn't in the catalogue.
+pub fn of_unknown_kind(alloc: Global, basis: &Basis, res: &Res) -> Result<Option<Path>, AllocError>
+    ensures { IfOk result (λ o. o
+        ≡ the_of_unknown_kind (basis_data basis.now) (resource_data res.now)) }
+{
+    let stands = basis.kind_at(res).is_some();
+    behind_name(alloc, "type", here_unless(alloc, stands))
+}
+
+/// A05: the first property that the kind hasn't.
+pub fn with_unknown_property(
+    alloc: Global,
+    basis: &Basis,
+    res: &Res,
+) -> Result<Option<Path>, AllocError>
+    ensures { IfOk result (λ o. o
+        ≡ the_with_unknown_property (basis_data basis.now) (resource_data res.now)) }
+{
+    let unknown = unknown_property(alloc, res, basis.kind_at(res))?;
+    behind_name(alloc, "properties", unknown)
+}
+
+fn unknown_property(
+    alloc: Global,
+    res: &Res,
+    kind: Option<&KindDef>,
+) -> Result<Option<Path>, AllocError>
+    ensures { IfOk result (λ o. o
+        ≡ the_unknown_property (resource_data res.now) (option_map (λ k. k.now) kind.entry)) }
+{
+    match kind {
+        Some(kind) => first_unknown(alloc, kind, res.props.as_slice()),
+        None => Ok(None),
+    }
+}
+
+// The first key in byte order that is no property of the kind.
+fn first_unknown(
+    alloc: Global,
+    kind: &KindDef,
+    members: &[Member],
+) -> Result<Option<Path>, AllocError>
+    ensures { IfOk result (λ o. o ≡ the_first_unknown kind.now (members_of members.now)) }
+{
+    for member in members {
+        if !has_property(kind, member.key.as_str()) {
+            return behind_key(&member.key, here_unless(alloc, false));
+        }
+    }
+    Ok(None)
+}
+
+fn has_property(kind: &KindDef, name: &str) -> bool
+    ensures { result ≡ the_has_property kind.now name.now }
+{
+    any_is(kind.props.as_slice(), name)
+}
+
+// Whether a property has this name.
+fn any_is(props: &[PropDef], name: &str) -> bool
+    ensures { result ≡ list_any (λ (p : prop_type). bytes_eq name.now p.name) props.now }
+{
+    props.iter().any(|prop| name == prop.name.as_str())
+}
+
+/// A06: a property that has to be there has no key.
+pub fn without_property(alloc: Global, basis: &Basis, res: &Res) -> Result<Option<Path>, AllocError>
+    ensures { IfOk result (λ o. o
+        ≡ the_without_property (basis_data basis.now) (resource_data res.now)) }
+{
+    let missing = missing_property(alloc, res, basis.kind_at(res));
+    behind_name(alloc, "properties", missing)
+}
+
+fn missing_property(alloc: Global, res: &Res, kind: Option<&KindDef>) -> Option<Path>
+    ensures { result ≡ the_missing_property (resource_data res.now) (option_map (λ k. k.now) kind.entry) }
+{
+    match kind {
+        Some(kind) => here_unless(alloc, !lacks_any(&res.props, kind.props.as_slice())),
+        None => None,
+    }
+}
+
+// Whether one of these that has to be there has no key.
+fn lacks_any(props: &Props, wanted: &[PropDef]) -> bool
+    ensures { result ≡ list_any (the_lacks props.now) wanted.now }
+{
+    wanted
+        .iter()
+        .any(|prop| prop.required && props.get(&prop.name).is_none())
+}

@@ -1,0 +1,53 @@
+//! The value of a condition expression.
+ghost use Rattle.std.specs.Prelude.{◌≡◌, IfOk};
+ghost use Rattle.heat_value.specs.Meaning.{data_of};
+ghost use Rattle.hot_eval.specs.Answers.{again};
+ghost use Rattle.hot_eval.specs.Conditions.{flag_of as the_flag_of, in_conditions};
+ghost use Rattle.hot_eval.specs.Evaluation.{evaluation};
+ghost use Rattle.hot_eval.specs.Scenes.{scene_data};
+
+use crate::depth::Depth;
+use crate::evaluation::condition;
+use crate::setting::Setting;
+use crate::sorts::flag_in;
+use crate::sum::Sum;
+use crate::{EvalFault, Scene};
+use heat_plan::Condition;
+use heat_value::{Props, Value};
+use std::alloc::{AllocError, Global};
+
+/// The flag that a condition expression gives, from no cost on, where these parameters are bound and
+/// these conditions have values; none where it is at fault. No file and no resource counts as there.
+pub fn flag_of(
+    alloc: Global,
+    given: &Value,
+    params: &Props,
+    known: &[Condition],
+) -> Result<Option<bool>, AllocError>
+    ensures { IfOk result (λ o. o ≡ the_flag_of params.now known.now (data_of given.now)) }
+{
+    match condition(&setting(alloc, params, known), given, &mut Sum::new()) {
+        Ok(made) => Ok(flag_in(&made)),
+        Err(EvalFault::Wrong(_, _)) => Ok(None),
+        Err(EvalFault::Memory) => Err(AllocError),
+    }
+}
+
+// Where parameters and conditions alone are there.
+fn setting<'a>(alloc: Global, params: &'a Props, known: &'a [Condition]) -> Setting<'a>
+    ensures scene { scene_data result.scene ≡ in_conditions params.now known.now }
+    ensures again { again result ≡ evaluation (in_conditions params.now known.now) }
+{
+    let scene = Scene {
+        params,
+        conds: known,
+        files: &[],
+        facts: &[],
+        absent: &[],
+    };
+    Setting {
+        alloc,
+        scene,
+        depth: Depth::root(),
+    }
+}
