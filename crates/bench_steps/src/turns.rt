@@ -8,6 +8,7 @@ use crate::answers::{ask_answer, poll_answer};
 use check_steps::{finish, prepare_now, take};
 use core_state::{Job, Made, Row, Stage, State};
 use heat_plan::{Answered, EngineNo, Refusal};
+use hot_registry::Registry;
 use std::alloc::Global;
 use step_ends::{asked, begin_overrun, polled};
 use step_reads::{Task, freshness, next_of, point_of};
@@ -49,7 +50,7 @@ fn begin(alloc: Global, s: &State, e: EngineNo, job: &Job) -> Result<Option<Made
 fn begin_update(alloc: Global, s: &State, e: EngineNo, job: &Job) -> Result<Made, Refusal>
     requires { AtUpdate s.now.state e job.now }
 {
-    let prepared = prepare_now(alloc, s, e, job);
+    let prepared = prepare_now(alloc, &Registry::empty(alloc), s, e, job);
     check_steps::begin(alloc, s, e, job, &prepared)
 }
 

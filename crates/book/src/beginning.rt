@@ -8,13 +8,20 @@ ghost use Rattle.book.specs.Makings.{IsQuietTurn, IsQuietRefusal};
 
 use core_state::{Job, Made, State};
 use heat_plan::{EngineNo, Refusal};
+use hot_registry::Registry;
 use std::alloc::Global;
 use step_ends::begin_overrun;
 use step_reads::freshness;
 use traversal_graph::Node;
 
 /// The begin of an engine's job; one that is overrun is released.
-pub(crate) fn begin_job(alloc: Global, s: &State, e: EngineNo, job: &Job) -> Result<Made, Refusal>
+pub(crate) fn begin_job(
+    alloc: Global,
+    registry: &Registry,
+    s: &State,
+    e: EngineNo,
+    job: &Job,
+) -> Result<Made, Refusal>
     requires works { Works s.now.state e job.now Taken }
     requires stands { Standing s.now.state }
     ensures made { IfOk result (IsQuietTurn s.now.state e) }
@@ -24,17 +31,23 @@ pub(crate) fn begin_job(alloc: Global, s: &State, e: EngineNo, job: &Job) -> Res
         None => begin_overrun(alloc, s, e, job),
         Some(fresh) => match fresh.node {
             Node::C(_) => cleanup_steps::begin(alloc, s, e, job),
-            Node::U(_, _) => begin_update(alloc, s, e, job),
+            Node::U(_, _) => begin_update(alloc, registry, s, e, job),
         },
     }
 }
 
 // The begin at an update node.
-fn begin_update(alloc: Global, s: &State, e: EngineNo, job: &Job) -> Result<Made, Refusal>
+fn begin_update(
+    alloc: Global,
+    registry: &Registry,
+    s: &State,
+    e: EngineNo,
+    job: &Job,
+) -> Result<Made, Refusal>
     requires { AtUpdate s.now.state e job.now }
     ensures made { IfOk result (IsQuietTurn s.now.state e) }
     ensures cause { IfErr result (IsQuietRefusal s.now.state e) }
 {
-    let prepared = check_steps::prepare_now(alloc, s, e, job);
+    let prepared = check_steps::prepare_now(alloc, registry, s, e, job);
     check_steps::begin(alloc, s, e, job, &prepared)
 }

@@ -34,6 +34,7 @@ use check_steps::{Look, Prepared, Work, look};
 use core_state::{Actor, Entry, Next, Roomed, State, What};
 use heat_plan::{EngineNo, Refusal, StackName, StackNo, TravNo, WORN};
 use heat_value::Seq;
+use hot_registry::Registry;
 use provider::{Alive, Listed, Provider};
 use std::alloc::{AllocError, Global};
 use std::marker::Model;
@@ -118,8 +119,9 @@ impl<P: Provider> Book<P> {
         }
     }
 
-    /// One turn of an engine whose number was drawn: at most one request is made.
-    pub fn turn(&mut self, e: EngineNo) -> Turn
+    /// One turn of an engine whose number was drawn: at most one request is made. A change of properties is
+    /// judged by the registry's judge of the kind.
+    pub fn turn(&mut self, e: EngineNo, registry: &Registry) -> Turn
         requires { e < self.old.state.next.engine }
         ensures turned { Turned e (scene_of P.cloud self.old) (scene_of P.cloud self.new) result }
         ensures live { self.new.state.live ≡ self.old.state.live }
@@ -132,6 +134,7 @@ impl<P: Provider> Book<P> {
         }
         turn_of(
             self.alloc,
+            registry,
             &mut self.state,
             &mut self.entries,
             &mut self.cloud,

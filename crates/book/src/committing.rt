@@ -13,6 +13,7 @@ use crate::turning::{Turn, make_quietly, turn_of};
 use check_steps::{Prepared, Work, is_overtaken};
 use core_state::{Entry, Roomed, State};
 use heat_plan::EngineNo;
+use hot_registry::Registry;
 use provider::Provider;
 use std::alloc::Global;
 use step_reads::{Task, next_of};
@@ -47,7 +48,8 @@ pub(crate) fn commit_of<P: Provider>(
         return Turn::Stepped;
     }
     match work {
-        Work::Plain => turn_of(alloc, state, entries, cloud, e),
+        // Nothing is begun at an update node, so no judge is asked.
+        Work::Plain => turn_of(alloc, &Registry::empty(alloc), state, entries, cloud, e),
         Work::Begin(_) => begin_given(alloc, state, entries, e, &prepared),
     }
 }

@@ -4,6 +4,7 @@ use crate::takeover_tests::{is_drawn, opened, turn};
 use crate::tests::command;
 use crate::{Book, Look, StackCommand, Turn, prepare};
 use heat_plan::EngineNo;
+use hot_registry::Registry;
 use provider::Provider;
 use std::alloc::Global;
 use std::test::Fail;
@@ -49,7 +50,7 @@ fn commit_behind<P: Provider>(
     let Ok(Look::Work(work)) = book.look(e) else {
         return None;
     };
-    let prepared = prepare(alloc, &work);
+    let prepared = prepare(alloc, &Registry::empty(alloc), &work);
     overtake(book, e, between)?;
     if !is_drawn(book, e) {
         return None;
@@ -71,9 +72,9 @@ fn begin_late<P: Provider>(
     if book.command(create).is_err() {
         return None;
     }
-    turn(book, e)?;
+    turn(alloc, book, e)?;
     let (commit, added) = commit_behind(alloc, book, e, between)?;
-    let turn = turn(book, e)?;
+    let turn = turn(alloc, book, e)?;
     Some(Told {
         commit,
         added,
@@ -146,7 +147,7 @@ fn run_by<P: Provider>(
     for _ in 0..20 {
         match by {
             By::Turns => {
-                turn(book, e)?;
+                turn(alloc, book, e)?;
             }
             By::Calls => {
                 let _ = commit_behind(alloc, book, e, Between::Nothing);

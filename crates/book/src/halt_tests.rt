@@ -10,14 +10,18 @@ use std::test::Fail;
 
 // What a turn answers once the book is halted, whether its other calls want memory, and how many entries
 // they all add.
-fn answers<P: Provider>(book: &mut Book<P>, create: StackCommand) -> Option<(Turn, bool, usize)> {
+fn answers<P: Provider>(
+    alloc: Global,
+    book: &mut Book<P>,
+    create: StackCommand,
+) -> Option<(Turn, bool, usize)> {
     let e = *book.live().first()?;
     let before = book.entries().len();
     book.halt(Halt::Memory);
     let refused = matches!(book.command(create), Err(Refusal::Memory))
         && matches!(book.stop(e), Err(Refusal::Memory))
         && matches!(book.enlist(), Err(Refusal::Memory));
-    let turn = turn(book, e)?;
+    let turn = turn(alloc, book, e)?;
     let added = book.entries().len().saturating_sub(before);
     Some((turn, refused && book.halted() == Some(Halt::Memory), added))
 }
@@ -29,7 +33,7 @@ fn seen(alloc: Global) -> Result<Option<(Turn, bool, usize)>, Fail> {
         return Ok(None);
     };
     let mut book = book;
-    let seen = answers(&mut book, create);
+    let seen = answers(alloc, &mut book, create);
     let _ = book.give_back();
     Ok(seen)
 }

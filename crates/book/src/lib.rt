@@ -18,6 +18,8 @@ mod going;
 #[cfg(test)]
 mod halt_tests;
 mod halting;
+#[cfg(test)]
+mod judge_tests;
 mod making;
 mod opening;
 mod poll;

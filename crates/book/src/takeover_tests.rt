@@ -4,6 +4,7 @@ ghost use Rattle.std.specs.Prelude.{◌↔◌, ◌<◌, IsTrue};
 use crate::tests::{cloud, command};
 use crate::{Book, Opened, StackCommand, Turn};
 use heat_plan::EngineNo;
+use hot_registry::Registry;
 use provider::Provider;
 use scripted_cloud::ScriptedCloud;
 use std::alloc::Global;
@@ -16,10 +17,10 @@ pub(crate) fn is_drawn<P: Provider>(book: &Book<P>, e: EngineNo) -> bool
     e.get() < book.state().next().engine.get()
 }
 
-/// One turn of an engine; none where its number wasn't drawn.
-pub(crate) fn turn<P: Provider>(book: &mut Book<P>, e: EngineNo) -> Option<Turn> {
+/// One turn of an engine, with nothing registered; none where its number wasn't drawn.
+pub(crate) fn turn<P: Provider>(alloc: Global, book: &mut Book<P>, e: EngineNo) -> Option<Turn> {
     if is_drawn(book, e) {
-        Some(book.turn(e))
+        Some(book.turn(e, &Registry::empty(alloc)))
     } else {
         None
     }
@@ -37,9 +38,9 @@ pub(crate) fn opened(alloc: Global) -> Result<Option<Book<ScriptedCloud>>, Fail>
 }
 
 // How many steps an engine makes until none is made, twenty at most.
-fn steps<P: Provider>(book: &mut Book<P>, e: EngineNo) -> usize {
+fn steps<P: Provider>(alloc: Global, book: &mut Book<P>, e: EngineNo) -> usize {
     for made in 0..20 {
-        if turn(book, e) != Some(Turn::Stepped) {
+        if turn(alloc, book, e) != Some(Turn::Stepped) {
             return made;
         }
     }
@@ -49,6 +50,7 @@ fn steps<P: Provider>(book: &mut Book<P>, e: EngineNo) -> usize {
 // The first engine makes so many turns and is stopped; how many the second then makes, and whether the
 // book is idle behind them.
 fn take_over<P: Provider>(
+    alloc: Global,
     book: &mut Book<P>,
     create: StackCommand,
     first: usize,
@@ -59,12 +61,12 @@ fn take_over<P: Provider>(
         return None;
     }
     for _ in 0..first {
-        turn(book, e)?;
+        turn(alloc, book, e)?;
     }
     if book.stop(e).is_err() {
         return None;
     }
-    let made = steps(book, other);
+    let made = steps(alloc, book, other);
     Some((made, book.is_idle()))
 }
 
@@ -79,7 +81,7 @@ fn seen(alloc: Global, first: usize) -> Result<Option<(usize, bool)>, Fail> {
         return Ok(None);
     };
     let mut book = book;
-    let seen = take_over(&mut book, create, first);
+    let seen = take_over(alloc, &mut book, create, first);
     let _ = book.give_back();
     Ok(seen)
 }

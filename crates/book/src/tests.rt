@@ -7,14 +7,15 @@ use crate::{Book, Opened, StackCommand, Turn};
 use core_state::{Entry, ShowWhat, What, Why};
 use heat_plan::{Item, Kind, Needs, Parameters, Plan, Policy, Properties, ResName, StackName};
 use heat_value::{Seq, Text};
+use hot_registry::Registry;
 use provider::Provider;
 use scripted_cloud::{ScriptedAnswer, ScriptedCloud};
 use sim_cloud::KindQuota;
 use std::alloc::{AllocError, Global};
 use std::test::Fail;
 
-// The kind of the one resource.
-const KIND: &str = "Test::Box";
+/// The kind of the one resource.
+pub(crate) const KIND: &str = "Test::Box";
 
 // An item that needs nothing.
 fn item(alloc: Global) -> Result<Item, Fail>
@@ -34,8 +35,8 @@ fn item(alloc: Global) -> Result<Item, Fail>
     })
 }
 
-// The plan of one item.
-fn plan_of(alloc: Global, item: Item) -> Result<Plan, AllocError>
+/// The plan of one item.
+pub(crate) fn plan_of(alloc: Global, item: Item) -> Result<Plan, AllocError>
     requires { item.needs ≡ [] }
 {
     let mut items = Seq::new(alloc);
@@ -87,19 +88,19 @@ pub(crate) fn cloud(alloc: Global, most: u32, letters: &[u8]) -> Result<Scripted
 }
 
 // One turn of the first live engine; none where no engine is live.
-fn turn_first<P: Provider>(book: &mut Book<P>) -> Option<Turn> {
+fn turn_first<P: Provider>(book: &mut Book<P>, registry: &Registry) -> Option<Turn> {
     let e = *book.live().first()?;
     if e.get() < book.state().next().engine.get() {
-        Some(book.turn(e))
+        Some(book.turn(e, registry))
     } else {
         None
     }
 }
 
 // How many turns are made until none is.
-fn turns<P: Provider>(book: &mut Book<P>) -> usize {
+fn turns<P: Provider>(book: &mut Book<P>, registry: &Registry) -> usize {
     for made in 0..20 {
-        if turn_first(book) != Some(Turn::Stepped) {
+        if turn_first(book, registry) != Some(Turn::Stepped) {
             return made;
         }
     }
@@ -143,22 +144,27 @@ fn letters(alloc: Global, entries: &[Entry]) -> Result<Vec<u8>, AllocError> {
     Ok(text)
 }
 
-// What a case comes to.
+/// What a case comes to.
 #[derive(Drop)]
-struct Case {
-    turns: usize,
-    told: Vec<u8>,
-    idle: bool,
+pub(crate) struct Case {
+    pub(crate) turns: usize,
+    pub(crate) told: Vec<u8>,
+    pub(crate) idle: bool,
 }
 
 // What is seen of commands with all turns behind each; none where there is no memory.
-fn seen(alloc: Global, book: Book<ScriptedCloud>, commands: Vec<StackCommand>) -> Option<Case> {
+fn seen(
+    alloc: Global,
+    registry: &Registry,
+    book: Book<ScriptedCloud>,
+    commands: Vec<StackCommand>,
+) -> Option<Case> {
     let mut book = book;
     let mut made = 0_usize;
     let mut all = true;
     for command in commands {
         all = all && book.command(command).is_ok();
-        made = made.saturating_add(turns(&mut book));
+        made = made.saturating_add(turns(&mut book, registry));
     }
     let idle = book.is_idle();
     let told = letters(alloc, book.entries());
@@ -173,10 +179,15 @@ fn seen(alloc: Global, book: Book<ScriptedCloud>, commands: Vec<StackCommand>) -
     }
 }
 
-// The same over a cloud.
-fn seen_over(alloc: Global, cloud: ScriptedCloud, commands: Vec<StackCommand>) -> Option<Case> {
+/// The same over a cloud.
+pub(crate) fn seen_over(
+    alloc: Global,
+    registry: &Registry,
+    cloud: ScriptedCloud,
+    commands: Vec<StackCommand>,
+) -> Option<Case> {
     match Book::recover(alloc, cloud, 1) {
-        Opened::Book(book) => seen(alloc, book, commands),
+        Opened::Book(book) => seen(alloc, registry, book, commands),
         Opened::Disagree(_cloud, _token) => None,
         Opened::CloudFault(_cloud) => None,
         Opened::Memory(_cloud) => None,
@@ -258,7 +269,8 @@ fn each_answer_is_told(rt: HostRuntime) -> Result<(), Fail> {
             all.push(command(rt.alloc(), *letter)?)?;
         }
         let cloud = cloud(rt.alloc(), *most, script)?;
-        let seen = seen_over(rt.alloc(), cloud, all).ok_or("memory")?;
+        let nothing = Registry::empty(rt.alloc());
+        let seen = seen_over(rt.alloc(), &nothing, cloud, all).ok_or("memory")?;
         assert_eq!(rt; seen.told.as_slice(), *told, "{}", name);
         assert_eq!(rt; seen.turns, *turns, "{}", name);
         assert!(rt; seen.idle, "{}", name);
@@ -295,7 +307,7 @@ fn a_note_stands_in_the_history(rt: HostRuntime) -> Result<(), Fail> {
 }
 
 // Whether the first of two engines is stopped, but not once more, and a third is enlisted.
-fn engines(book: Book<ScriptedCloud>) -> bool {
+fn engines(book: Book<ScriptedCloud>, registry: &Registry) -> bool {
     let mut book = book;
     let two = book.live().len() == 2;
     let e = book.live().first().copied();
@@ -307,7 +319,7 @@ fn engines(book: Book<ScriptedCloud>) -> bool {
         Ok(third) => third.get() == 3,
         Err(_) => false,
     };
-    let idle = turn_first(&mut book) == Some(Turn::Idle);
+    let idle = turn_first(&mut book, registry) == Some(Turn::Idle);
     let told = book.entries().len() == 2;
     let _ = book.give_back();
     two && stopped && enlisted && idle && told
@@ -316,8 +328,9 @@ fn engines(book: Book<ScriptedCloud>) -> bool {
 #[test]
 fn engines_stop_and_are_enlisted(rt: HostRuntime) -> Result<(), Fail> {
     let cloud = cloud(rt.alloc(), 1, b"")?;
+    let nothing = Registry::empty(rt.alloc());
     let done = match Book::recover(rt.alloc(), cloud, 2) {
-        Opened::Book(book) => engines(book),
+        Opened::Book(book) => engines(book, &nothing),
         Opened::Disagree(_cloud, _token) => false,
         Opened::CloudFault(_cloud) => false,
         Opened::Memory(_cloud) => false,

@@ -14,6 +14,7 @@ use crate::poll::poll_for;
 use check_steps::{finish, take};
 use core_state::{Entry, Made, Roomed, Stage, State};
 use heat_plan::{EngineNo, Refusal};
+use hot_registry::Registry;
 use provider::Provider;
 use std::alloc::Global;
 use step_reads::{Task, next_of};
@@ -34,6 +35,7 @@ pub enum Turn {
 /// One turn of an engine whose number was drawn.
 pub(crate) fn turn_of<P: Provider>(
     alloc: Global,
+    registry: &Registry,
     state: &mut State,
     entries: &mut Roomed<Entry>,
     cloud: &mut P,
@@ -58,7 +60,7 @@ pub(crate) fn turn_of<P: Provider>(
         }
         Task::Work(job) => match job.stage {
             Stage::Taken => {
-                let made = begin_job(alloc, state, e, job);
+                let made = begin_job(alloc, registry, state, e, job);
                 make_quietly(state, entries, made)
             }
             Stage::Asking => ask_for(alloc, state, entries, cloud, e),

@@ -9,8 +9,6 @@ use Rattle.sync_points.specs.declared.point.Input.{Input}
 use Rattle.hot_resolve.specs.Resolutions.{resolved_of}
 use Rattle.hot_resolve.specs.Resolve.{Resolved, resolve}
 use Rattle.hot_resolve.specs.declared.resolving.Resolution.{Resolution}
-use Rattle.type_catalog.specs.Changes.{ChangeOf}
-use Rattle.type_catalog.specs.declared.effect.Effect.{Effect}
 use Rattle.step_relation.specs.Inputs.{AreKnown}
 use Rattle.check_steps.specs.Prepares.{IsBeginPrepared, IsGivenFor, IsPrepared, Resolves}
 use Rattle.check_steps.specs.declared.looks.BeginWork.{BeginWork}
@@ -28,11 +26,6 @@ resolves plan item inputs needs known given r result needs_are known_are given_i
   known_are = subst (λ (ns : List (List ℕ)). AreKnown inputs ns known) needs_are known_are;
   result_is = subst (λ (ks : List KnownFacts). resolve plan item ks ≡ result) given_is (sym resolved ∙ is);
 }
-
--- the change is judged by the item's own list
-pub judged_by : (softs its : List (List ℕ)) (old new : Members) (effect : Effect) → softs ≡ its
-    → ChangeOf softs old new effect → ChangeOf its old new effect
-judged_by softs its old new effect is change = subst (λ (xs : List (List ℕ)). ChangeOf xs old new effect) is change
 
 -- the same plan and inputs are given the same
 pub given_over : (p q : PlanData) (item : Item) (xs ys : List Input) (props : Members) (it : Prepared) → p ≡ q

@@ -19,28 +19,29 @@ use Rattle.converge_call.specs.Runs.{RunBreaks, TurnBreaks, break_of}
 use Rattle.converge_call.specs.Runs as runs
 use Rattle.converge_call.specs.Lines.{AskedBreaks, LineDoes, LineBreaks}
 use Rattle.converge_call.specs.Lines as lines
+use Rattle.converge_call.specs.Stocks.{Stock}
 use Rattle.converge_call.specs.Drives.{Streams, Written, LineAnswered, Drove}
 use Rattle.converge_call.specs.Drives as drives
 use Rattle.converge_call.proofs.Reporting.{seen_before}
 
 -- the same answer over the drive's own opening and the line that was read
-pub answered_as : (number : ℕ) (line read : List ℕ) (p o : Opening) (old new : Page) (holds holds_new : Option (List ℕ))
-    (result : Result (Unit {0}) Exit)
-    → line ≡ read → p ≡ o → LineAnswered p number line old new holds holds_new result
-    → LineAnswered o number read old new holds holds_new result
-answered_as number line read p o old new holds holds_new result same_line same_opening it =
-    subst (λ (x : Opening). LineAnswered x number read old new holds holds_new result) same_opening
-    (subst (λ (l : List ℕ). LineAnswered p number l old new holds holds_new result) same_line it)
+pub answered_as : (number : ℕ) (line read : List ℕ) (p o : Opening) (t : Stock) (old new : Page)
+    (holds holds_new : Option (List ℕ)) (result : Result (Unit {0}) Exit)
+    → line ≡ read → p ≡ o → LineAnswered p t number line old new holds holds_new result
+    → LineAnswered o t number read old new holds holds_new result
+answered_as number line read p o t old new holds holds_new result same_line same_opening it =
+    subst (λ (x : Opening). LineAnswered x t number read old new holds holds_new result) same_opening
+    (subst (λ (l : List ℕ). LineAnswered p t number l old new holds holds_new result) same_line it)
 
-module _ (o : Opening) (number : ℕ) (line : List ℕ) (old new : Page) (holds : Option (List ℕ)) where
+module _ (o : Opening) (t : Stock) (number : ℕ) (line : List ℕ) (old new : Page) (holds : Option (List ℕ)) where
   -- what a line did
   abbrev LineDone : Result (Unit {0}) Exit → Type 0
-  LineDone done = HasDone (LineDoes o old.entries number line) (LineBreaks line) old new done
+  LineDone done = HasDone (LineDoes o old.entries t number line) (LineBreaks line) old new done
 
   -- a line that was broken off
   pub broken_answered : (done answered : Result (Unit {0}) Exit) (why : Exit) → LineDone done → done ≡ Err why
       → answered ≡ Err why
-      → LineAnswered o number line old new holds holds answered
+      → LineAnswered o t number line old new holds holds answered
   broken_answered done answered why (notes.did es does is ended) failed same = cc
   broken_answered done answered why (notes.broke es cause breaks is ended) failed same =
       let both : cause ≡ why = cc in
@@ -51,7 +52,7 @@ module _ (o : Opening) (number : ℕ) (line : List ℕ) (old new : Page) (holds 
       (from : ℕ) → LineDone done
       → done ≡ Ok tt → opened ≡ o.state → from ≡ length old.entries
       → Written holds holds_new (text_after opened new.entries from) answered
-      → LineAnswered o number line old new holds holds_new answered
+      → LineAnswered o t number line old new holds holds_new answered
   done_answered holds_new done answered opened from (notes.did es does is ended) went same at written =
       drives.done es does is (subst (λ (s : StateData). Written holds holds_new
       (text_after s new.entries (length old.entries)) answered) same
@@ -59,19 +60,19 @@ module _ (o : Opening) (number : ℕ) (line : List ℕ) (old new : Page) (holds 
   done_answered holds_new done answered opened from (notes.broke es cause breaks is ended) went same at written = cc
 
 -- what a line added
-grows_by : (o : Opening) (number : ℕ) (line : List ℕ) (old new : Page) (done : Result (Unit {0}) Exit)
-    → HasDone (LineDoes o old.entries number line) (LineBreaks line) old new done
+grows_by : (o : Opening) (t : Stock) (number : ℕ) (line : List ℕ) (old new : Page) (done : Result (Unit {0}) Exit)
+    → HasDone (LineDoes o old.entries t number line) (LineBreaks line) old new done
     → (es : List Entry) × (new.entries ≡ old.entries ++ es)
-grows_by o number line old new done (notes.did es does is went) = (es, is)
-grows_by o number line old new done (notes.broke es why breaks is failed) = (es, is)
+grows_by o t number line old new done (notes.did es does is went) = (es, is)
+grows_by o t number line old new done (notes.broke es why breaks is failed) = (es, is)
 
-module _ (o : Opening) (number : ℕ) (line : List ℕ) (old new : Page) (done : Result (Unit {0}) Exit)
-    (ended : HasDone (LineDoes o old.entries number line) (LineBreaks line) old new done) where
+module _ (o : Opening) (t : Stock) (number : ℕ) (line : List ℕ) (old new : Page) (done : Result (Unit {0}) Exit)
+    (ended : HasDone (LineDoes o old.entries t number line) (LineBreaks line) old new done) where
   -- who has seen all before a line has seen all before what it adds
   pub seen_then : (seen : SeenData) (first last : StateData) (from : ℕ) → last ≡ first → from ≡ length old.entries
       → seen ≡ seen_after (seen_of first) old.entries → seen ≡ seen_after (seen_of last) (take from new.entries)
   seen_then seen first last from same at was =
-      let (es, is) = grows_by o number line old new done ended in
+      let (es, is) = grows_by o t number line old new done ended in
       was ∙ sym (seen_before (seen_of first) old.entries new.entries es is)
       ∙ ap (λ (s : StateData). seen_after (seen_of s) (take (length old.entries) new.entries)) (sym same)
       ∙ ap (λ (n : ℕ). seen_after (seen_of last) (take n new.entries)) (sym at)
@@ -110,7 +111,7 @@ asked_broken_for (form.Cancel name) old new es why it = undone_is old new es why
 asked_broken_for (form.Status name) old new es why it = undone_is old new es why it
 asked_broken_for (form.Resources name) old new es why it = undone_is old new es why it
 asked_broken_for (form.Outputs name) old new es why it = undone_is old new es why it
-asked_broken_for (form.Types catalogue) old new es why it = undone_is old new es why it
+asked_broken_for (form.Types given) old new es why it = undone_is old new es why it
 asked_broken_for (form.Run asked) old new es why it = run_broken_for asked old new es why it
 asked_broken_for (form.Turn e) old new es why it = turn_broken_for e old new es why it
 asked_broken_for (form.Stop e) old new es why it = undone_is old new es why it
@@ -131,29 +132,31 @@ not_broken_for why other (inr worn) same (inl is) = cc
 not_broken_for why other (inr worn) same (inr is) = cc
 
 -- the source has no part in a line's answer
-pub never_read : (o : Opening) (number : ℕ) (line : List ℕ) (old new : Page) (holds holds_new : Option (List ℕ))
-    (answered : Result (Unit {0}) Exit) (why : Exit) → LineAnswered o number line old new holds holds_new answered
+pub never_read : (o : Opening) (t : Stock) (number : ℕ) (line : List ℕ) (old new : Page)
+    (holds holds_new : Option (List ℕ)) (answered : Result (Unit {0}) Exit) (why : Exit)
+        → LineAnswered o t number line old new holds holds_new answered
     → answered ≡ Err why → why ≡ exit.ReadFault → ⊥
-never_read o number line old new holds holds_new answered why
+never_read o t number line old new holds holds_new answered why
     (drives.done es does is (drives.all grows ended)) failed same = cc
-never_read o number line old new holds holds_new answered why
+never_read o t number line old new holds holds_new answered why
     (drives.done es does is (drives.first written rest cause parts grows drives.write_fault ended)) failed same = cc
-never_read o number line old new holds holds_new answered why
+never_read o t number line old new holds holds_new answered why
     (drives.done es does is (drives.first written rest cause parts grows drives.no_memory ended)) failed same = cc
-never_read o number line old new holds holds_new answered why (drives.broke es cause breaks is kept ended) failed same =
+never_read o t number line old new holds holds_new answered why
+    (drives.broke es cause breaks is kept ended) failed same =
     let both : cause ≡ why = cc in
     not_broken_for cause exit.ReadFault (broken_for line old.state new.state es cause breaks) (both ∙ same) (inl refl)
 
 -- no drive ends for its words
-pub never_usage : (o : Opening) (old new : Streams) (last : StateData) (h : List Entry) (status : Exit)
-    → Drove o old new last h status → status ≡ exit.Usage → ⊥
-never_usage o old new last h status (drives.done all run read text is) same = cc
-never_usage o old new last h status (drives.too_long all run read text is) same = cc
-never_usage o old new last h status (drives.not_read all run read text (inl is)) same = cc
-never_usage o old new last h status (drives.not_read all run read text (inr is)) same = cc
-never_usage o old new last h status (drives.broken_off all mid so_far line rest run breaks parts read text) same =
+pub never_usage : (o : Opening) (first : Stock) (old new : Streams) (last : StateData) (h : List Entry) (status : Exit)
+    → Drove o first old new last h status → status ≡ exit.Usage → ⊥
+never_usage o first old new last h status (drives.done all run read text is) same = cc
+never_usage o first old new last h status (drives.too_long all run read text is) same = cc
+never_usage o first old new last h status (drives.not_read all run read text (inl is)) same = cc
+never_usage o first old new last h status (drives.not_read all run read text (inr is)) same = cc
+never_usage o first old new last h status (drives.broken_off all mid so_far line rest run breaks parts read text) same =
     not_broken_for status exit.Usage (broken_for line mid last rest status breaks) same (inr refl)
-never_usage o old new last h status
-    (drives.not_written all mid so_far line es written rest run does parts read text grows drives.write_fault) same = cc
-never_usage o old new last h status
-    (drives.not_written all mid so_far line es written rest run does parts read text grows drives.no_memory) same = cc
+never_usage o first old new last h status
+    (drives.not_written all mid so_far line es written rest t run behind does parts read text grows drives.write_fault) same = cc
+never_usage o first old new last h status
+    (drives.not_written all mid so_far line es written rest t run behind does parts read text grows drives.no_memory) same = cc

@@ -17,6 +17,7 @@ use Rattle.converge_call.specs.Runs.{RunBreaks, TurnBreaks, break_of}
 use Rattle.converge_call.specs.Runs as runs
 use Rattle.converge_call.specs.Lines.{AskedBreaks, LineBreaks}
 use Rattle.converge_call.specs.Lines as lines
+use Rattle.converge_call.specs.Stocks.{Stock}
 use Rattle.converge_call.specs.Drives.{LimitRead, StaysWithin, EndsWriting, Drove}
 use Rattle.converge_call.specs.Drives as drives
 use Rattle.converge_call.specs.Ends.{Outside, streams_of, IsCalm, EndsCalmly}
@@ -62,7 +63,7 @@ asked_worn (form.Cancel name) old new es why it worn = undone_worn old new es wh
 asked_worn (form.Status name) old new es why it worn = undone_worn old new es why it worn
 asked_worn (form.Resources name) old new es why it worn = undone_worn old new es why it worn
 asked_worn (form.Outputs name) old new es why it worn = undone_worn old new es why it worn
-asked_worn (form.Types catalogue) old new es why it worn = undone_worn old new es why it worn
+asked_worn (form.Types given) old new es why it worn = undone_worn old new es why it worn
 asked_worn (form.Run asked) old new es why it worn = run_worn asked old new es why it worn
 asked_worn (form.Turn e) old new es why it worn = turn_worn e old new es why it worn
 asked_worn (form.Stop e) old new es why it worn = undone_worn old new es why it worn
@@ -93,18 +94,20 @@ broke text mid last es status unworn breaks (inl memory) = inr memory
 broke text mid last es status unworn breaks (inr worn) =
     let (e, by) = line_worn text mid last es status breaks worn in absurd (unworn e by)
 
-pub calm_end : (o : Opening) (old new : Outside) (last : StateData) (h : List Entry) (status : Exit)
-    → Drove o (streams_of old) (streams_of new) last h status
+pub calm_end : (o : Opening) (first : Stock) (old new : Outside) (last : StateData) (h : List Entry) (status : Exit)
+    → Drove o first (streams_of old) (streams_of new) last h status
     → (status ≡ exit.ReadFault → Rose old.read_faults new.read_faults)
     → (status ≡ exit.WriteFault → Rose old.write_faults new.write_faults)
     → IsCalm old new last → EndsCalmly status
-calm_end o old new last h status (drives.done all run read text is) _ _ calm = inl is
-calm_end o old new last h status (drives.too_long all run limit text is) _ _ calm =
+calm_end o first old new last h status (drives.done all run read text is) _ _ calm = inl is
+calm_end o first old new last h status (drives.too_long all run limit text is) _ _ calm =
     absurd (no_limit old.left all calm.within limit)
-calm_end o old new last h status (drives.not_read all run read text (inl is)) rose _ calm = absurd (calm.read (rose is))
-calm_end o old new last h status (drives.not_read all run read text (inr is)) _ _ calm = inr is
-calm_end o old new last h status (drives.broken_off all mid so_far line rest run breaks parts read text) _ _ calm =
+calm_end o first old new last h status (drives.not_read all run read text (inl is)) rose _ calm = absurd (calm.read
+    (rose is))
+calm_end o first old new last h status (drives.not_read all run read text (inr is)) _ _ calm = inr is
+calm_end o first old new last h status
+    (drives.broken_off all mid so_far line rest run breaks parts read text) _ _ calm =
     broke line mid last rest status calm.unworn breaks (broken_for line mid last rest status breaks)
-calm_end o old new last h status
-    (drives.not_written all mid so_far line es written rest run does parts read text grows ends) _ write calm =
+calm_end o first old new last h status
+    (drives.not_written all mid so_far line es written rest t run behind does parts read text grows ends) _ write calm =
     wrote old new last status calm write ends

@@ -21,6 +21,11 @@ use Rattle.converge_call.specs.declared.exit.Exit.{Exit}
 use Rattle.converge_call.specs.declared.exit.Exit.TheVariants as exit
 use Rattle.converge_call.specs.Lines.{LineDoes, LineBreaks, Serial}
 use Rattle.converge_call.specs.Lines as lines
+use Rattle.converge_call.specs.Stocks.{Stock, StockBehind, CatalogBehind, stock, first_stock}
+use Rattle.hot_catalog.specs.declared.catalog.Catalog.{Catalog}
+use Rattle.hot_registry.specs.declared.custom.NamedTest.{NamedTest}
+use Rattle.hot_registry.specs.declared.kind.KindDef.{KindDef}
+use Rattle.converge_call.specs.Stocks as stocks
 use Rattle.converge_call.specs.Drives.{AreRead, PassesLimit, FirstRead, LimitRead, AllRead, Streams, streams, Written}
 use Rattle.converge_call.specs.Drives.{LineAnswered, Drove, EndsWriting}
 use Rattle.converge_call.specs.Drives as drives
@@ -32,10 +37,11 @@ Reached left front lines given =
     (bytes : List ℕ) → left ≡ Some bytes → (rest : List ℕ) × (front ≡ Some rest) × AreRead bytes lines rest given
 
 -- a drive so far, before the line of this number
-pub record SoFar (old : Streams) (o : Opening) (now : Page) (front holds : Option (List ℕ))
+pub record SoFar (old : Streams) (o : Opening) (first now_in : Stock) (now : Page) (front holds : Option (List ℕ))
     (given number : ℕ) : Type 0 where
   pub lines : List (List ℕ)
-  pub serial : Serial o lines now.state now.entries
+  pub serial : Serial o first lines now.state now.entries
+  pub behind : StockBehind first lines now_in
   pub count : length lines + 1 ≡ number
   pub few : length lines ≤ given
   pub within : given ≤ script_limit
@@ -69,13 +75,19 @@ nothing_told opening entries from all =
 pub nothing_written : (holds : Option (List ℕ)) (text : List ℕ) → text ≡ [] → Written holds holds text (Ok tt)
 nothing_written holds text none = drives.all (grown-none holds ∙ ap (λ (t : List ℕ). grown holds t) (sym none)) refl
 
+-- a catalogue of what is registered alone
+pub first_is : (kinds : List KindDef) (tests : List NamedTest) (c : Catalog) → c.registered ≡ kinds → c.given ≡ []
+    → stock tests c ≡ first_stock kinds tests
+first_is kinds tests c registered given = rw (registered, given) refl
+
 -- before the first line
-pub starts : (old : Streams) (o : Opening) (now : Page) (held : List ℕ) (given : ℕ) → now.state ≡ o.state
-    → now.entries ≡ []
-    → held ≡ [] → given ≡ 0 → SoFar old o now (ahead held old.left) old.holds given 1
-starts old o now held given at_first none empty zero = record {
+pub starts : (old : Streams) (o : Opening) (first t : Stock) (now : Page) (held : List ℕ) (given : ℕ)
+    → now.state ≡ o.state → now.entries ≡ [] → t ≡ first
+    → held ≡ [] → given ≡ 0 → SoFar old o first t now (ahead held old.left) old.holds given 1
+starts old o first t now held given at_first none same empty zero = record {
   lines = [];
   serial = lines.begins [] now.state now.entries refl at_first none;
+  behind = stocks.begins [] t refl same;
   count = refl;
   few = omega arith;
   within = let none = zero in omega (arith, none);
@@ -88,8 +100,8 @@ starts old o now held given at_first none empty zero = record {
   text = grown-none old.holds ∙ ap (λ (h : List Entry). grown old.holds (text_of o.state h)) (sym none);
 }
 
-module _ (old : Streams) (o : Opening) (now : Page) (front holds : Option (List ℕ)) (given number : ℕ)
-    (so : SoFar old o now front holds given number) where
+module _ (old : Streams) (o : Opening) (first t : Stock) (now : Page) (front holds : Option (List ℕ))
+    (given number : ℕ) (so : SoFar old o first t now front holds given number) where
   -- the lines with one more
   abbrev with_line : List ℕ → List (List ℕ)
   with_line line = so.lines ++ line ∷ []
@@ -128,51 +140,55 @@ module _ (old : Streams) (o : Opening) (now : Page) (front holds : Option (List 
       ∙ ap (λ (t : List ℕ). grown old.holds t) (sym parted)
 
   -- the line's number is that of its place
-  numbered : (line : List ℕ) (es : List Entry) (new : Page) → LineDoes o now.entries number line now.state new.state es
-      → LineDoes o now.entries (length so.lines + 1) line now.state new.state es
-  numbered line es new does = subst (λ (n : ℕ). LineDoes o now.entries n line now.state new.state es)
+  numbered : (line : List ℕ) (es : List Entry) (new : Page)
+      → LineDoes o now.entries t number line now.state new.state es
+      → LineDoes o now.entries t (length so.lines + 1) line now.state new.state es
+  numbered line es new does = subst (λ (n : ℕ). LineDoes o now.entries t n line now.state new.state es)
       (sym so.count) does
 
-  serial_on : (line : List ℕ) (es : List Entry) (new : Page) → LineDoes o now.entries number line now.state new.state es
-      → new.entries ≡ now.entries ++ es
-      → Serial o (with_line line) new.state new.entries
+  serial_on : (line : List ℕ) (es : List Entry) (new : Page)
+      → LineDoes o now.entries t number line now.state new.state es → new.entries ≡ now.entries ++ es
+      → Serial o first (with_line line) new.state new.entries
   serial_on line es new does is =
-      lines.adds so.lines now.state now.entries line (with_line line) new.state es new.entries so.serial
+      lines.adds so.lines now.state now.entries t line (with_line line) new.state es new.entries so.serial so.behind
       (numbered line es new does) refl is
 
   -- a line was done and what it added is written
-  pub goes_on : (front_new : Option (List ℕ)) (given_new : ℕ) (line : List ℕ) (new : Page) (holds_new : Option (List ℕ))
-      (result : Result (Unit {0}) Exit)
+  pub goes_on : (front_new : Option (List ℕ)) (given_new : ℕ) (line : List ℕ) (u : Stock) (new : Page)
+      (holds_new : Option (List ℕ)) (result : Result (Unit {0}) Exit)
       → IsNextOf given front (next.Line line) front_new given_new → given < given_new → given_new ≤ script_limit
-      → LineAnswered o number line now new holds holds_new result → result ≡ Ok tt
-      → SoFar old o new front_new holds_new given_new (number + 1)
-  goes_on front_new given_new line new holds_new result told rises within
-      (drives.done es does is (drives.all grows ended)) went = record {
+      → LineAnswered o t number line now new holds holds_new result → result ≡ Ok tt
+      → CatalogBehind line t.catalog u.catalog → u.tests ≡ t.tests
+      → SoFar old o first u new front_new holds_new given_new (number + 1)
+  goes_on front_new given_new line u new holds_new result told rises within
+      (drives.done es does is (drives.all grows ended)) went kinds tests = record {
         lines = with_line line;
         serial = serial_on line es new does is;
+        behind = stocks.adds so.lines t line (with_line line) u so.behind kinds tests refl;
         count = let one = length-append so.lines (line ∷ []) in let n = so.count in omega (arith, one, n);
         few = let one = length-append so.lines (line ∷ []) in let n = so.few in omega (arith, one, n, rises);
         within = within;
         reached = read_on front_new given_new line told;
         text = written_on es new holds_new _ (text_on es new is) grows;
       }
-  goes_on front_new given_new line new holds_new result told rises within
-      (drives.done es does is (drives.first written rest why parts grows ends ended)) went = cc
-  goes_on front_new given_new line new holds_new result told rises within
-      (drives.broke es why breaks is same ended) went = cc
+  goes_on front_new given_new line u new holds_new result told rises within
+      (drives.done es does is (drives.first written rest why parts grows ends ended)) went kinds tests = cc
+  goes_on front_new given_new line u new holds_new result told rises within
+      (drives.broke es why breaks is same ended) went kinds tests = cc
 
   -- a line was broken off, or what it added isn't all written
   pub ends_at : (front_new : Option (List ℕ)) (given_new : ℕ) (line : List ℕ) (new : Page)
       (left_new holds_new : Option (List ℕ)) (result : Result (Unit {0}) Exit) (why : Exit)
       → IsNextOf given front (next.Line line) front_new given_new
-      → LineAnswered o number line now new holds holds_new result → result ≡ Err why
-      → Drove o old (streams left_new holds_new) new.state new.entries why
+      → LineAnswered o t number line now new holds holds_new result → result ≡ Err why
+      → Drove o first old (streams left_new holds_new) new.state new.entries why
   ends_at front_new given_new line new left_new holds_new result why told
       (drives.done es does is (drives.all grows ended)) went = cc
   ends_at front_new given_new line new left_new holds_new result why told
       (drives.done es does is (drives.first written rest cause parts grows ends ended)) went =
       let same : cause ≡ why = cc in
-      drives.not_written so.lines now.state now.entries line es written rest so.serial (numbered line es new does) is
+      drives.not_written so.lines now.state now.entries line es written rest t so.serial so.behind
+      (numbered line es new does) is
       (first_read (with_line line) front_new given_new (read_on front_new given_new line told)) parts
       (grows ∙ ap (λ (h : Option (List ℕ)). grown h written) so.text
       ∙ grown-grown old.holds (text_of o.state now.entries) written)
@@ -187,7 +203,7 @@ module _ (old : Streams) (o : Opening) (now : Page) (front holds : Option (List 
   -- nothing is ahead
   pub ends_well : (held_new : List ℕ) (left_new : Option (List ℕ)) (given_new : ℕ)
       → IsNextOf given front next.End (ahead held_new left_new) given_new
-      → Drove o old (streams left_new holds) now.state now.entries exit.Done
+      → Drove o first old (streams left_new holds) now.state now.entries exit.Done
   ends_well held_new left_new given_new told = drives.done so.lines so.serial all so.text refl where
     nothing_left : (left : Option (List ℕ)) → ahead held_new left ≡ Some [] → left ≡ Some []
     nothing_left None h = cc
@@ -210,25 +226,25 @@ module _ (old : Streams) (o : Opening) (now : Page) (front holds : Option (List 
         )
 
   pub ends_unread : (left_new : Option (List ℕ)) (why : Exit) → (why ≡ exit.ReadFault) ⊎ (why ≡ exit.Memory)
-      → Drove o old (streams left_new holds) now.state now.entries why
+      → Drove o first old (streams left_new holds) now.state now.entries why
   ends_unread left_new why cause =
       drives.not_read so.lines so.serial (first_read so.lines front given so.reached) so.text cause
 
   ends_at_limit : (left_new : Option (List ℕ)) → ((rest : List ℕ) → front ≡ Some rest → PassesLimit rest given)
-      → Drove o old (streams left_new holds) now.state now.entries exit.TooLong
+      → Drove o first old (streams left_new holds) now.state now.entries exit.TooLong
   ends_at_limit left_new passes = drives.too_long so.lines so.serial limit so.text refl where
     limit : LimitRead old.left so.lines
     limit bytes is = let (rest, front_is, read) = so.reached bytes is in (rest, given, read, passes rest front_is)
 
   pub line_too_long : (front_new left_new : Option (List ℕ)) (given_new : ℕ)
       → IsNextOf given front next.LineTooLong front_new given_new
-      → Drove o old (streams left_new holds) now.state now.entries exit.TooLong
+      → Drove o first old (streams left_new holds) now.state now.entries exit.TooLong
   line_too_long front_new left_new given_new told =
       ends_at_limit left_new (λ rest is. let (last, new_is, (long, stays)) = told rest is in inl long)
 
   pub script_too_long : (front_new left_new : Option (List ℕ)) (given_new : ℕ)
       → IsNextOf given front next.ScriptTooLong front_new given_new
-      → Drove o old (streams left_new holds) now.state now.entries exit.TooLong
+      → Drove o first old (streams left_new holds) now.state now.entries exit.TooLong
   script_too_long front_new left_new given_new told =
       ends_at_limit left_new (λ rest is. let (last, new_is, (short, long, stays)) = told rest is in inr (short, long))
 
@@ -236,7 +252,7 @@ module _ (old : Streams) (o : Opening) (now : Page) (front holds : Option (List 
   pub too_long_of : (front_new left_new : Option (List ℕ)) (given_new : ℕ) (it : Next)
       → (it ≡ next.LineTooLong) ⊎ (it ≡ next.ScriptTooLong)
       → IsNextOf given front it front_new given_new
-      → Drove o old (streams left_new holds) now.state now.entries exit.TooLong
+      → Drove o first old (streams left_new holds) now.state now.entries exit.TooLong
   too_long_of front_new left_new given_new it either told = elim either [
     | inl is ↦ line_too_long front_new left_new given_new
         (subst (λ (x : Next). IsNextOf given front x front_new given_new) is told)

@@ -6,6 +6,7 @@ use Rattle.provider.specs.Cloud.{Cloud}
 use Rattle.book.specs.Kept.{Shown, IsSameBook, HasRun, HasHeadline, opening_of}
 use Rattle.converge_call.specs.declared.exit.Exit.{Exit}
 use Rattle.converge_call.specs.declared.exit.Exit.TheVariants as exit
+use Rattle.converge_call.specs.Stocks.{Stock}
 use Rattle.converge_call.specs.Drives.{Drove}
 use Rattle.converge_call.specs.Ends.{Outside, streams_of, HasDriven}
 use Rattle.converge_call.proofs.Completing.{calm_end}
@@ -15,21 +16,21 @@ pub same_opening : {P : Type 0} (cloud_of : P → Cloud) (old new : Shown P) →
     → opening_of cloud_of new ≡ opening_of cloud_of old
 same_opening {P} cloud_of old new same = rw (same.opening, same.origin) refl
 
-pub as_driven : {P : Type 0} (cloud_of : P → Cloud) (first : Shown P) (old new : Outside) (status : Exit)
+pub as_driven : {P : Type 0} (cloud_of : P → Cloud) (t : Stock) (first : Shown P) (old new : Outside) (status : Exit)
     (last b : Shown P)
     → last ≡ b → IsSameBook first last
-    → Drove (opening_of cloud_of first) (streams_of old) (streams_of new) last.state last.entries status
+    → Drove (opening_of cloud_of first) t (streams_of old) (streams_of new) last.state last.entries status
     → (status ≡ exit.ReadFault → Rose old.read_faults new.read_faults)
     → (status ≡ exit.WriteFault → Rose old.write_faults new.write_faults)
     → HasRun cloud_of last → HasHeadline cloud_of last
-    → HasDriven cloud_of old new status b
-as_driven {P} cloud_of first old new status last b same kept drove read write run headline =
-    subst (λ (x : Shown P). HasDriven cloud_of old new status x) same (record {
-      drove = subst (λ (o : Opening). Drove o (streams_of old) (streams_of new) last.state last.entries status)
+    → HasDriven cloud_of t old new status b
+as_driven {P} cloud_of t first old new status last b same kept drove read write run headline =
+    subst (λ (x : Shown P). HasDriven cloud_of t old new status x) same (record {
+      drove = subst (λ (o : Opening). Drove o t (streams_of old) (streams_of new) last.state last.entries status)
           (sym (same_opening cloud_of first last kept)) drove;
       read = read;
       write = write;
-      calm = calm_end _ old new _ _ status drove read write;
+      calm = calm_end _ t old new _ _ status drove read write;
       run = run;
       headline = headline;
     })

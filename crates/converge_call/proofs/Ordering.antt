@@ -10,9 +10,9 @@ use Rattle.core_state.specs.declared.entry.Entry.{Entry}
 use Rattle.core_state.specs.State.{StateData}
 use Rattle.step_relation.specs.Refusals.{RefusesCancel, RefusesCreate, RefusesDelete, RefusesUpdate}
 use Rattle.command_steps.specs.Answers.{Cancels, Creates, Deletes, Updates}
-use Rattle.plain_templates.specs.Faults.{fault_code}
-use Rattle.plain_templates.specs.declared.fault.PlanFault.{PlanFault}
-use Rattle.plain_templates.specs.declared.fault.PlanFault.TheVariants as fault
+use Rattle.template_plans.specs.Faults.{fault_code}
+use Rattle.template_plans.specs.declared.fault.PlanFault.{PlanFault}
+use Rattle.template_plans.specs.declared.fault.PlanFault.TheVariants as fault
 use Rattle.script_lines.specs.Misreads.{misread_code}
 use Rattle.script_lines.specs.declared.misread.Misread.{Misread}
 use Rattle.script_lines.specs.declared.misread.Misread.TheVariants as misread

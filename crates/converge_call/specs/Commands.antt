@@ -1,5 +1,9 @@
--- What the lines do that make one step by the reader of commands: the commands, and the changes of engines.
-use Rattle.std.specs.Prelude.{◌≡◌, ℕ, List, Some}
+-- What the lines do that make one step by the reader of commands: the commands, and the changes of engines; and those
+-- that give kinds, which make none.
+use Rattle.std.specs.Prelude.{◌≡◌, ℕ, List, Some, None, codes}
+use Rattle.heat_value.specs.Data.{Data}
+use Rattle.heat_value.specs.declared.path.Step.{Step}
+use Rattle.hot_catalog.specs.Catalogs.{read_flaw}
 use Rattle.heat_plan.specs.Plans.{PlanData}
 use Rattle.heat_plan.specs.Refusals.{code_of}
 use Rattle.heat_plan.specs.declared.refusal.Refusal.{Refusal}
@@ -10,12 +14,14 @@ use Rattle.core_state.specs.State.{StateData}
 use Rattle.step_relation.specs.Refusals.{RefusesEnlist, RefusesStop}
 use Rattle.book.specs.Below.{Enlists, Stops}
 use Rattle.script_lines.specs.Requested.{BodyData}
-use Rattle.plain_templates.specs.Plans.{IsPlanOf, IsNoPlan}
-use Rattle.plain_templates.specs.Faults.{fault_code, fault_path}
-use Rattle.plain_templates.specs.declared.fault.PlanFault.{PlanFault}
+use Rattle.template_plans.specs.Plans.{Beside, beside, IsPlanOf, IsNoPlan}
+use Rattle.template_plans.specs.Faults.{fault_code, fault_path}
+use Rattle.template_plans.specs.declared.fault.PlanFault.{PlanFault}
 use Rattle.book.specs.Commands.{IsOrder, RefusesOrder}
+use Rattle.book.specs.Quiet.{number_of}
 use Rattle.book.specs.declared.commanding.StackCommand.{StackCommand}
-use Rattle.converge_call.specs.Notes.{refused, refused_at, Notes}
+use Rattle.converge_call.specs.Notes.{refused, refused_at, Notes, IsNothing}
+use Rattle.converge_call.specs.Stocks.{Stock}
 
 -- the line was refused with the code of this refusal
 pub record IsRefusedFor (number : ℕ) (r : Refusal) (old new : StateData) (es : List Entry) : Type 0 where
@@ -39,13 +45,24 @@ pub record IsUnplannedFor (number : ℕ) (why : PlanFault) (old new : StateData)
   pub its_code : fault_code why ≡ Some code
   pub noted : Notes (refused_at number code (fault_path why)) old new es
 
--- a command with the plan of a body, which may have none
-pub data BodyDoes (number : ℕ) (body : BodyData) (order : PlanData → StackCommand) (old new : StateData)
-    (es : List Entry) : Type 0 where
-  planned : (plan : PlanData) → IsPlanOf body plan → OrderDoes number (order plan) old new es
-      → BodyDoes number body order old new es
-  unplanned : (why : PlanFault) → IsNoPlan body why → IsUnplannedFor number why old new es
-      → BodyDoes number body order old new es
+-- what stands beside a body for the stack of this name: the stack's number, or the one that a create would draw, and
+-- what is in stock
+abbrev pub beside_body : Stock → StateData → List ℕ → Beside
+beside_body t s name = beside (record { stack = name; no = number_of s name }) t.tests t.catalog
+
+-- a command on the stack of this name with the plan of a body, which may have none
+pub data BodyDoes (t : Stock) (number : ℕ) (name : List ℕ) (body : BodyData) (order : PlanData → StackCommand)
+    (old new : StateData) (es : List Entry) : Type 0 where
+  planned : (plan : PlanData) → IsPlanOf body (beside_body t old name) plan → OrderDoes number (order plan) old new es
+      → BodyDoes t number name body order old new es
+  unplanned : (why : PlanFault) → IsNoPlan body (beside_body t old name) why → IsUnplannedFor number why old new es
+      → BodyDoes t number name body order old new es
+
+-- a catalogue is taken, or the line was refused with the place of the catalogue's first fault
+pub data TypesDoes (t : Stock) (number : ℕ) (given : Data) (old new : StateData) (es : List Entry) : Type 0 where
+  taken : read_flaw t.catalog given ≡ None → IsNothing old new es → TypesDoes t number given old new es
+  not_taken : (path : List Step) → read_flaw t.catalog given ≡ Some path
+      → Notes (refused_at number (codes "L09") (Some path)) old new es → TypesDoes t number given old new es
 
 -- an engine is stopped
 abbrev pub StopDoes : ℕ → ℕ → StateData → StateData → List Entry → Type 0

@@ -11,6 +11,7 @@ use Rattle.book.specs.Quiet.{Page}
 use Rattle.converge_call.specs.declared.exit.Exit.{Exit}
 use Rattle.converge_call.specs.declared.exit.Exit.TheVariants as exit
 use Rattle.converge_call.specs.Lines.{LineDoes, LineBreaks, Serial}
+use Rattle.converge_call.specs.Stocks.{Stock, StockBehind}
 
 -- a fault of the writing
 pub data EndsWriting : Exit → Type 0 where
@@ -26,14 +27,15 @@ pub data Written (holds_old holds_new : Option (List ℕ)) (text : List ℕ)
 
 -- A line was done and what it added to the text was written, or the first of it; or it was broken off, and
 -- nothing was written.
-pub data LineAnswered (o : Opening) (number : ℕ) (line : List ℕ) (old new : Page)
+pub data LineAnswered (o : Opening) (t : Stock) (number : ℕ) (line : List ℕ) (old new : Page)
     (holds_old holds_new : Option (List ℕ))
     (result : Result (Unit {0}) Exit) : Type 0 where
-  done : (es : List Entry) → LineDoes o old.entries number line old.state new.state es → new.entries ≡ old.entries ++ es
+  done : (es : List Entry) → LineDoes o old.entries t number line old.state new.state es
+      → new.entries ≡ old.entries ++ es
       → Written holds_old holds_new (text_after o.state new.entries (length old.entries)) result
-      → LineAnswered o number line old new holds_old holds_new result
+      → LineAnswered o t number line old new holds_old holds_new result
   broke : (es : List Entry) (why : Exit) → LineBreaks line old.state new.state es why → new.entries ≡ old.entries ++ es
-      → holds_new ≡ holds_old → result ≡ Err why → LineAnswered o number line old new holds_old holds_new result
+      → holds_new ≡ holds_old → result ≡ Err why → LineAnswered o t number line old new holds_old holds_new result
 
 -- These are the first lines of the script, each within the limits. What is ahead are the others, and all
 -- bytes before them, line ends too, are so many.
@@ -78,24 +80,26 @@ pub record Streams : Type 0 where
 abbrev pub streams : Option (List ℕ) → Option (List ℕ) → Streams
 streams left holds = record { left = left; holds = holds }
 
--- A drive over a book on which nothing was done, from its opening to the state last with the history h:
--- the script was read to its end; the next line wasn't read; a line was broken off; a line was done, and of
--- what it added to the text no more than a first part is written, behind the text of all lines before it.
-pub data Drove (o : Opening) (old new : Streams) (last : StateData) (h : List Entry) (status : Exit) : Type 0 where
-  done : (lines : List (List ℕ)) → Serial o lines last h → AllRead old.left new.left lines
-      → new.holds ≡ grown old.holds (text_of o.state h) → status ≡ exit.Done → Drove o old new last h status
-  too_long : (lines : List (List ℕ)) → Serial o lines last h → LimitRead old.left lines
-      → new.holds ≡ grown old.holds (text_of o.state h) → status ≡ exit.TooLong → Drove o old new last h status
-  not_read : (lines : List (List ℕ)) → Serial o lines last h → FirstRead old.left lines
+-- A drive over a book on which nothing was done, from its opening with this in stock to the state last with the
+-- history h: the script was read to its end; the next line wasn't read; a line was broken off; a line was done, and
+-- of what it added to the text no more than a first part is written, behind the text of all lines before it.
+pub data Drove (o : Opening) (first : Stock) (old new : Streams) (last : StateData) (h : List Entry)
+    (status : Exit) : Type 0 where
+  done : (lines : List (List ℕ)) → Serial o first lines last h → AllRead old.left new.left lines
+      → new.holds ≡ grown old.holds (text_of o.state h) → status ≡ exit.Done → Drove o first old new last h status
+  too_long : (lines : List (List ℕ)) → Serial o first lines last h → LimitRead old.left lines
+      → new.holds ≡ grown old.holds (text_of o.state h) → status ≡ exit.TooLong → Drove o first old new last h status
+  not_read : (lines : List (List ℕ)) → Serial o first lines last h → FirstRead old.left lines
       → new.holds ≡ grown old.holds (text_of o.state h) → (status ≡ exit.ReadFault) ⊎ (status ≡ exit.Memory)
-      → Drove o old new last h status
+      → Drove o first old new last h status
   broken_off : (lines : List (List ℕ)) (mid : StateData) (so_far : List Entry) (line : List ℕ) (rest : List Entry)
-      → Serial o lines mid so_far → LineBreaks line mid last rest status → h ≡ so_far ++ rest
+      → Serial o first lines mid so_far → LineBreaks line mid last rest status → h ≡ so_far ++ rest
       → FirstRead old.left (lines ++ line ∷ []) → new.holds ≡ grown old.holds (text_of o.state so_far)
-      → Drove o old new last h status
+      → Drove o first old new last h status
   not_written : (lines : List (List ℕ)) (mid : StateData) (so_far : List Entry) (line : List ℕ) (es : List Entry)
-      (written rest : List ℕ)
-      → Serial o lines mid so_far → LineDoes o so_far (length lines + 1) line mid last es → h ≡ so_far ++ es
+      (written rest : List ℕ) (t : Stock)
+      → Serial o first lines mid so_far → StockBehind first lines t
+      → LineDoes o so_far t (length lines + 1) line mid last es → h ≡ so_far ++ es
       → FirstRead old.left (lines ++ line ∷ []) → text_after o.state h (length so_far) ≡ written ++ rest
       → new.holds ≡ grown old.holds (text_of o.state so_far ++ written)
-      → EndsWriting status → Drove o old new last h status
+      → EndsWriting status → Drove o first old new last h status

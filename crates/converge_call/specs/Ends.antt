@@ -14,6 +14,7 @@ use Rattle.converge_call.specs.declared.exit.Exit.TheVariants as exit
 use Rattle.converge_call.specs.declared.exit.Finding.TheVariants.{Stranger}
 use Rattle.program_words.specs.declared.setup.Setup.{Setup}
 use Rattle.program_words.specs.Words.{Drives}
+use Rattle.converge_call.specs.Stocks.{Stock}
 use Rattle.converge_call.specs.Drives.{Streams, streams, StaysWithin, Drove}
 
 -- what a source and a sink show at one moment: what is left and held, and how often they have failed
@@ -47,12 +48,13 @@ pub record IsCalm (old new : Outside) (last : StateData) : Type 0 where
 abbrev pub EndsCalmly : Exit → Type 0
 EndsCalmly status = (status ≡ exit.Done) ⊎ (status ≡ exit.Memory)
 
--- A book that was opened was driven by the lines: the history is that of the lines read and what is written its text;
--- it is a run's, its calls are the cloud's trace, and the main theorem holds of it. Faults of the outside come only
--- where a count rose. Where nothing came in the way, all was done but for want of memory.
-pub record HasDriven {P : Type 0} (cloud_of : P → Cloud) (old new : Outside) (status : Exit)
+-- A book that was opened was driven by the lines, with this in stock before the first: the history is that of the lines
+-- read and what is written its text; it is a run's, its calls are the cloud's trace, and the main theorem holds of it.
+-- Faults of the outside come only where a count rose. Where nothing came in the way, all was done but for want of
+-- memory.
+pub record HasDriven {P : Type 0} (cloud_of : P → Cloud) (first : Stock) (old new : Outside) (status : Exit)
     (b : Shown P) : Type 0 where
-  pub drove : Drove (opening_of cloud_of b) (streams_of old) (streams_of new) b.state b.entries status
+  pub drove : Drove (opening_of cloud_of b) first (streams_of old) (streams_of new) b.state b.entries status
   pub read : status ≡ exit.ReadFault → Rose old.read_faults new.read_faults
   pub write : status ≡ exit.WriteFault → Rose old.write_faults new.write_faults
   pub calm : IsCalm old new b.state → EndsCalmly status

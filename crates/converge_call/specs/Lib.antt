@@ -1,4 +1,5 @@
 pub mod Notes
+pub mod Stocks
 pub mod Commands
 pub mod Shows
 pub mod Runs

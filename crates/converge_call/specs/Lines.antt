@@ -4,6 +4,7 @@ use Rattle.core_state.specs.declared.entry.Entry.{Entry}
 use Rattle.core_state.specs.declared.entry.ShowWhat.TheVariants as show
 use Rattle.core_state.specs.State.{StateData}
 use Rattle.history.specs.Opening.{Opening}
+use Rattle.heat_value.specs.Meaning.{data_of}
 use Rattle.script_lines.specs.Readings.{Reads}
 use Rattle.script_lines.specs.Misreads.{misread_code, misread_path}
 use Rattle.script_lines.specs.declared.line.Line.{Line}
@@ -13,28 +14,30 @@ use Rattle.script_lines.specs.declared.misread.Misread.{Misread}
 use Rattle.book.specs.declared.commanding.StackCommand.TheVariants as order
 use Rattle.converge_call.specs.declared.exit.Exit.{Exit}
 use Rattle.converge_call.specs.Notes.{refused, refused_at, Notes, IsNothing, IsUndone}
-use Rattle.converge_call.specs.Commands.{BodyDoes, OrderDoes, StopDoes, StartDoes}
+use Rattle.converge_call.specs.Stocks.{Stock, StockBehind}
+use Rattle.converge_call.specs.Commands.{BodyDoes, TypesDoes, OrderDoes, StopDoes, StartDoes}
 use Rattle.converge_call.specs.Shows.{ShowDoes, OutputsDoes}
 use Rattle.converge_call.specs.Runs.{RunDoes, RunBreaks, TurnDoes, TurnBreaks}
 
--- what is done behind the history h for a line that asks for this: the state behind it, and the entries that it adds
-abbrev pub AskedDoes : Opening → List Entry → ℕ → Line → StateData → StateData → List Entry → Type 0
-AskedDoes o h number Blank old new es = IsNothing old new es
-AskedDoes o h number (Create name body) old new es =
-    BodyDoes number body (λ plan. order.Create name plan body.rollback) old new es
-AskedDoes o h number (Update name body) old new es =
-    BodyDoes number body (λ plan. order.Update name plan body.rollback) old new es
-AskedDoes o h number (Delete name) old new es = OrderDoes number (order.Delete name) old new es
-AskedDoes o h number (Cancel name) old new es = OrderDoes number (order.Cancel name) old new es
-AskedDoes o h number (Status name) old new es = ShowDoes number show.Status name old new es
-AskedDoes o h number (Resources name) old new es = ShowDoes number show.Resources name old new es
-AskedDoes o h number (Outputs name) old new es = OutputsDoes number name old new es
-AskedDoes o h number (Types catalogue) old new es = Notes (refused number (codes "N00")) old new es
-AskedDoes o h number (Run asked) old new es = RunDoes o h number asked old new es
-AskedDoes o h number (Turn e) old new es = TurnDoes number e old new es
-AskedDoes o h number (Stop e) old new es = StopDoes number e old new es
-AskedDoes o h number Start old new es = StartDoes number old new es
-AskedDoes o h number Restart old new es = Notes (refused number (codes "N00")) old new es
+-- what is done behind the history h, with what is in stock, for a line that asks for this: the state behind it, and the
+-- entries that it adds
+abbrev pub AskedDoes : Opening → List Entry → Stock → ℕ → Line → StateData → StateData → List Entry → Type 0
+AskedDoes o h t number Blank old new es = IsNothing old new es
+AskedDoes o h t number (Create name body) old new es =
+    BodyDoes t number name body (λ plan. order.Create name plan body.rollback) old new es
+AskedDoes o h t number (Update name body) old new es =
+    BodyDoes t number name body (λ plan. order.Update name plan body.rollback) old new es
+AskedDoes o h t number (Delete name) old new es = OrderDoes number (order.Delete name) old new es
+AskedDoes o h t number (Cancel name) old new es = OrderDoes number (order.Cancel name) old new es
+AskedDoes o h t number (Status name) old new es = ShowDoes number show.Status name old new es
+AskedDoes o h t number (Resources name) old new es = ShowDoes number show.Resources name old new es
+AskedDoes o h t number (Outputs name) old new es = OutputsDoes number name old new es
+AskedDoes o h t number (Types given) old new es = TypesDoes t number (data_of given) old new es
+AskedDoes o h t number (Run asked) old new es = RunDoes o h number asked old new es
+AskedDoes o h t number (Turn e) old new es = TurnDoes number e old new es
+AskedDoes o h t number (Stop e) old new es = StopDoes number e old new es
+AskedDoes o h t number Start old new es = StartDoes number old new es
+AskedDoes o h t number Restart old new es = Notes (refused number (codes "N00")) old new es
 
 -- where it is broken off, and why
 abbrev pub AskedBreaks : Line → StateData → StateData → List Entry → Exit → Type 0
@@ -46,7 +49,7 @@ AskedBreaks (Cancel name) old new es why = IsUndone old new es why
 AskedBreaks (Status name) old new es why = IsUndone old new es why
 AskedBreaks (Resources name) old new es why = IsUndone old new es why
 AskedBreaks (Outputs name) old new es why = IsUndone old new es why
-AskedBreaks (Types catalogue) old new es why = IsUndone old new es why
+AskedBreaks (Types given) old new es why = IsUndone old new es why
 AskedBreaks (Run asked) old new es why = RunBreaks asked old new es why
 AskedBreaks (Turn e) old new es why = TurnBreaks e old new es why
 AskedBreaks (Stop e) old new es why = IsUndone old new es why
@@ -60,23 +63,25 @@ pub record IsMisreadFor (number : ℕ) (why : Misread) (old new : StateData) (es
   pub noted : Notes (refused_at number code (misread_path why)) old new es
 
 -- what the line of this number does: what it asks for, or a note of the first fault of it
-pub data LineDoes (o : Opening) (h : List Entry) (number : ℕ) (line : List ℕ) (old new : StateData)
+pub data LineDoes (o : Opening) (h : List Entry) (t : Stock) (number : ℕ) (line : List ℕ) (old new : StateData)
     (es : List Entry) : Type 0 where
-  asks : (said : Line) → Reads line (Ok said) → AskedDoes o h number said old new es
-      → LineDoes o h number line old new es
+  asks : (said : Line) → Reads line (Ok said) → AskedDoes o h t number said old new es
+      → LineDoes o h t number line old new es
   misread : (why : Misread) → Reads line (Err why) → IsMisreadFor number why old new es
-      → LineDoes o h number line old new es
+      → LineDoes o h t number line old new es
 
 -- where a line was broken off, and why
 pub data LineBreaks (line : List ℕ) (old new : StateData) (es : List Entry) (why : Exit) : Type 0 where
   unread : IsUndone old new es why → LineBreaks line old new es why
   asked : (said : Line) → Reads line (Ok said) → AskedBreaks said old new es why → LineBreaks line old new es why
 
--- the history of a list of lines, numbered from 1, from the opening on
-pub data Serial (o : Opening) : List (List ℕ) → StateData → List Entry → Type 0 where
+-- the history of a list of lines, numbered from 1, from the opening on; each line is done with what is in stock behind
+-- those before it, and the first with this
+pub data Serial (o : Opening) (first : Stock) : List (List ℕ) → StateData → List Entry → Type 0 where
   begins : (lines : List (List ℕ)) (last : StateData) (all : List Entry)
-      → lines ≡ [] → last ≡ o.state → all ≡ [] → Serial o lines last all
-  adds : (before : List (List ℕ)) (mid : StateData) (so_far : List Entry) (line : List ℕ)
+      → lines ≡ [] → last ≡ o.state → all ≡ [] → Serial o first lines last all
+  adds : (before : List (List ℕ)) (mid : StateData) (so_far : List Entry) (t : Stock) (line : List ℕ)
       (lines : List (List ℕ)) (last : StateData) (es all : List Entry)
-      → Serial o before mid so_far → LineDoes o so_far (length before + 1) line mid last es
-      → lines ≡ before ++ line ∷ [] → all ≡ so_far ++ es → Serial o lines last all
+      → Serial o first before mid so_far → StockBehind first before t
+      → LineDoes o so_far t (length before + 1) line mid last es
+      → lines ≡ before ++ line ∷ [] → all ≡ so_far ++ es → Serial o first lines last all

@@ -1,60 +1,92 @@
 //! Lines that make one step by the reader of commands: commands on stacks, and changes of engines.
+ghost use Rattle.std.specs.Prelude.{◌≢◌, IfOk, IfErr, map};
 ghost use Rattle.book.specs.Kept.{IsSameBook};
 ghost use Rattle.book.specs.Quiet.{page};
 ghost use Rattle.converge_call.specs.Notes.{IsUndone, HasDone};
 ghost use Rattle.converge_call.specs.Commands.{BodyDoes, OrderDoes, StopDoes, StartDoes, IsRefusedFor, IsUnplannedFor};
+ghost use Rattle.converge_call.specs.Commands.{beside_body};
+ghost use Rattle.converge_call.specs.Stocks.{stock};
+ghost use Rattle.template_plans.specs.Plans.{IsPlanOf, IsNoPlan};
 
 use crate::exit::Exit;
+use crate::means::Means;
 use crate::notes::{refuse, refuse_at};
 use book::{Book, StackCommand};
-use heat_plan::{EngineNo, Refusal, StackName};
-use plain_templates::{PlanFault, plain_plan};
+use heat_plan::{EngineNo, Plan, Refusal, StackName};
+use heat_value::TryCopy;
+use hot_catalog::Catalog;
+use hot_params::Ids;
 use provider::Provider;
 use script_lines::Body;
 use std::alloc::Global;
+use template_plans::{PlanFault, plan_of};
 
 /// Creates a stack by the plan of a body.
 pub fn create<P: Provider>(
-    alloc: Global,
+    by: &Means<'_>,
+    catalog: &Catalog,
     book: &mut Book<P>,
     number: u64,
     name: StackName,
     body: &Body,
 ) -> Result<(), Exit>
     ensures done { HasDone
-        (BodyDoes number body.now (λ plan. StackCommand.Create name plan body.now.rollback)) IsUndone
+        (BodyDoes (stock (map (λ t. t.test) by.now.registry.now.customs) catalog.now) number name body.now
+        (λ plan. StackCommand.Create name plan body.now.rollback)) IsUndone
         (page book.old.state book.old.entries) (page book.new.state book.new.entries) result }
     ensures same { IsSameBook book.old book.new }
 {
-    match plain_plan(alloc, body) {
+    match planned(by, catalog, book, &name, body) {
         Ok(plan) => {
             let command = StackCommand::Create(name, plan, body.rollback());
-            order(alloc, book, number, command)
+            order(by.alloc, book, number, command)
         }
-        Err(fault) => refuse_plan(alloc, book, number, &fault),
+        Err(fault) => refuse_plan(by.alloc, book, number, &fault),
     }
 }
 
 /// Updates a stack to the plan of a body.
 pub fn update<P: Provider>(
-    alloc: Global,
+    by: &Means<'_>,
+    catalog: &Catalog,
     book: &mut Book<P>,
     number: u64,
     name: StackName,
     body: &Body,
 ) -> Result<(), Exit>
     ensures done { HasDone
-        (BodyDoes number body.now (λ plan. StackCommand.Update name plan body.now.rollback)) IsUndone
+        (BodyDoes (stock (map (λ t. t.test) by.now.registry.now.customs) catalog.now) number name body.now
+        (λ plan. StackCommand.Update name plan body.now.rollback)) IsUndone
         (page book.old.state book.old.entries) (page book.new.state book.new.entries) result }
     ensures same { IsSameBook book.old book.new }
 {
-    match plain_plan(alloc, body) {
+    match planned(by, catalog, book, &name, body) {
         Ok(plan) => {
             let command = StackCommand::Update(name, plan, body.rollback());
-            order(alloc, book, number, command)
+            order(by.alloc, book, number, command)
         }
-        Err(fault) => refuse_plan(alloc, book, number, &fault),
+        Err(fault) => refuse_plan(by.alloc, book, number, &fault),
     }
+}
+
+// The plan of a body for the stack of this name, as the book stands.
+fn planned<P: Provider>(
+    by: &Means<'_>,
+    catalog: &Catalog,
+    book: &Book<P>,
+    name: &StackName,
+    body: &Body,
+) -> Result<Plan, PlanFault>
+    ensures ok { IfOk result (λ p. IsPlanOf body.now (beside_body
+        (stock (map (λ t. t.test) by.now.registry.now.customs) catalog.now) book.now.state name.now) p) }
+    ensures fault { IfErr result (λ e. e ≢ PlanFault.Memory → IsNoPlan body.now (beside_body
+        (stock (map (λ t. t.test) by.now.registry.now.customs) catalog.now) book.now.state name.now) e) }
+{
+    let ids = Ids {
+        stack: name.copy()?,
+        no: book.stack_no(name),
+    };
+    plan_of(by.alloc, body, catalog, &ids, by.registry)
 }
 
 /// Makes a command's step, or notes why not.

@@ -8,10 +8,12 @@ mod commands;
 mod drive;
 mod exit;
 mod line;
+mod means;
 mod notes;
 mod runs;
 mod shows;
 mod top;
+mod types;
 
 pub use exit::{Exit, Finding};
 pub use program_words::{MOST_WORKERS, Mode, Setup, WordsFault, words_of};

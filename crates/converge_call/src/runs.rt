@@ -7,18 +7,19 @@ ghost use Rattle.converge_call.specs.Notes.{Notes, IsUndone, HasDone};
 ghost use Rattle.converge_call.specs.Runs.{IsLimit, RunDoes, RunBreaks, RunEnds, RunStops, TurnDoes, TurnBreaks};
 
 use crate::exit::Exit;
+use crate::means::Means;
 use crate::notes::{note, refuse};
 use book::{Book, Turn};
 use core_state::What;
 use driver::{Ran, turns, work};
 use heat_plan::EngineNo;
+use hot_registry::Registry;
 use provider::Provider;
-use std::alloc::Global;
 
 /// Makes as many turns as are asked for, or as there is work, until the book is idle; and notes how
 /// many.
 pub fn run<P: Provider>(
-    alloc: Global,
+    by: &Means<'_>,
     book: &mut Book<P>,
     number: u64,
     asked: Option<u64>,
@@ -28,10 +29,10 @@ pub fn run<P: Provider>(
     ensures same { IsSameBook book.old book.new }
 {
     if book.live().is_empty() {
-        return refuse(alloc, book, number, "E16");
+        return refuse(by.alloc, book, number, "E16");
     }
     let most = limit(book, asked);
-    run_at_most(book, most)
+    run_at_most(book, most, by.registry)
 }
 
 // How many turns there may be.
@@ -45,13 +46,13 @@ fn limit<P: Provider>(book: &Book<P>, asked: Option<u64>) -> u128
 }
 
 // Makes so many turns at most, and notes how they ended.
-fn run_at_most<P: Provider>(book: &mut Book<P>, most: u128) -> Result<(), Exit>
+fn run_at_most<P: Provider>(book: &mut Book<P>, most: u128, registry: &Registry) -> Result<(), Exit>
     requires live { book.old.state.live ≢ [] }
     ensures done { HasDone (RunEnds (opening_of P.cloud book.old) book.old.entries most) (RunStops most)
         (page book.old.state book.old.entries) (page book.new.state book.new.entries) result }
     ensures same { IsSameBook book.old book.new }
 {
-    match turns(book, most) {
+    match turns(book, most, registry) {
         Ran::Idle(turns) => ran(book, true, turns),
         Ran::Tired(turns) => ran(book, false, turns),
         Ran::Worn => Err(Exit::Worn),
@@ -70,7 +71,7 @@ fn ran<P: Provider>(book: &mut Book<P>, idle: bool, turns: u128) -> Result<(), E
 
 /// Makes a turn of an engine, and notes where it made no step.
 pub fn turn<P: Provider>(
-    alloc: Global,
+    by: &Means<'_>,
     book: &mut Book<P>,
     number: u64,
     engine: EngineNo,
@@ -80,9 +81,9 @@ pub fn turn<P: Provider>(
     ensures same { IsSameBook book.old book.new }
 {
     if !was_drawn(book, engine) {
-        return refuse(alloc, book, number, "E16");
+        return refuse(by.alloc, book, number, "E16");
     }
-    match book.turn(engine) {
+    match book.turn(engine, by.registry) {
         Turn::Stepped => Ok(()),
         Turn::Idle => turned(book, engine, false),
         Turn::Lost => turned(book, engine, true),

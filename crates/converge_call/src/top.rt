@@ -1,9 +1,10 @@
 //! The top call: from the words and the bytes that come in to the bytes that go out.
-ghost use Rattle.std.specs.Prelude.{◌≡◌, ◌≢◌, ◌≤◌, ◌↔◌, []};
+ghost use Rattle.std.specs.Prelude.{◌≡◌, ◌≢◌, ◌≤◌, ◌↔◌, [], map};
 ghost use Rattle.provider.specs.Calls.{Lists};
 ghost use Rattle.book.specs.Kept.{Shown, IsSameBook, opened};
 ghost use Rattle.program_words.specs.Words.{IsForm};
 ghost use Rattle.converge_call.specs.Ends.{outside, HasDriven, IsUntouched, OpensFor};
+ghost use Rattle.converge_call.specs.Stocks.{first_stock};
 ghost use Rattle.program_words.specs.declared.setup.Mode.{Mode as mode_type};
 
 use crate::drive::drive;
@@ -11,6 +12,7 @@ use crate::exit::{Exit, Finding};
 use book::{Book, Opened};
 use heat_io::{Sink, Source};
 use heat_value::Text;
+use hot_registry::Registry;
 use program_words::{WordsFault, words_of};
 use provider::Provider;
 use std::alloc::Global;
@@ -41,13 +43,14 @@ pub struct Outcome<P: Provider> {
 }
 
 /// Does what the words ask for: a book is driven over the cloud by the source's script, and its text
-/// is written.
+/// is written. The kinds and tests of the registry stand before the first line.
 pub fn converge<S: Source, K: Sink, P: Provider>(
     alloc: Global,
     words: &[Text],
     source: &mut S,
     sink: &mut K,
     cloud: P,
+    registry: &Registry,
 ) -> Outcome<P>
     // Usage comes exactly where the words are none of the forms; nothing is then read or written.
     ensures usage { (result.status ≡ Exit.Usage) ↔ ((m : mode_type) → ¬ IsForm words.now m) }
@@ -65,6 +68,7 @@ pub fn converge<S: Source, K: Sink, P: Provider>(
 
     // A book that is handed back was driven by the lines, and the main theorem holds of it.
     ensures driven { (b : Shown P) → result.end ≡ End.Book b → HasDriven P.cloud
+        (first_stock (map (λ j. j.kind) registry.now.judges) (map (λ t. t.test) registry.now.customs))
         (outside (S.left source.old) (S.faults source.old) (K.holds sink.old) (K.faults sink.old))
         (outside (S.left source.new) (S.faults source.new) (K.holds sink.new) (K.faults sink.new))
         result.status b }
@@ -72,7 +76,7 @@ pub fn converge<S: Source, K: Sink, P: Provider>(
     match words_of(alloc, words) {
         Ok(mode) => {
             let setup = mode.setup();
-            run_serial(alloc, setup.workers, source, sink, cloud)
+            run_serial(alloc, setup.workers, source, sink, cloud, registry)
         }
         Err(WordsFault::Usage) => unopened(Exit::Usage, cloud),
         Err(WordsFault::Memory) => unopened(Exit::Memory, cloud),
@@ -87,6 +91,7 @@ pub fn run_serial<S: Source, K: Sink, P: Provider>(
     source: &mut S,
     sink: &mut K,
     cloud: P,
+    registry: &Registry,
 ) -> Outcome<P>
     requires some { 1 ≤ workers }
     requires few { workers ≤ 64 }
@@ -102,12 +107,13 @@ pub fn run_serial<S: Source, K: Sink, P: Provider>(
 
     // A book that is handed back was driven by the lines, and the main theorem holds of it.
     ensures driven { (b : Shown P) → result.end ≡ End.Book b → HasDriven P.cloud
+        (first_stock (map (λ j. j.kind) registry.now.judges) (map (λ t. t.test) registry.now.customs))
         (outside (S.left source.old) (S.faults source.old) (K.holds sink.old) (K.faults sink.old))
         (outside (S.left source.new) (S.faults source.new) (K.holds sink.new) (K.faults sink.new))
         result.status b }
 {
     match Book::recover(alloc, cloud, workers) {
-        Opened::Book(book) => driven(alloc, source, sink, book),
+        Opened::Book(book) => driven(alloc, source, sink, book, registry),
         Opened::Disagree(cloud, token) => {
             unopened(Exit::Disagree(token, Finding::Stranger), cloud)
         }
@@ -133,6 +139,7 @@ fn driven<S: Source, K: Sink, P: Provider>(
     source: &mut S,
     sink: &mut K,
     book: Book<P>,
+    registry: &Registry,
 ) -> Outcome<P>
     requires state { book.state ≡ book.opening }
     requires entries { book.entries ≡ [] }
@@ -140,12 +147,13 @@ fn driven<S: Source, K: Sink, P: Provider>(
     ensures book { (p : P) → result.end ≢ End.Unopened p }
     ensures same { (b : Shown P) → result.end ≡ End.Book b → IsSameBook book b }
     ensures driven { (b : Shown P) → result.end ≡ End.Book b → HasDriven P.cloud
+        (first_stock (map (λ j. j.kind) registry.now.judges) (map (λ t. t.test) registry.now.customs))
         (outside (S.left source.old) (S.faults source.old) (K.holds sink.old) (K.faults sink.old))
         (outside (S.left source.new) (S.faults source.new) (K.holds sink.new) (K.faults sink.new))
         result.status b }
 {
     let mut book = book;
-    let status = drive(alloc, source, sink, &mut book);
+    let status = drive(alloc, source, sink, &mut book, registry);
     book.promises();
     Outcome {
         status,

@@ -9,11 +9,12 @@ ghost use Rattle.driver.specs.Turns.{HasRan};
 use crate::next::next_engine;
 use crate::ran::Ran;
 use book::{Book, Turn};
+use hot_registry::Registry;
 use provider::Provider;
 
 /// Makes at most `n` turns, until the book is idle. It goes round the live engines by rising number from
 /// the lowest; one that has nothing to do is passed over, and isn't counted.
-pub fn turns<P: Provider>(book: &mut Book<P>, n: u128) -> Ran
+pub fn turns<P: Provider>(book: &mut Book<P>, n: u128, registry: &Registry) -> Ran
     requires live { book.old.state.live ≢ [] }
     ensures ran { HasRan n (page book.old.state book.old.entries)
         (page book.new.state book.new.entries) result }
@@ -28,7 +29,7 @@ pub fn turns<P: Provider>(book: &mut Book<P>, n: u128) -> Ran
         let Some(e) = next_engine(book, last) else {
             return Ran::Idle(made);
         };
-        match book.turn(e) {
+        match book.turn(e, registry) {
             Turn::Stepped => last = e.get(),
             Turn::Idle | Turn::Lost => unreachable!(),
             Turn::Worn => return Ran::Worn,

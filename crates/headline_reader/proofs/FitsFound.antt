@@ -1,15 +1,16 @@
 -- What is found among the tokens that calls name is what fits.
-use Rattle.std.proofs.Common.{◌≡◌, ◌↔◌, ◌⊎◌, inl, inr, ℕ, ◌<◌, zero, suc, Bool, List, [], ◌∷◌, Option, Some, None, refl, sym, ap, ◌∙◌, subst, arith}
+use Rattle.std.proofs.Common.{◌≡◌, ◌↔◌, ◌⊎◌, inl, inr, ℕ, ◌<◌, zero, suc, Bool, List, [], ◌∷◌, Option, Some, None}
+use Rattle.std.proofs.Common.{refl, sym, ap, ◌∙◌, subst, arith}
 use Rattle.std.specs.Prelude.{All, Any, Contains, IsSome, IsSomeAnd, slice_index_or}
 use Rattle.std.specs.List.{AllZip}
 use Rattle.heat_value.specs.Data.{Members}
-use Rattle.heat_plan.specs.Plans.{PlanData, names_of}
+use Rattle.heat_plan.specs.Plans.{IsPlan, PlanData, names_of}
 use Rattle.heat_plan.specs.declared.facts.Facts.{Facts}
 use Rattle.heat_plan.specs.declared.facts.KnownFacts.{KnownFacts}
 use Rattle.heat_plan.specs.declared.item.Item.{Item}
 use Rattle.heat_plan.specs.declared.token.Token.{Token}
 use Rattle.core_state.specs.declared.entry.Entry.{Entry}
-use Rattle.hot_resolve.specs.Resolve.{Props, resolve}
+use Rattle.hot_resolve.specs.Resolve.{Fault, Props, Resolved, resolve}
 use Rattle.provider.specs.Table.{Living, TokenState}
 use Rattle.history.specs.Opening.{Opening, first_of, empty_opening}
 use Rattle.history.specs.Could.{could}
@@ -19,8 +20,10 @@ use Rattle.history.specs.Fits.{IsFactOf, HasExactly, Fits}
 use Rattle.headline_reader.proofs.Lists.{All-from, All-first, All-rest}
 use Rattle.headline_reader.specs.declared.possible.Possible.{Possible}
 use Rattle.headline_reader.specs.Called.{could_be, called}
-use Rattle.headline_reader.specs.Items.{sole, IsReady, IsAs, IsOfItem, IsNeed, IsOnly, IsSame, HasOne, HasNeed, HasNeeds, HasItem, HasName, IsPlanned, Finds}
-use Rattle.headline_reader.proofs.Members.{all_at, any_of, zip_at}
+use Rattle.headline_reader.specs.Items.{facts_under, known_before, known_of, sole, IsAs, IsOfItem, IsOnly, IsSame}
+use Rattle.headline_reader.specs.Items.{HasOne, HasResolved, HasItem, HasName, IsPlanned, Finds}
+use Rattle.headline_reader.proofs.Members.{all_at, any_of}
+use Rattle.headline_reader.proofs.FactsNeeded.{facts_found, facts_some}
 use Rattle.headline_reader.proofs.Names.{to_names, from_names}
 use Rattle.headline_reader.proofs.CalledTokens.{IsListed, all_listed, called_or_not}
 
@@ -42,29 +45,38 @@ never_alive states is alive = one (subst (λ (x : List TokenState). Contains x (
   one : Contains (None ∷ []) (Some alive.it) → ⊥
   one c = at c.0 c.1 c.2
 
-one_of : (ps : List Possible) (item : Item) → HasOne ps item → Any (λ (p : Possible). IsOfItem item p × IsOnly ps p) ps
+some-is : {X : Type 0} (P : X → Type 0) (o : Option X) → IsSomeAnd o P → (x : X) × (o ≡ Some x) × P x
+some-is P None h = absurd h
+some-is P (Some x) h = (x, refl, h)
+
+one_of : (ps : List Possible) (item : Item) (props : Members) → HasOne ps item props
+    → Any (λ (p : Possible). IsOfItem item props p × IsOnly ps p) ps
 unfolding HasOne
-one_of ps item h = h
+one_of ps item props h = h
 
-has_one : (ps : List Possible) (item : Item) → Any (λ (p : Possible). IsOfItem item p × IsOnly ps p) ps → HasOne ps item
+has_one : (ps : List Possible) (item : Item) (props : Members)
+    → Any (λ (p : Possible). IsOfItem item props p × IsOnly ps p) ps → HasOne ps item props
 unfolding HasOne
-has_one ps item h = h
+has_one ps item props h = h
 
-need_of : (ps : List Possible) (need : List ℕ) → HasNeed ps need → Any (IsNeed need) ps
-unfolding HasNeed
-need_of ps need h = h
+resolved-is : (ps : List Possible) (item : Item) (r : Resolved) → HasResolved ps item r
+    → (props : Members) × (r ≡ Props props) × HasOne ps item props
+resolved-is ps item (Props props) h = (props, refl, h)
+resolved-is ps item (Fault code path) h = absurd h
 
-has_need : (ps : List Possible) (need : List ℕ) → Any (IsNeed need) ps → HasNeed ps need
-unfolding HasNeed
-has_need ps need h = h
-
-item_of : (ps : List Possible) (item : Item) → HasItem ps item → HasOne ps item × HasNeeds ps item.needs
+item_of : (plan : PlanData) (ps : List Possible) (item : Item) → HasItem plan ps item
+    → (known : List KnownFacts) × (known_of ps item.needs ≡ Some known) × HasResolved ps item (resolve plan item known)
 unfolding HasItem
-item_of ps item h = h
+item_of plan ps item h =
+    some-is (λ (known : List KnownFacts). HasResolved ps item (resolve plan item known)) (known_of ps item.needs) h
 
-has_item : (ps : List Possible) (item : Item) → HasOne ps item → HasNeeds ps item.needs → HasItem ps item
+has_item : (plan : PlanData) (ps : List Possible) (item : Item) (known : List KnownFacts) (props : Members)
+    → known_of ps item.needs ≡ Some known → resolve plan item known ≡ Props props → HasOne ps item props
+    → HasItem plan ps item
 unfolding HasItem
-has_item ps item one needs = (one, needs)
+has_item plan ps item known props known_are props_are one =
+    subst (λ (o : Option (List KnownFacts)). IsSomeAnd o (λ (ks : List KnownFacts). HasResolved ps item (resolve plan item ks)))
+    (sym known_are) (subst (HasResolved ps item) (sym props_are) one)
 
 planned_of : (items : List Item) (p : Possible) → IsPlanned items p → MayLive p.states → HasName items p.token.name
 unfolding IsPlanned
@@ -73,10 +85,6 @@ planned_of items p h = h
 is_planned : (items : List Item) (p : Possible) → (MayLive p.states → HasName items p.token.name) → IsPlanned items p
 unfolding IsPlanned
 is_planned items p h = h
-
-resolved : (plan : PlanData) (item : Item) (known : List KnownFacts) → resolve plan item known ≡ Props item.props
-unfolding resolve
-resolved plan item known = refl
 
 at_token : (t : Token) (stack name : List ℕ) (row : ℕ) → t.stack ≡ stack → t.name ≡ name → t.row ≡ row → t ≡ token_at stack name row
 at_token t stack name row e f g = rw (← e, ← f, ← g) refl
@@ -128,10 +136,6 @@ module _ (engines : ℕ) (leaving : Token → Bool) (h : List Entry) (stack : Li
   if_there t it its owned is = called_if t its owned (λ none. let both : Some it ∷ [] ≡ None ∷ [] = sym is ∙ none in cc)
 
   -- ---- what is found fits
-  told : (x : Option Facts) → IsSome x → (facts : Facts) × (x ≡ Some facts)
-  told None some = cc
-  told (Some facts) some = (facts, refl)
-
   -- what is seen alive alone is alive
   living : (p : Possible) (it : Living) → IsSeen p → p.states ≡ Some it ∷ [] → IsAlive o h p.token
   living p it l alone = record {
@@ -140,48 +144,59 @@ module _ (engines : ℕ) (leaving : Token → Bool) (h : List Entry) (stack : Li
   }
 
   module _ (f : Finds ps plan) where
-    facts_of : (need : List ℕ) → HasNeed ps need → (known : KnownFacts) × IsFactOf o h stack need known
-    facts_of need has =
-        let (k, p, lt, at, (named, there)) = need_of ps need has in
-        let (it, alone, ready) = sole-is IsReady p.states there in
-        let l = listed p (k, lt, at) in
-        let (facts, is) = told it.facts ready in (
-          record { name = need; facts = facts },
-          record {
-            named = refl;
-            row = p.token.row;
-            alive = (refl, subst (λ (t : Token). IsAlive o h t) (at_token p.token stack need p.token.row l.stack_is named refl) (living p it l alone));
-            it = it;
-            state = ap states_of (sym (at_token p.token stack need p.token.row l.stack_is named refl)) ∙ (sym l.states ∙ alone);
-            facts = is;
-          },
-        )
+    fact_of : (need : List ℕ) (facts : Facts) → facts_under ps need ≡ Some facts
+        → IsFactOf o h stack need (record { name = need; facts = facts })
+    fact_of need facts found =
+        let t = facts_found ps need facts found in
+        let l = listed t.p t.among in
+        let here = at_token t.p.token stack need t.p.token.row l.stack_is t.named refl in
+        record {
+          named = refl;
+          row = t.p.token.row;
+          alive = (refl, subst (λ (x : Token). IsAlive o h x) here (living t.p t.has.it l t.has.alone));
+          it = t.has.it;
+          state = ap states_of (sym here) ∙ (sym l.states ∙ t.has.alone);
+          facts = t.has.its;
+        }
 
-    all_facts : (needs : List (List ℕ)) → All (HasNeed ps) needs → (known : List KnownFacts) × AllZip (IsFactOf o h stack) needs known
-    all_facts [] all = ([], tt)
-    all_facts (need ∷ needs) all =
-        let (one, fact) = facts_of need (All-first (HasNeed ps) need needs all) in
-        let (rest, facts) = all_facts needs (All-rest (HasNeed ps) need needs all) in
-        (one ∷ rest, (fact, facts))
+    all_facts : (needs : List (List ℕ)) (known : List KnownFacts) → known_of ps needs ≡ Some known
+        → AllZip (IsFactOf o h stack) needs known
+    unfolding known_of
+    all_facts [] known is =
+        let none : [] ≡ known = cc in subst (AllZip (IsFactOf o h stack) []) none tt
+    all_facts (need ∷ needs) known is =
+        by (λ (ks : List KnownFacts) (more : known_of ps needs ≡ Some ks). all_facts needs ks more) (facts_under ps need)
+        (known_of ps needs) refl refl is where
+          by : ((ks : List KnownFacts) → known_of ps needs ≡ Some ks → AllZip (IsFactOf o h stack) needs ks)
+              → (facts : Option Facts) (rest : Option (List KnownFacts)) → facts_under ps need ≡ facts
+              → known_of ps needs ≡ rest → known_before need facts rest ≡ Some known
+              → AllZip (IsFactOf o h stack) (need ∷ needs) known
+          by behind (Some facts) (Some ks) found more it =
+              let here : record { name = need; facts = facts } ∷ ks ≡ known = cc in
+              subst (AllZip (IsFactOf o h stack) (need ∷ needs)) here (fact_of need facts found, behind ks more)
+          by behind (Some facts) None found more it = cc
+          by behind None (Some ks) found more it = cc
+          by behind None None found more it = cc
 
     exactly : (item : Item) → Contains plan.items item → HasExactly o h stack plan item
     exactly item among =
-        let has = item_of ps item (all_at (HasItem ps) plan.items f.each item among) in
-        let (k, p, lt, at, ((named, there), only)) = one_of ps item has.0 in
-        let (it, alone, (kind, props, ready, stays)) = sole-is (IsAs item) p.states there in
+        let (known, known_are, has) = item_of plan ps item (all_at (HasItem plan ps) plan.items f.each item among) in
+        let (props, props_are, one) = resolved-is ps item (resolve plan item known) has in
+        let (k, p, lt, at, ((named, there), only)) = one_of ps item props one in
+        let (it, alone, (kind, its, ready, stays)) = sole-is (IsAs item props) p.states there in
         let l = listed p (k, lt, at) in
-        let (known, needs_are) = all_facts item.needs has.1 in
+        let here = at_token p.token stack item.name p.token.row l.stack_is named refl in
         record {
           row = p.token.row;
           it = it;
-          state = ap states_of (sym (at_token p.token stack item.name p.token.row l.stack_is named refl)) ∙ (sym l.states ∙ alone);
-          owned = subst (λ (t : Token). Contains gone t → ⊥) (at_token p.token stack item.name p.token.row l.stack_is named refl) l.owned;
+          state = ap states_of (sym here) ∙ (sym l.states ∙ alone);
+          owned = subst (λ (t : Token). Contains gone t → ⊥) here l.owned;
           kind = kind;
           ready = ready;
           stays = stays;
           known = known;
-          needs_are = needs_are;
-          props = resolved plan item known ∙ ap Props (sym props);
+          needs_are = all_facts item.needs known known_are;
+          props = props_are ∙ ap Props (sym its);
           only = λ other alive. same_row p named only other alive.1;
         } where
           same_row : (p : Possible) → p.token.name ≡ item.name → IsOnly ps p → (other : ℕ) → IsAlive o h (token_at stack item.name other) → other ≡ p.token.row
@@ -206,41 +221,90 @@ module _ (engines : ℕ) (leaving : Token → Bool) (h : List Entry) (stack : Li
     fits_found = record { certain = certain; each = All-from (HasExactly o h stack plan) plan.items exactly; no_other = no_other }
 
   -- ---- what fits is found
-  module _ (f : Fits o h stack plan) where
+  module _ (kept : IsPlan plan.items plan.absent) (f : Fits o h stack plan) where
     its_states : (p : Possible) → Contains ps p → MayLive p.states → IsAlive o h p.token
     its_states p among alive =
         let l = listed p among in
         record { lives = subst (λ (x : List TokenState). MayLive x) l.states alive; owned = l.owned }
 
-    named_item : (item : Item) (e : HasExactly o h stack plan item) → HasOne ps item
+    -- the one row of a name that is planned
+    row_of : (name : List ℕ) → Contains (names_of plan.items) name
+        → (row : ℕ) × ((other : ℕ) → tokens_of o h stack (token_at stack name other) → other ≡ row)
+    row_of name planned =
+        let (k, item, lt, at, named) = from_names plan.items name planned in
+        let e = all_at (HasExactly o h stack plan) plan.items f.each item (k, lt, at) in (
+          e.row,
+          λ other alive. e.only other
+              (subst (λ (n : List ℕ). tokens_of o h stack (token_at stack n other)) (sym named) alive),
+        )
+
+    -- its facts are those that are found
+    its_facts : (need : List ℕ) (known : KnownFacts) → Contains (names_of plan.items) need
+        → IsFactOf o h stack need known → facts_under ps need ≡ Some known.facts
+    its_facts need known planned fact =
+        let (row, only) = row_of need planned in
+        let c = if_there (token_at stack need fact.row) fact.it refl fact.alive.1.owned fact.state in
+        let (facts, found) = facts_some ps need known.facts (record {
+          p = c.p;
+          among = c.among;
+          named = ap (λ (x : Token). x.name) c.is;
+          has = record { it = fact.it; alone = c.states ∙ fact.state; its = fact.facts };
+        }) in
+        let t = facts_found ps need facts found in
+        let l = listed t.p t.among in
+        let here = at_token t.p.token stack need t.p.token.row l.stack_is t.named refl in
+        let alive = subst (λ (x : Token). IsAlive o h x) here (living t.p t.has.it l t.has.alone) in
+        let row_is : t.p.token.row ≡ fact.row = only t.p.token.row (refl, alive) ∙ sym (only fact.row fact.alive) in
+        let token_is = at_token t.p.token stack need fact.row l.stack_is t.named row_is in
+        let states : Some t.has.it ∷ [] ≡ Some fact.it ∷ [] =
+        sym t.has.alone ∙ (l.states ∙ (ap states_of token_is ∙ fact.state)) in
+        let same : t.has.it ≡ fact.it = cc in
+        found ∙ (sym t.has.its ∙ (ap (λ (x : Living). x.facts) same ∙ fact.facts))
+
+    known_is : (needs : List (List ℕ)) (known : List KnownFacts) → All (Contains (names_of plan.items)) needs
+        → AllZip (IsFactOf o h stack) needs known → known_of ps needs ≡ Some known
+    unfolding known_of
+    known_is [] [] planned zip = refl
+    known_is [] (k ∷ ks) planned zip = absurd zip
+    known_is (need ∷ needs) [] planned zip = absurd zip
+    known_is (need ∷ needs) (k ∷ ks) planned zip =
+        let first = its_facts need k (All-first (Contains (names_of plan.items)) need needs planned) zip.0 in
+        let rest = known_is needs ks (All-rest (Contains (names_of plan.items)) need needs planned) zip.1 in
+        let here : record { name = need; facts = k.facts } ≡ k = rw (← zip.0.named) refl in
+        rw (first, rest) (ap (λ (x : KnownFacts). Some (x ∷ ks)) here)
+
+    named_item : (item : Item) (e : HasExactly o h stack plan item) → HasOne ps item e.it.props
     named_item item e =
         let t = token_at stack item.name e.row in
         let c = if_there t e.it refl e.owned e.state in
-        has_one ps item (any_of (λ (p : Possible). IsOfItem item p × IsOnly ps p) ps c.p c.among
-        ((ap (λ (x : Token). x.name) c.is, is-sole (IsAs item) c.p.states e.it (c.states ∙ e.state) (e.kind, same_props (sym (resolved plan item e.known) ∙ e.props), e.ready, e.stays)), only c)) where
-          same_props : {x y : Members} → Props x ≡ Props y → y ≡ x
-          same_props is = cc
-
+        has_one ps item e.it.props (any_of (λ (p : Possible). IsOfItem item e.it.props p × IsOnly ps p) ps c.p c.among (
+          (
+            ap (λ (x : Token). x.name) c.is,
+            is-sole (IsAs item e.it.props) c.p.states e.it (c.states ∙ e.state)
+                (e.kind, refl, e.ready, e.stays),
+          ),
+          only c,
+        )) where
           only : (c : IsCalled (token_at stack item.name e.row)) → IsOnly ps c.p
           only c = All-from (IsSame c.p) ps (λ q among alive name.
               let l = listed q among in
               let here = at_token q.token stack item.name q.token.row l.stack_is (name ∙ ap (λ (x : Token). x.name) c.is) refl in
               e.only q.token.row (refl, subst (λ (x : Token). IsAlive o h x) here (its_states q among alive)) ∙ sym (ap (λ (x : Token). x.row) c.is))
 
-    needed : (item : Item) (e : HasExactly o h stack plan item) → HasNeeds ps item.needs
-    needed item e = All-from (HasNeed ps) item.needs (λ need among.
-        let (known, fact) = zip_at (IsFactOf o h stack) item.needs e.known e.needs_are need among in
-        let c = if_there (token_at stack need fact.row) fact.it refl fact.alive.1.owned fact.state in
-        has_need ps need (any_of (IsNeed need) ps c.p c.among
-        (ap (λ (x : Token). x.name) c.is, is-sole IsReady c.p.states fact.it (c.states ∙ fact.state) (subst (λ (x : Option Facts). IsSome x) (sym fact.facts) refl))))
+    item_found : (item : Item) → Contains plan.items item → HasItem plan ps item
+    item_found item among =
+        let e = all_at (HasExactly o h stack plan) plan.items f.each item among in
+        let met = all_at (λ (i : Item). All (Contains (names_of plan.items)) i.needs) plan.items kept.met item among in
+        has_item plan ps item e.known e.it.props (known_is item.needs e.known met e.needs_are) e.props
+        (named_item item e)
 
     found_fits : Finds ps plan
     found_fits = record {
       certain = All-from (λ (p : Possible). IsCertain p.states) ps (λ p among. let l = listed p among in subst (λ (x : List TokenState). IsCertain x) (sym l.states) (f.certain p.token l.stack_is l.owned));
-      each = All-from (HasItem ps) plan.items (λ item among. let e = all_at (HasExactly o h stack plan) plan.items f.each item among in has_item ps item (named_item item e) (needed item e));
+      each = All-from (HasItem plan ps) plan.items item_found;
       no_other = All-from (IsPlanned plan.items) ps (λ p among. is_planned plan.items p (λ alive.
           from_names plan.items p.token.name (f.no_other p.token ((listed p among).stack_is, its_states p among alive))));
     }
 
-  pub finds-fits : Finds ps plan ↔ Fits o h stack plan
-  finds-fits = (fits_found, found_fits)
+  pub finds-fits : IsPlan plan.items plan.absent → Finds ps plan ↔ Fits o h stack plan
+  finds-fits kept = (fits_found, found_fits kept)

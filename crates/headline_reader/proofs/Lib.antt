@@ -5,4 +5,5 @@ pub mod Members
 pub mod Lists
 pub mod Tokens
 pub mod CalledTokens
+pub mod FactsNeeded
 pub mod FitsFound

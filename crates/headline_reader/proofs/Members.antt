@@ -1,7 +1,7 @@
 -- What holds of some of a list, and of all of it.
 use Rattle.std.proofs.Common.{◌≡◌, zero, suc, Bool, true, false, ◌||◌, List, [], ◌∷◌, ◌++◌, refl, subst, ap, ◌∙◌, arith}
 use Rattle.std.specs.Prelude.{All, Any, Contains}
-use Rattle.std.specs.List.{AllZip, list_any}
+use Rattle.std.specs.List.{list_any}
 
 module _ {X : Type 0} (P : X → Type 0) where
   pub all_at : (xs : List X) → All P xs → (x : X) → Contains xs x → P x
@@ -27,12 +27,6 @@ module _ {X : Type 0} (P : X → Type 0) where
 
 pub first_in : {X : Type 0} (x : X) (xs : List X) → Contains (x ∷ xs) x
 first_in x xs = (0, omega arith, refl)
-
-pub zip_at : {X Y : Type 0} (R : X → Y → Type 0) (xs : List X) (ys : List Y) → AllZip R xs ys → (x : X) → Contains xs x → (y : Y) × R x y
-zip_at R [] ys zip x (k, lt, at) = absurd (omega (arith, lt))
-zip_at R (x ∷ xs) [] zip z c = absurd zip
-zip_at R (x ∷ xs) (y ∷ ys) zip z (zero, lt, at) = (y, subst (λ (w : _). R w y) at zip.0)
-zip_at R (x ∷ xs) (y ∷ ys) zip z (suc k, lt, at) = zip_at R xs ys zip.1 z (k, omega (arith, lt), at)
 
 -- one of the list passes the test
 pub any_passes : {X : Type 0} (p : X → Bool) (xs : List X) (x : X) → Contains xs x → p x ≡ true → list_any p xs ≡ true

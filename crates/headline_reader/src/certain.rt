@@ -1,10 +1,11 @@
 //! What the states of one token say.
-ghost use Rattle.std.specs.Prelude.{◌≡◌, ◌↔◌, IsTrue, IsSomeAnd, option_map};
+ghost use Rattle.std.specs.Prelude.{◌≡◌, ◌↔◌, IsTrue, option_map};
 ghost use Rattle.history.specs.Tokens.{IsCertain, MayLive};
-ghost use Rattle.headline_reader.specs.Items.{IsReady, sole};
+ghost use Rattle.headline_reader.specs.Items.{ready_facts, sole};
 
 use crate::living::Living;
 use crate::possible::Possible;
+use heat_plan::Facts;
 
 // Whether there is one state.
 #[tactic(auto, using(crate::proofs::OneState::certain))]
@@ -35,12 +36,12 @@ pub(crate) fn sole(possible: &Possible) -> Option<&Living>
     }
 }
 
-// Whether the token is certainly alive and ready.
-pub(crate) fn is_ready(possible: &Possible) -> bool
-    ensures { IsTrue result ↔ IsSomeAnd (sole possible.now.states) IsReady }
+// The resource's facts, where the token is certainly alive and ready.
+pub(crate) fn ready_facts(possible: &Possible) -> Option<&Facts>
+    ensures { option_map (λ f. f.now) result ≡ ready_facts possible.now.states }
 {
     match sole(possible) {
-        Some(it) => it.facts.is_some(),
-        None => false,
+        Some(it) => it.facts.as_ref(),
+        None => None,
     }
 }

@@ -1,5 +1,6 @@
 //! Whether what is alive in a stack is what a plan asks for.
 ghost use Rattle.std.specs.Prelude.{◌≡◌, ◌↔◌, ℕ, Bool, IsTrue, IfOk, All};
+ghost use Rattle.heat_plan.specs.Plans.{IsPlan};
 ghost use Rattle.heat_plan.specs.declared.token.Token.{Token};
 ghost use Rattle.history.specs.Opening.{empty_opening};
 ghost use Rattle.history.specs.Fits.{Fits};
@@ -25,14 +26,20 @@ pub fn fits(
         IsTrue b ↔ Fits (empty_opening engines leaving) entries.now stack.now plan.now) }
 {
     let all = called(alloc, entries, stack)?;
-    Ok(finds(all.as_slice(), plan))
+    finds(alloc, all.as_slice(), plan)
 }
 
 // Whether the tokens are the plan's.
-fn finds(all: &[Possible], plan: &Plan) -> bool
-    ensures { IsTrue result ↔ Finds all.now plan.now }
+fn finds(alloc: Global, all: &[Possible], plan: &Plan) -> Result<bool, AllocError>
+    ensures found { IfOk result (λ b. IsTrue b ↔ Finds all.now plan.now) }
+    ensures plan { IsPlan plan.now.items plan.now.absent }
 {
-    are_certain(all) && have_all(all, plan.items()) && are_planned(all, plan.items())
+    let items = plan.items();
+    if are_certain(all) && are_planned(all, items) {
+        have_all(alloc, plan, all, items)
+    } else {
+        Ok(false)
+    }
 }
 
 fn are_certain(all: &[Possible]) -> bool
@@ -41,10 +48,20 @@ fn are_certain(all: &[Possible]) -> bool
     all.iter().all(|it| is_certain(it))
 }
 
-fn have_all(all: &[Possible], items: &[Item]) -> bool
-    ensures { IsTrue result ↔ All (HasItem all.now) items.now }
+fn have_all(
+    alloc: Global,
+    plan: &Plan,
+    all: &[Possible],
+    items: &[Item],
+) -> Result<bool, AllocError>
+    ensures { IfOk result (λ b. IsTrue b ↔ All (HasItem plan.now all.now) items.now) }
 {
-    items.iter().all(|item| has_item(all, item))
+    for item in items {
+        if !has_item(alloc, plan, all, item)? {
+            return Ok(false);
+        }
+    }
+    Ok(true)
 }
 
 fn are_planned(all: &[Possible], items: &[Item]) -> bool

@@ -1,50 +1,79 @@
 //! What an item of a plan asks for, among the tokens that calls name.
-ghost use Rattle.std.specs.Prelude.{◌↔◌, IsTrue};
-ghost use Rattle.headline_reader.specs.Items.{IsAs, IsOfItem, IsNeed, IsSame, IsOnly, HasOne, HasNeed, HasNeeds};
-ghost use Rattle.headline_reader.specs.Items.{HasItem, HasName, IsPlanned};
+ghost use Rattle.std.specs.Prelude.{◌↔◌, IsTrue, IfOk};
+ghost use Rattle.hot_resolve.specs.Resolve.{resolve};
+ghost use Rattle.headline_reader.specs.Items.{IsAs, IsOfItem, IsSame, IsOnly, HasOne, HasResolved, HasItem};
+ghost use Rattle.headline_reader.specs.Items.{HasName, IsPlanned};
 
-use crate::certain::{is_ready, may_live, sole};
+use crate::certain::{may_live, sole};
 use crate::living::Living;
+use crate::needed::known_of;
 use crate::possible::Possible;
-use heat_plan::{Item, ResName};
+use heat_plan::{Item, KnownFacts, Plan, Properties, ResName};
 use heat_value::Equals;
+use hot_resolve::{Resolution, resolve};
+use std::alloc::{AllocError, Global};
 
-// Whether the item's one resource is there as it asks, and what it needs is there too.
+// Whether what the item needs is there, and its one resource, with what it resolves to by those facts.
 #[tactic(auto, unfolding(crate::specs::Items::HasItem))]
-pub(crate) fn has_item(all: &[Possible], item: &Item) -> bool
-    ensures { IsTrue result ↔ HasItem all.now item.now }
+pub(crate) fn has_item(
+    alloc: Global,
+    plan: &Plan,
+    all: &[Possible],
+    item: &Item,
+) -> Result<bool, AllocError>
+    ensures { IfOk result (λ b. IsTrue b ↔ HasItem plan.now all.now item.now) }
 {
-    has_one(all, item) && has_needs(all, item.needs.as_slice())
+    match known_of(alloc, all, item.needs.as_slice())? {
+        Some(known) => has_resolved(alloc, plan, all, item, known.as_slice()),
+        None => Ok(false),
+    }
+}
+
+// Whether its one resource is there, with what it resolves to by these facts.
+fn has_resolved(
+    alloc: Global,
+    plan: &Plan,
+    all: &[Possible],
+    item: &Item,
+    known: &[KnownFacts],
+) -> Result<bool, AllocError>
+    ensures { IfOk result (λ b.
+        IsTrue b ↔ HasResolved all.now item.now (resolve plan.now item.now known.now)) }
+{
+    match resolve(alloc, plan, item, known)? {
+        Resolution::Props(props) => Ok(has_one(all, item, &props)),
+        Resolution::Fault(_, _) => Ok(false),
+    }
 }
 
 #[tactic(auto, unfolding(crate::specs::Items::HasOne))]
-fn has_one(all: &[Possible], item: &Item) -> bool
-    ensures { IsTrue result ↔ HasOne all.now item.now }
+fn has_one(all: &[Possible], item: &Item, props: &Properties) -> bool
+    ensures { IsTrue result ↔ HasOne all.now item.now props.now }
 {
-    all.iter().any(|it| is_only_of_item(all, it, item))
+    all.iter().any(|it| is_only_of_item(all, it, item, props))
 }
 
-fn is_only_of_item(all: &[Possible], it: &Possible, item: &Item) -> bool
-    ensures { IsTrue result ↔ (IsOfItem item.now it.now × IsOnly all.now it.now) }
+fn is_only_of_item(all: &[Possible], it: &Possible, item: &Item, props: &Properties) -> bool
+    ensures { IsTrue result ↔ (IsOfItem item.now props.now it.now × IsOnly all.now it.now) }
 {
-    is_of_item(it, item) && is_only(all, it)
+    is_of_item(it, item, props) && is_only(all, it)
 }
 
-// Whether it is there as the item asks.
-fn is_of_item(it: &Possible, item: &Item) -> bool
-    ensures { IsTrue result ↔ IsOfItem item.now it.now }
+// Whether it is there as the item asks, with these properties.
+fn is_of_item(it: &Possible, item: &Item, props: &Properties) -> bool
+    ensures { IsTrue result ↔ IsOfItem item.now props.now it.now }
 {
     match sole(it) {
-        Some(living) => it.token.name == item.name && is_as(living, item),
+        Some(living) => it.token.name == item.name && is_as(living, item, props),
         None => false,
     }
 }
 
-fn is_as(living: &Living, item: &Item) -> bool
-    ensures { IsTrue result ↔ IsAs item.now living.now }
+fn is_as(living: &Living, item: &Item, props: &Properties) -> bool
+    ensures { IsTrue result ↔ IsAs item.now props.now living.now }
 {
     living.kind == item.kind.name
-        && living.props.equals(&item.props)
+        && living.props.equals(props)
         && living.facts.is_some()
         && !living.leaving
 }
@@ -60,26 +89,6 @@ fn is_same(it: &Possible, other: &Possible) -> bool
     ensures { IsTrue result ↔ IsSame it.now other.now }
 {
     !may_live(other) || other.token.name != it.token.name || other.token.row == it.token.row
-}
-
-fn has_needs(all: &[Possible], needs: &[ResName]) -> bool
-    ensures { IsTrue result ↔ HasNeeds all.now needs.now }
-{
-    needs.iter().all(|need| has_need(all, need))
-}
-
-#[tactic(auto, unfolding(crate::specs::Items::HasNeed))]
-fn has_need(all: &[Possible], need: &ResName) -> bool
-    ensures { IsTrue result ↔ HasNeed all.now need.now }
-{
-    all.iter().any(|it| is_need(need, it))
-}
-
-// Whether it is certainly there under this name.
-fn is_need(need: &ResName, it: &Possible) -> bool
-    ensures { IsTrue result ↔ IsNeed need.now it.now }
-{
-    it.token.name == *need && is_ready(it)
 }
 
 // Whether it is an item's, where it may be alive.

@@ -7,9 +7,12 @@ mod after;
 mod causes;
 mod certain;
 mod fitting;
+#[cfg(test)]
+mod function_tests;
 mod items;
 mod living;
 mod marks;
+mod needed;
 mod possible;
 mod releases;
 mod rows;

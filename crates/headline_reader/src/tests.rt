@@ -5,6 +5,7 @@ use book::{Book, Opened, StackCommand, Turn};
 use core_state::{Entry, What};
 use heat_plan::{Parameters, Plan, StackName, Status, Token};
 use heat_value::{Seq, Text};
+use hot_registry::Registry;
 use plain_templates::plain_plan;
 use script_lines::Line;
 use sim_cloud::{Settings, SimCloud};
@@ -43,7 +44,7 @@ struct Case<'a> {
     reading: Reading,
 }
 
-fn empty_cloud(alloc: Global) -> Result<SimCloud, AllocError> {
+pub(crate) fn empty_cloud(alloc: Global) -> Result<SimCloud, AllocError> {
     SimCloud::new(Settings::empty(alloc))
 }
 
@@ -84,10 +85,10 @@ fn refuse(alloc: Global, book: &mut Book<SimCloud>, code: &str) {
 }
 
 // One turn of the live engine.
-fn turn(book: &mut Book<SimCloud>) -> Option<Turn> {
+pub(crate) fn turn(book: &mut Book<SimCloud>, registry: &Registry) -> Option<Turn> {
     let e = *book.live().first()?;
     if e.get() < book.state().next().engine.get() {
-        Some(book.turn(e))
+        Some(book.turn(e, registry))
     } else {
         None
     }
@@ -97,8 +98,9 @@ fn drive(alloc: Global, book: &mut Book<SimCloud>, creates: u8, turns: u8) {
     for _ in 0..creates {
         create(alloc, book);
     }
+    let registry = Registry::empty(alloc);
     for _ in 0..turns {
-        let _ = turn(book);
+        let _ = turn(book, &registry);
     }
 }
 

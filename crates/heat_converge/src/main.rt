@@ -1,6 +1,6 @@
 //! The program: drives stacks of resources to their templates, by a script on standard input, with the
-//! report on standard output. It hands the top call a simulated cloud and the adapters over std, says on
-//! standard error how it ended, and does nothing else itself. The cloud is that of a file, which it writes
+//! report on standard output. It hands the top call a simulated cloud, the adapters over std and what it
+//! registers, says on standard error how it ended, and does nothing else itself. The cloud is that of a file, which it writes
 //! back after the call, or an empty one.
 #![tactic(auto)]
 
@@ -21,17 +21,21 @@ mod rollback_tests;
 mod said;
 #[cfg(test)]
 mod scenarios;
+mod shipped;
 #[cfg(test)]
 mod stream_tests;
 #[cfg(test)]
+mod template_scenarios;
+#[cfg(test)]
 mod tests;
 
-use converge_call::{Exit, Outcome, WordsFault, converge, words_of};
+use converge_call::{Exit, Outcome, WordsFault, words_of};
 use ended::Ended;
 use heat_io::{StdSink, StdSource};
 use heat_value::Text;
 use kept_cloud::{load, store};
 use said::{word_for, words_for};
+use shipped::converge_shipped;
 use sim_cloud::{Settings, SimCloud};
 use std::alloc::{AllocError, Global};
 use std::process::ExitCode;
@@ -73,7 +77,13 @@ fn cloud_path(alloc: Global, words: &[Text]) -> Result<Option<Text>, AllocError>
 fn call(rt: &HostRuntime, words: &[Text], cloud: SimCloud) -> (Exit, SimCloud) {
     let mut source = StdSource::new(rt.reader());
     let mut sink = StdSink::new(io::writer(rt));
-    let Outcome { status, end } = converge(rt.alloc(), words, &mut source, &mut sink, cloud);
+    let Outcome { status, end } = converge_shipped(
+        rt.alloc(),
+        words,
+        &mut source,
+        &mut sink,
+        cloud,
+    );
     (status, end.give_back())
 }
 

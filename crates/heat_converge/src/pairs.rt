@@ -2,9 +2,10 @@
 //! idle, what is alive is as the last plan says, and the histories are read by the plain program.
 use crate::readings::{Reading, read};
 use crate::scenarios::{NOTHING, SIZE_1, SIZE_2, ZONE_Y};
+use crate::shipped::converge_shipped;
 use crate::tests::{joined, texts};
 use book::Book;
-use converge_call::{End, Outcome, converge};
+use converge_call::{End, Outcome};
 use heat_io::{MemSink, MemSource};
 use heat_plan::{StackName, Status};
 use heat_value::{TryCopy, Value};
@@ -77,7 +78,7 @@ fn read_behind(
     let mut sink = MemSink::new(alloc, 4096, &[])?;
     let words = texts(alloc, &["drive", "--workers", "2"])?;
     let cloud = crate::empty_cloud(alloc)?;
-    let Outcome { status, end } = converge(alloc, &words, &mut source, &mut sink, cloud);
+    let Outcome { status, end } = converge_shipped(alloc, &words, &mut source, &mut sink, cloud);
     let seen = read_end(alloc, end, stack);
     if status.code() == 0 && ends_idle(sink.held()) {
         Ok(seen)

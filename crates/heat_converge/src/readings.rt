@@ -1,9 +1,10 @@
 //! The histories that the top call writes for the rows, as the plain program for the headline's words
 //! reads them.
 use crate::empty_cloud;
+use crate::shipped::converge_shipped;
 use crate::tests::{CREATE, joined, texts};
 use book::Book;
-use converge_call::{End, Outcome, converge};
+use converge_call::{End, Outcome};
 use core_state::Entry;
 use headline_reader::{fits, mark_of, newest};
 use heat_io::{MemSink, MemSource};
@@ -77,7 +78,7 @@ fn read_behind(
     let mut sink = MemSink::new(alloc, 4096, &[])?;
     let words = texts(alloc, &["drive"])?;
     let cloud = empty_cloud(alloc)?;
-    let Outcome { status: _, end } = converge(alloc, &words, &mut source, &mut sink, cloud);
+    let Outcome { status: _, end } = converge_shipped(alloc, &words, &mut source, &mut sink, cloud);
     Ok(read_end(alloc, end, stack))
 }
 

@@ -3,7 +3,9 @@ ghost use Rattle.std.specs.Prelude.{◌<◌};
 
 use crate::empty_cloud;
 use crate::scenarios::SCENARIOS;
-use converge_call::{Outcome, converge};
+use crate::shipped::converge_shipped;
+use crate::template_scenarios::TEMPLATE_SCENARIOS;
+use converge_call::Outcome;
 use heat_io::{MemSink, MemSource};
 use heat_value::Text;
 use provider::Provider;
@@ -68,7 +70,7 @@ pub(crate) fn drives<P: Provider>(
     sink: &mut MemSink,
     cloud: P,
 ) -> (u8, P) {
-    let Outcome { status, end } = converge(alloc, words, source, sink, cloud);
+    let Outcome { status, end } = converge_shipped(alloc, words, source, sink, cloud);
     (status.code(), end.give_back())
 }
 
@@ -141,8 +143,8 @@ const ROWS: &[(&str, &[&str], &[&str], &[&str], u8)] = &[
     (
         "form_not_built",
         &["drive"],
-        &["types {}\nrestart\n"],
-        &["refused 1 N00\nrefused 2 N00\n"],
+        &["restart\n"],
+        &["refused 1 N00\n"],
         0,
     ),
     ("usage_0", &["drive", "--workers", "65"], &[], &[], 2),
@@ -218,6 +220,14 @@ fn scripts_have_their_outputs(rt: HostRuntime) -> Result<(), Fail> {
 #[test]
 fn scenarios_have_their_outputs(rt: HostRuntime) -> Result<(), Fail> {
     for (name, words, script, out) in SCENARIOS {
+        assert!(rt; ends_with(rt.alloc(), words, script, out, 0)?, "{}", name);
+    }
+    Ok(())
+}
+
+#[test]
+fn templates_have_their_outputs(rt: HostRuntime) -> Result<(), Fail> {
+    for (name, words, script, out) in TEMPLATE_SCENARIOS {
         assert!(rt; ends_with(rt.alloc(), words, script, out, 0)?, "{}", name);
     }
     Ok(())

@@ -13,7 +13,6 @@ use Rattle.mail_table.specs.declared.mail.Stage.TheVariants.{Asking, Taken}
 use Rattle.core_state.specs.declared.change.Change.{Change}
 use Rattle.core_state.specs.declared.change.Change.TheVariants.{Drop, EndJob, PutGraph, PutJob, PutPast, PutPoint}
 use Rattle.core_state.specs.declared.change.Change.TheVariants.{PutRow, PutStack, Send}
-use Rattle.hot_resolve.specs.Resolve.{resolve}
 use Rattle.type_catalog.specs.Changes.{replace}
 use Rattle.type_catalog.specs.declared.effect.Effect.TheVariants.{Replace}
 use Rattle.step_relation.specs.Begins.{Begins}
@@ -39,6 +38,7 @@ use Rattle.history_examples.specs.Setting.{item_name, item_under, job, letter, o
 use Rattle.history_examples.specs.Setting.{stack_name}
 use Rattle.history_examples.proofs.Finds.{each_job, each_letter}
 use Rattle.history_examples.proofs.Lists.{lists_one, not_done, requires_none}
+use Rattle.history_examples.proofs.Resolved.{of_size_one}
 use Rattle.history_examples.proofs.Steps.{by_command, by_turn}
 use Rattle.core_state.specs.declared.change.Change.TheVariants as change_to
 use Rattle.step_relation.specs.Commands as lay
@@ -167,9 +167,9 @@ module _ (policy : Policy) where
   }
 
   begin_tied : (rollback : Bool) → IsTied unjudged (taken_under policy rollback) 1 (Prepared (sized 1) Replace)
-  unfolding begins_ resolve
+  unfolding begins_
   begin_tied rollback = props (begins_ rollback) (sized 1) Replace
-      (record { known = []; known_are = input.none; result_is = refl })
+      (record { known = []; known_are = input.none; result_is = of_size_one policy [] })
       (replace (codes "size") (λ is. cc) (contains_none (codes "size")))
 
   abbrev pub begin_changes : List Change

@@ -36,6 +36,7 @@ use Rattle.history_examples.proofs.Finds.{each_row}
 use Rattle.history_examples.proofs.Kept.{incomplete}
 use Rattle.history_examples.proofs.Lists.{lists_one, no_path}
 use Rattle.history_examples.proofs.Possible.{begun_states, ready_states, some_ready}
+use Rattle.history_examples.proofs.Resolved.{of_size_two}
 use Rattle.history_examples.proofs.Sentences.{runs_have_headline, within}
 use Rattle.history_examples.proofs.Steps.{by_command}
 use Rattle.history_examples.proofs.Updates.{run_replaced, run_retaken, run_updated}
@@ -53,7 +54,7 @@ run_taken = run_retaken Create (λ is. cc) Complete (sized 1) (Some facts) None 
 
 run_halfway : Run registries opening.state halfway until_halfway
 run_halfway = run_replaced Create (λ is. cc) Complete (sized 1) (Some facts) None 2 2 (Some (plan 1)) until_retaken
-    Replace (λ is. cc)
+    Replace (of_size_two _ []) (λ is. cc)
     (changed refl (λ is. let same = is.props_are in cc) (λ is. let place = is.in_place in cc))
     (replace (codes "size") (λ is. cc) (contains_none (codes "size"))) refl run_taken
 

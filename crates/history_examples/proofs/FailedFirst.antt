@@ -28,6 +28,7 @@ use Rattle.history_examples.proofs.Begun.{run_begun}
 use Rattle.history_examples.proofs.Created.{fail_changes, fails}
 use Rattle.history_examples.proofs.Kept.{call_keeps}
 use Rattle.history_examples.proofs.Possible.{failed_states, some_failed, some_updated, updated_states}
+use Rattle.history_examples.proofs.Resolved.{of_size_one}
 use Rattle.history_examples.proofs.Sentences.{no_run, of_one, runs_have_headline, within}
 use Rattle.history_examples.proofs.Steps.{by_call}
 use Rattle.history_examples.proofs.Updates.{run_replaced, run_retaken, run_updated}
@@ -50,8 +51,8 @@ run_taken : Run registries opening.state (retaken 1 None row_failed) until_retak
 run_taken = run_retaken Create (λ is. cc) Failed (sized 1) None None 2 1 None until_updated refl run_again
 
 run_moved : Run registries opening.state (replaced 1 None row_failed) history
-run_moved = run_replaced Create (λ is. cc) Failed (sized 1) None None 2 1 None until_retaken Same (λ is. cc)
-    (given_up refl (λ is. omega (arith, is))) (same refl) refl run_taken
+run_moved = run_replaced Create (λ is. cc) Failed (sized 1) None None 2 1 None until_retaken Same
+    (of_size_one _ []) (λ is. cc) (given_up refl (λ is. omega (arith, is))) (same refl) refl run_taken
 
 main_theorem : Headline registries opening history (replaced 1 None row_failed)
 unfolding failed_states

@@ -18,7 +18,6 @@ use Rattle.core_state.specs.declared.change.Change.TheVariants.{EndJob, PutJob, 
 use Rattle.core_state.specs.declared.entry.Actor.TheVariants.{Engine}
 use Rattle.core_state.specs.declared.entry.Entry.{Entry}
 use Rattle.core_state.specs.declared.entry.RowWrite.TheVariants.{Set}
-use Rattle.hot_resolve.specs.Resolve.{resolve}
 use Rattle.type_catalog.specs.Changes.{Differs, in_place}
 use Rattle.type_catalog.specs.declared.effect.Effect.TheVariants.{InPlace}
 use Rattle.step_relation.specs.Asks.{Calls, by_failure, marks, polls, updates}
@@ -48,6 +47,7 @@ use Rattle.history_examples.specs.Updates.{graph_two, retaken, stack_two, update
 use Rattle.history_examples.proofs.Created.{run_created}
 use Rattle.history_examples.proofs.Kept.{text_cases, write_keeps}
 use Rattle.history_examples.proofs.Possible.{begun_states, changed_states, ready_states, some_changed, some_ready}
+use Rattle.history_examples.proofs.Resolved.{of_size_two}
 use Rattle.history_examples.proofs.Sentences.{no_run, of_one, runs_have_headline, within}
 use Rattle.history_examples.proofs.Steps.{goes_by_call, goes_quietly}
 use Rattle.history_examples.proofs.Updates.{begins_, run_retaken, run_updated}
@@ -86,7 +86,7 @@ abbrev begun_at : Begins (retaken 2 (Some (plan 1)) row_done) 1
 begun_at = begins_ Create (λ is. cc) Complete (sized 1) (Some facts) None 2 2 (Some (plan 1))
 
 run_begun : Run two_registries opening.state begun until_begun
-unfolding at put cut begins_ resolve
+unfolding at put cut begins_
 run_begun = goes_quietly two_registries judged (contains_there unjudged judged (judged ∷ []) (contains_head judged []))
     (retaken 2 (Some (plan 1)) row_done) begun
     (PutRow row_updating ∷ PutJob (works Asking) ∷ []) until_retaken begin_tells
@@ -94,7 +94,8 @@ run_begun = goes_quietly two_registries judged (contains_there unjudged judged (
     1 (Prepared (sized 2) InPlace) (λ a is. cc)
     (plain None (begin_in_place begun_at (sized 2) InPlace _ _ (λ is. cc) refl
     (record { kind = refl; differs = λ is. cc; in_place = refl }) refl refl) unfailed) refl
-    (props begun_at (sized 2) InPlace (record { known = []; known_are = input.none; result_is = refl })
+    (props begun_at (sized 2) InPlace
+    (record { known = []; known_are = input.none; result_is = of_size_two _ [] })
     (in_place (λ is. cc) size_alone))
 
 -- the cloud is asked, and what a failure would do

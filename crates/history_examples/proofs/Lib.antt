@@ -2,6 +2,7 @@ pub mod Worn
 pub mod Finds
 pub mod Steps
 pub mod Lists
+pub mod Resolved
 pub mod Possible
 pub mod Begun
 pub mod Created

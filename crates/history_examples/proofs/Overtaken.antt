@@ -25,7 +25,7 @@ use Rattle.history.specs.Tokens.{token_at}
 use Rattle.soundness.specs.Headline.{AtPrefix, Headline}
 use Rattle.table_laws.proofs.Puts.{contains_head}
 use Rattle.table_laws.proofs.Rows.{same_some}
-use Rattle.hot_resolve.specs.Resolve.{Props, resolve}
+use Rattle.hot_resolve.specs.Resolve.{Props}
 use Rattle.next_laws.proofs.Listings.{in_head, in_tail}
 use Rattle.history_examples.specs.Created.{poll_tells, until_asked}
 use Rattle.history_examples.specs.FirstRow.{row_begun, row_done, row_ready}
@@ -39,6 +39,7 @@ use Rattle.history_examples.specs.Updates.{update_tells}
 use Rattle.history_examples.proofs.Created.{run_asked}
 use Rattle.history_examples.proofs.Kept.{fits_still, mark_keeps, not_completes}
 use Rattle.history_examples.proofs.Possible.{begun_states, ready_states, some_ready}
+use Rattle.history_examples.proofs.Resolved.{of_size_two}
 use Rattle.history_examples.proofs.Sentences.{no_run, of_two, runs_have_headline, within}
 use Rattle.history_examples.proofs.Steps.{by_call, by_turn}
 use Rattle.history_examples.proofs.Updates.{overrun, run_updated, told_again}
@@ -144,11 +145,11 @@ not_sized true it is same =
 not_sized false it is same = cc
 
 misfit : ¬ Fits opening until_late stack_name (plan 2)
-unfolding ready_states begun_states resolve
+unfolding ready_states begun_states
 misfit fits =
     let it : HasExactly opening until_late stack_name (plan 2) (item 2) =
     All-head (HasExactly opening until_late stack_name (plan 2)) (item 2) [] fits.each in
-    let props : Props (sized 2) ≡ Props it.it.props = it.props in
+    let props : Props (sized 2) ≡ Props it.it.props = sym (of_size_two _ it.known) ∙ it.props in
     let same : sized 2 ≡ it.it.props = cc in
     not_sized (same_token (token 1) (token_at stack_name item_name it.row)) it.it it.state (sym same)
 

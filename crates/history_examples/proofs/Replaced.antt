@@ -12,7 +12,6 @@ use Rattle.core_state.specs.Changes.{put_point}
 use Rattle.core_state.specs.Reads.{IsReady}
 use Rattle.core_state.specs.declared.change.Change.{Change}
 use Rattle.core_state.specs.declared.change.Change.TheVariants.{Drop, EndJob, PutJob, PutPoint, PutRow, PutStack, Send}
-use Rattle.hot_resolve.specs.Resolve.{resolve}
 use Rattle.type_catalog.specs.Changes.{replace}
 use Rattle.type_catalog.specs.declared.effect.Effect.TheVariants.{Replace}
 use Rattle.step_relation.specs.Asks.{Calls, by_failure, creates, marks, polls}
@@ -41,6 +40,7 @@ use Rattle.history_examples.specs.Updates.{stack_two}
 use Rattle.history_examples.proofs.Finds.{each_job, each_letter}
 use Rattle.history_examples.proofs.Lists.{lists_one, not_done, requires_none}
 use Rattle.history_examples.proofs.Overtaken.{run_freed}
+use Rattle.history_examples.proofs.Resolved.{of_size_two}
 use Rattle.history_examples.proofs.Steps.{by_call, by_turn}
 use Rattle.core_state.specs.declared.change.Change.TheVariants as change_to
 use Rattle.core_state.specs.declared.entry.Why.TheVariants as why
@@ -113,14 +113,15 @@ begins_ = record {
 }
 
 run_moved : Run registries opening.state moved until_moved
-unfolding at put cut begins_ resolve
+unfolding at put cut begins_
 run_moved = by_turn held moved
     (change_to.Numbers (record { stack = 2; trav = 3; row = 3; engine = 3; letter = 4 })
     ∷ PutRow (row_two 2) ∷ PutRow row_old ∷ PutJob (updates 2 Asking) ∷ []) until_held (replace_tells 2 row_done)
     run_held refl
     1 (Prepared (sized 2) Replace) (λ a is. cc) (plain None (begin_replaced begins_ (sized 2) Replace _ _ (λ is. cc)
     (changed refl (λ is. let same = is.props_are in cc) (λ is. let place = is.in_place in cc)) refl refl) unfailed) refl
-    (props begins_ (sized 2) Replace (record { known = []; known_are = input.none; result_is = refl })
+    (props begins_ (sized 2) Replace
+    (record { known = []; known_are = input.none; result_is = of_size_two _ [] })
     (replace (codes "size") (λ is. cc) (contains_none (codes "size"))))
 
 -- the cloud is asked for it, and what a failure would do

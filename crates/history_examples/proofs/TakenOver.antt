@@ -11,7 +11,6 @@ use Rattle.core_state.specs.declared.change.Change.TheVariants.{Drop, EndJob, Pu
 use Rattle.core_state.specs.declared.entry.Actor.TheVariants.{Engine}
 use Rattle.core_state.specs.declared.entry.Entry.{Entry}
 use Rattle.core_state.specs.declared.entry.RowWrite.TheVariants.{Purge}
-use Rattle.hot_resolve.specs.Resolve.{resolve}
 use Rattle.type_catalog.specs.Changes.{same}
 use Rattle.type_catalog.specs.declared.effect.Effect.TheVariants.{Same}
 use Rattle.step_relation.specs.Begins.{Begins}
@@ -45,6 +44,7 @@ use Rattle.history_examples.proofs.Finds.{each_job, each_letter}
 use Rattle.history_examples.proofs.Kept.{write_keeps}
 use Rattle.history_examples.proofs.Lists.{not_done, requires_none}
 use Rattle.history_examples.proofs.Possible.{begun_states, some_begun}
+use Rattle.history_examples.proofs.Resolved.{of_size_one}
 use Rattle.history_examples.proofs.Sentences.{no_run, of_one, runs_have_headline, within}
 use Rattle.history_examples.proofs.Steps.{by_turn}
 use Rattle.core_state.specs.declared.change.Change.TheVariants as change_to
@@ -152,11 +152,12 @@ begins_ = record {
 }
 
 run_resumed : Run registries opening.state resumed history
-unfolding at put cut begins_ resolve
+unfolding at put cut begins_
 run_resumed = by_turn kept resumed (PutJob (job 2 (letter 2 1 0) 1 Asking) ∷ []) until_kept resume_tells run_kept refl
     2 (Prepared (sized 1) Same) (λ a is. cc)
     (plain None (begin_resumed begins_ (sized 1) Same _ _ (λ is. cc) refl refl refl refl) unfailed) refl
-    (props begins_ (sized 1) Same (record { known = []; known_are = input.none; result_is = refl }) (same refl))
+    (props begins_ (sized 1) Same
+    (record { known = []; known_are = input.none; result_is = of_size_one _ [] }) (same refl))
 
 main_theorem : Headline registries opening history resumed
 unfolding begun_states

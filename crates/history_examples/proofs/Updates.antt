@@ -25,7 +25,7 @@ use Rattle.core_state.specs.declared.change.Change.{Change}
 use Rattle.core_state.specs.declared.change.Change.TheVariants.{Drop, PutGraph, PutJob, PutPast, PutRow, PutStack, Send}
 use Rattle.core_state.specs.declared.entry.Entry.{Entry}
 use Rattle.core_state.specs.declared.stack.Stack.{Stack}
-use Rattle.hot_resolve.specs.Resolve.{resolve}
+use Rattle.hot_resolve.specs.Resolve.{Props, resolve}
 use Rattle.type_catalog.specs.Changes.{ChangeOf}
 use Rattle.type_catalog.specs.declared.effect.Effect.{Effect}
 use Rattle.step_relation.specs.Begins.{Begins, MustGo}
@@ -229,17 +229,17 @@ module _ (a : Act) (kept : a ≢ Delete) (status : Status) (p : Members) (f : Op
       requires_are = requires_none;
     }
 
-    pub run_replaced : (h : List Entry) (effect : Effect) → a ≢ Init → MustGo (again r) (item size) 2
-        (sized size) effect
+    pub run_replaced : (h : List Entry) (effect : Effect) → resolve (plan size) (item size) [] ≡ Props (sized size)
+        → a ≢ Init → MustGo (again r) (item size) 2 (sized size) effect
         → ChangeOf [] p (sized size) effect → ltb (k + 1 + 1) (2 ^ 62) ≡ true
         → Run registries opening.state (retaken size back r) h
         → Run registries opening.state (replaced size back r) (h ++ replace_tells size r)
-    unfolding at put cut begins_ resolve
-    run_replaced h effect begun go change small run = by_turn (retaken size back r) (replaced size back r)
+    unfolding at put cut begins_
+    run_replaced h effect resolved begun go change small run = by_turn (retaken size back r) (replaced size back r)
         (change_to.Numbers (record { stack = 2; trav = 3; row = 3; engine = 3; letter = 3 })
         ∷ PutRow (row_two size) ∷ PutRow (left r) ∷ PutJob (job 1 (letter 2 2 0) 2 Asking) ∷ []) h
         (replace_tells size r) run refl
         1 (Prepared (sized size) effect) (λ x is. cc)
         (plain None (begin_replaced begins_ (sized size) effect _ _ begun go refl refl) unfailed)
         (rw small refl)
-        (props begins_ (sized size) effect (record { known = []; known_are = input.none; result_is = refl }) change)
+        (props begins_ (sized size) effect (record { known = []; known_are = input.none; result_is = resolved }) change)

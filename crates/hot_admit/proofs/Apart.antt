@@ -3,7 +3,6 @@ use Rattle.std.proofs.Common.{◌≡◌, ◌⊎◌, ℕ, List, [], ◌∷◌, Bo
 use Rattle.std.proofs.Common.{if◌then◌else◌}
 use Rattle.std.specs.Bool.{beq}
 use Rattle.std.specs.Cmp.Lexicographic.{slice_cmp}
-use Rattle.std.specs.List.{AllByRecursion}
 use Rattle.std.specs.List.Sorted.{IsStrictlySortedBy}
 use Rattle.std.specs.Ordering.{nat_cmp}
 use Rattle.std.specs.declared.cmp.Ordering.TheVariants.{Less}
@@ -13,7 +12,7 @@ use Rattle.hot_admit.specs.Items.{names_marked}
 use Rattle.hot_admit.specs.Resources.{ResourceData, names_of}
 use Rattle.hot_admit.specs.declared.conds.Wanted.{Wanted}
 use Rattle.hot_admit.proofs.Chosen.{Behind, behind_marked}
-use Rattle.hot_admit.proofs.Members.{front_cases, none_in}
+use Rattle.hot_admit.proofs.Members.{front_cases}
 use Rattle.hot_admit.proofs.Rising.{not_less_itself}
 
 abbrev Apart : List (List ℕ) → List (List ℕ) → Type 0

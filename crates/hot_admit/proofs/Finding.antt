@@ -1,7 +1,7 @@
 -- How the value of one condition is found.
 use Rattle.std.proofs.Common.{◌≡◌, ◌∙◌, ◌<◌, ◌++◌, ℕ, zero, suc, List, [], ◌∷◌, Bool, true, false, Option, Some, None}
 use Rattle.std.proofs.Common.{length, map, replicate, set, get_or, slice_get, refl, sym, ap, subst}
-use Rattle.std.proofs.Common.{◌+◌, option_map, bytes_eq, cond, find, append-nil}
+use Rattle.std.proofs.Common.{option_map, bytes_eq, cond, find, append-nil}
 use Rattle.std.specs.Cmp.Lexicographic.{slice_cmp}
 use Rattle.std.specs.List.Sorted.{IsStrictlySortedBy}
 use Rattle.std.specs.Ordering.{nat_cmp}

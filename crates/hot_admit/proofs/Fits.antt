@@ -1,24 +1,21 @@
 -- Each resource of a right template of which nothing is wrong can be made an item of.
-use Rattle.std.proofs.Common.{◌≡◌, ◌≤◌, ◌&&◌, ℕ, List, [], ◌∷◌, Bool, true, false, Option, Some, None, All, refl, sym}
+use Rattle.std.proofs.Common.{◌≡◌, ◌≤◌, ℕ, List, [], ◌∷◌, Bool, true, false, Option, Some, None, All, refl, sym}
 use Rattle.std.proofs.Common.{arith}
-use Rattle.std.proofs.Common.{codes, length, nat_le, is_some}
+use Rattle.std.proofs.Common.{codes, length, is_some}
 use Rattle.std.specs.Option.{option_or}
 use Rattle.std.proofs.lemmas.List.Elements.{All-nil, All-cons}
-use Rattle.heat_plan.specs.Names.{IsResName}
 use Rattle.heat_value.specs.Data.{Data, Members, no_members, member, depth, members_depth}
 use Rattle.heat_value.specs.declared.path.Step.{Step}
 use Rattle.hot_admit.specs.Basis.{BasisData, kind_at}
 use Rattle.hot_admit.specs.Codes.{told, first_refused}
 use Rattle.hot_admit.specs.Entries.{resource_flaw}
 use Rattle.hot_admit.specs.Items.{IsFit}
-use Rattle.hot_admit.specs.Resources.{ResourceData, resource_with, resources_among, resources_in}
+use Rattle.hot_admit.specs.Resources.{resource_with, resources_among, resources_in}
 use Rattle.hot_admit.specs.declared.code.AdmitCode.{AdmitCode}
-use Rattle.hot_admit.specs.declared.fault.AdmitFlaw.{AdmitFlaw}
 use Rattle.hot_catalog.specs.Paths.{here_unless, behind}
 use Rattle.heat_value.specs.declared.path.Step.TheVariants.{Key}
 use Rattle.hot_forms.specs.Checks.{under, unless, first_entry, first_of}
 use Rattle.hot_forms.specs.Parameters.{parameter_flaw}
-use Rattle.hot_forms.specs.Names.{is_name}
 use Rattle.hot_forms.specs.Shapes.{members_in}
 use Rattle.hot_forms.specs.declared.code.HotCode.{HotCode}
 use Rattle.hot_forms.specs.declared.flaw.Flaw.{Flaw}

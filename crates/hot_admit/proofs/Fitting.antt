@@ -2,8 +2,7 @@
 use Rattle.std.proofs.Common.{◌≡◌, ◌+◌, ℕ, List, [], ◌∷◌, Bool, true, false, Option, Some, None}
 use Rattle.std.proofs.Common.{Result, refl, sym, subst, nat_le, option_map, if◌then◌else◌}
 use Rattle.std.specs.Prelude.{⊤, IsSome, option_and_then}
-use Rattle.heat_plan.specs.declared.plan.Condition.{Condition}
-use Rattle.heat_value.specs.Data.{Data, whole, Nodes, node}
+use Rattle.heat_value.specs.Data.{Data, Nodes, node}
 use Rattle.hot_eval.specs.Evaluation.{Evaluating, answer_of}
 use Rattle.hot_eval.specs.Functions.{flags_in}
 use Rattle.hot_eval.specs.Manners.{manner_of}

@@ -1,6 +1,6 @@
 -- What is found step by step is the plan or the fault.
-use Rattle.std.proofs.Common.{◌≡◌, ◌∙◌, ◌<◌, ◌≤◌, ◌^◌, ℕ, List, [], ◌∷◌, Option, Some, None, All, Contains, true, false}
-use Rattle.std.proofs.Common.{map, length, codes, refl, sym, ap, subst, arith}
+use Rattle.std.proofs.Common.{◌≡◌, ◌∙◌, ◌<◌, ◌≤◌, ◌^◌, ℕ, List, Option, Some, None, All, Contains, true, false}
+use Rattle.std.proofs.Common.{map, length, codes, refl, sym, ap, arith}
 use Rattle.std.proofs.lemmas.List.{length-map}
 use Rattle.heat_plan.specs.Order.{Rising}
 use Rattle.heat_plan.specs.Names.{IsResName}
@@ -13,7 +13,7 @@ use Rattle.heat_value.specs.declared.path.Step.{Step}
 use Rattle.hot_admit.specs.Admission.{IsAdmitted, IsRefused, cyclic_conditions, no_value, wrong, cyclic_needs, own_flaw}
 use Rattle.hot_admit.specs.Basis.{BasisData}
 use Rattle.hot_admit.specs.Codes.{flaw_at}
-use Rattle.hot_admit.specs.Conds.{AreCondsOf, HaveValues, IsCondFaultOf, resource_wanted, output_wanted}
+use Rattle.hot_admit.specs.Conds.{AreCondsOf, IsCondFaultOf, resource_wanted, output_wanted}
 use Rattle.hot_admit.specs.Cycles.{HasOrder, IsCycleOf}
 use Rattle.hot_admit.specs.Entries.{entries_flaw}
 use Rattle.hot_admit.specs.Faults.{IsAdmitFaultOf, as_admission}
@@ -31,7 +31,6 @@ use Rattle.hot_parts.specs.Parts.{ArePartsOf}
 use Rattle.hot_parts.specs.Readings.{entries}
 use Rattle.hot_parts.specs.declared.parts.Parts.{Parts}
 use Rattle.hot_parts.specs.declared.res.Res.{Res}
-use Rattle.hot_parts.specs.declared.output.Out.{Out}
 use Rattle.hot_registry.specs.declared.kind.KindDef.{KindDef}
 use Rattle.hot_tree.specs.Template.{IsRight}
 use Rattle.hot_admit.proofs.Admitted.{items_rise, items_met, items_few, items_are_plan}

@@ -1,11 +1,11 @@
 -- The items of resources that can be made items of.
-use Rattle.std.proofs.Common.{◌≡◌, ℕ, suc, List, [], ◌∷◌, ◌++◌, Bool, true, false, Some, All, Contains, filter, cond}
+use Rattle.std.proofs.Common.{◌≡◌, ℕ, suc, List, [], ◌∷◌, Bool, true, false, All, Contains, filter, cond}
 use Rattle.std.proofs.Common.{length, refl, ap}
 use Rattle.std.proofs.lemmas.List.Elements.{All-nil, All-cons, All-head, All-tail}
 use Rattle.heat_plan.specs.Plans.{names_of as item_names}
 use Rattle.heat_plan.specs.declared.item.Item.{Item}
-use Rattle.hot_admit.specs.Basis.{BasisData, kind_at}
-use Rattle.hot_admit.specs.Items.{IsFit, items_with, named_by, needs_among}
+use Rattle.hot_admit.specs.Basis.{BasisData}
+use Rattle.hot_admit.specs.Items.{IsFit, items_with, named_by}
 use Rattle.hot_admit.specs.Resources.{ResourceData, names_of}
 use Rattle.hot_forms.specs.Checks.{is_among}
 use Rattle.hot_admit.proofs.Members.{first_is, behind}

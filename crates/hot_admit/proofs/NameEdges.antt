@@ -1,6 +1,6 @@
 -- The edges from the conditions of names, one name more.
-use Rattle.std.proofs.Common.{◌≡◌, ◌↔◌, ◌⊎◌, ◌∙◌, ◌<◌, ◌≤◌, ◌+◌, ℕ, List, [], ◌∷◌, ◌++◌, Some, Contains, slice_get}
-use Rattle.std.proofs.Common.{Result, Ok, Err, Bor, map, length, get_or, take, refl, sym, ap, subst, inl, inr}
+use Rattle.std.proofs.Common.{◌≡◌, ◌⊎◌, ◌∙◌, ◌<◌, ◌+◌, ℕ, List, [], ◌∷◌, ◌++◌, Some, Contains, slice_get}
+use Rattle.std.proofs.Common.{Ok, Err, Bor, map, length, get_or, take, refl, sym, ap, subst, inl, inr}
 use Rattle.std.proofs.lemmas.List.{take_more, map-append}
 use Rattle.std.proofs.lemmas.List.Elements.{Contains-push, Contains-push_cases, Contains-append_left}
 use Rattle.dep_graph.specs.Edges.{Links, HasEdge, AddsEdge}
@@ -11,7 +11,7 @@ use Rattle.heat_value.specs.declared.text.Text.{Text}
 use Rattle.heat_value.specs.declared.value.Member.{Member}
 use Rattle.hot_admit.specs.Naming.{HasNameAt, AddsNames}
 use Rattle.hot_admit.proofs.Keyed.{named_at, is_at}
-use Rattle.hot_admit.proofs.Members.{none_in, first_is}
+use Rattle.hot_admit.proofs.Members.{none_in}
 
 pub adds_none : (conds : Members) (after : ℕ) (graph : Links) → AddsNames conds [] after graph graph
 adds_none conds after graph = record { same = refl; edges = λ x y. (inl, by x y) }

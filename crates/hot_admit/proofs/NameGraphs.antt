@@ -1,15 +1,15 @@
 -- The graph of what conditions name, one condition more.
-use Rattle.std.proofs.Common.{◌≡◌, ◌↔◌, ◌⊎◌, ◌∙◌, ◌<◌, ◌≤◌, ◌+◌, ℕ, zero, suc, List, [], ◌∷◌, Option, Some, Contains}
-use Rattle.std.proofs.Common.{slice_get, length, get_or, option_map, refl, sym, ap, subst, inl, inr, arith}
+use Rattle.std.proofs.Common.{◌≡◌, ◌⊎◌, ◌∙◌, ◌<◌, ◌≤◌, ◌+◌, ℕ, zero, suc, List, [], ◌∷◌, Some, Contains}
+use Rattle.std.proofs.Common.{slice_get, length, get_or, option_map, sym, ap, subst, inl, inr, arith}
 use Rattle.std.proofs.lemmas.Bool.{cases_lt}
 use Rattle.std.proofs.lemmas.Option.{slice_get-get_or, slice_get_within}
 use Rattle.dep_graph.specs.Edges.{Links, HasEdge, IsBare}
 use Rattle.heat_value.proofs.Searches.{lookup_placed, at_place}
-use Rattle.heat_value.specs.Data.{Data, Members, keys_of, lookup, Rises}
+use Rattle.heat_value.specs.Data.{Data, keys_of, lookup, Rises}
 use Rattle.heat_value.specs.Meaning.{data_of, members_of}
 use Rattle.heat_value.specs.declared.value.Member.{Member}
 use Rattle.hot_admit.specs.Naming.{IsNamedBy, HasNames, HasFirstNames, HasNameAt, AddsNames}
-use Rattle.hot_eval.specs.Conditions.{Names, names_read}
+use Rattle.hot_eval.specs.Conditions.{names_read}
 use Rattle.hot_functions.specs.declared.place.Place.TheVariants as place
 use Rattle.hot_admit.proofs.Keyed.{is_at, keys_count}
 

@@ -1,7 +1,7 @@
 -- A text that passes the test of names is a resource's name.
-use Rattle.std.proofs.Common.{◌≡◌, ◌⊎◌, ◌<◌, ◌≤◌, ◌&&◌, ◌||◌, ◌==◌, ℕ, zero, suc, List, [], ◌∷◌, Bool, true, false}
+use Rattle.std.proofs.Common.{◌≡◌, ◌⊎◌, ◌&&◌, ◌||◌, ◌==◌, ℕ, List, [], ◌∷◌, Bool, true, false}
 use Rattle.std.proofs.Common.{All, length}
-use Rattle.std.proofs.Common.{nat_lt, nat_le, inl, inr, refl, arith}
+use Rattle.std.proofs.Common.{nat_lt, nat_le, inl, inr, refl}
 use Rattle.std.specs.Char.{is_ascii_alphanumeric, IsAsciiAlphanumeric}
 use Rattle.std.specs.Int.{is_in_range, IsInRange}
 use Rattle.std.specs.List.{list_all}

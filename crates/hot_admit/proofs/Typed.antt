@@ -1,9 +1,9 @@
 -- A template's parts by type say the same as its object.
 use Rattle.std.proofs.Common.{◌≡◌, ℕ, List, [], ◌∷◌, refl, ap, codes}
 use Rattle.heat_value.specs.Data.{Data, Members, no_members, member, keys_of, Rises}
-use Rattle.hot_admit.specs.Resources.{ResourceData, resource_with, resources_among, resource_data, resources_data}
+use Rattle.hot_admit.specs.Resources.{resource_with, resources_among, resource_data, resources_data}
 use Rattle.hot_admit.specs.Resources.{names_of}
-use Rattle.hot_admit.specs.Resources.{OutputData, output_with, outputs_among, output_data, outputs_data}
+use Rattle.hot_admit.specs.Resources.{output_with, outputs_among, output_data, outputs_data}
 use Rattle.hot_forms.specs.Shapes.{members_in}
 use Rattle.heat_plan.specs.Order.{Rising}
 use Rattle.hot_parts.specs.Entries.{IsRes, IsOut}

@@ -11,7 +11,6 @@ use Rattle.hot_admit.specs.Conds.{unvalued_resource, unvalued_output, resource_w
 use Rattle.hot_admit.specs.Conds.{AreCondsOf, IsCondFaultOf, IsCyclicFault, IsUnvaluedFault}
 use Rattle.hot_admit.specs.Resources.{resources_among, outputs_among, resources_data, outputs_data}
 use Rattle.hot_admit.specs.Resources.{resources_in, outputs_in, conditions_in}
-use Rattle.hot_admit.specs.declared.conds.Conds.{Conds}
 use Rattle.hot_admit.specs.declared.conds.Wanted.{Wanted}
 use Rattle.hot_admit.specs.declared.fault.CondFault.{CondFault}
 use Rattle.hot_admit.specs.declared.fault.CondFault.TheVariants.{C01, C02, Memory}

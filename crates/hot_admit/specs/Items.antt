@@ -1,5 +1,5 @@
 -- The items of the resources that are wanted: what each is made of, and what it needs.
-use Rattle.std.specs.Prelude.{◌≡◌, ◌≤◌, ℕ, List, [], ◌∷◌, ◌++◌, Bool, not, Option, Some, None, All, map, filter, codes}
+use Rattle.std.specs.Prelude.{◌≡◌, ◌≤◌, ℕ, List, [], ◌∷◌, ◌++◌, Bool, not, Option, Some, None, All, filter, codes}
 use Rattle.std.specs.Prelude.{if◌then◌else◌}
 use Rattle.std.specs.Bool.{beq}
 use Rattle.heat_plan.specs.Names.{IsResName}

@@ -2,7 +2,7 @@
 use Rattle.std.specs.Prelude.{ℕ, List, [], ◌∷◌, Bool, not, ◌&&◌, Option, Some, None, is_some, bytes_eq, codes}
 use Rattle.std.specs.Prelude.{if◌then◌else◌}
 use Rattle.std.specs.List.{list_any}
-use Rattle.heat_value.specs.Data.{Data, Members, no_members, member, lookup}
+use Rattle.heat_value.specs.Data.{Members, no_members, member, lookup}
 use Rattle.heat_value.specs.declared.path.Step.{Step}
 use Rattle.heat_value.specs.declared.path.Step.TheVariants.{Key}
 use Rattle.hot_admit.specs.Basis.{BasisData, kind_at}

@@ -1,5 +1,5 @@
 -- The plan of a template with its bound parameters, the files beside it, and the kinds that stand.
-use Rattle.std.specs.Prelude.{◌≤◌, ℕ, List, [], ◌∷◌, Some, All, map, if◌then◌else◌}
+use Rattle.std.specs.Prelude.{◌≤◌, List, [], ◌∷◌, Some, All, map, if◌then◌else◌}
 use Rattle.heat_plan.specs.Plans.{PlanData}
 use Rattle.heat_plan.specs.declared.item.Item.{Item}
 use Rattle.heat_plan.specs.declared.plan.Condition.{Condition}

@@ -1,1 +1,3 @@
 pub mod Listed
+pub mod Softs
+pub mod Untruncated

@@ -34,6 +34,13 @@ impl Judge {
 
     /// What a change asks for, by the properties that change in place.
     pub fn change(&self, old: &Properties, new: &Properties) -> Effect
+        ensures { ChangeOf (softs_of self.now.kind.props) old.now new.now result }
+    {
+        self.told(old, new)
+    }
+
+    // The closure's answer, as the fact beside it tells it.
+    fn told(&self, old: &Properties, new: &Properties) -> Effect
         ensures { ∥ ChangeOf (softs_of self.now.kind.props) old.now new.now result ∥₁ }
     {
         (self.change)(old, new)

@@ -1,5 +1,5 @@
 //! The definition of a kind.
-ghost use Rattle.std.specs.Prelude.{◌≡◌, IfOk};
+ghost use Rattle.std.specs.Prelude.{◌≡◌, ◌↔◌, IfOk, IsTrue};
 ghost use Rattle.hot_registry.specs.Kinds.{softs_of, kind_of};
 
 use heat_plan::Kind;
@@ -34,6 +34,23 @@ impl KindDef {
             }
         }
         Ok(softs)
+    }
+
+    /// Whether these are the names of the properties that change in place, in the order of the properties.
+    pub fn has_softs(&self, softs: &[Text]) -> bool
+        ensures { IsTrue result ↔ softs_of self.now.props ≡ softs.now }
+    {
+        let mut rest = softs;
+        for prop in self.props.as_slice() {
+            if !prop.soft {
+                continue;
+            }
+            match rest.split_first() {
+                Some((first, others)) if prop.name == *first => rest = others,
+                _ => return false,
+            }
+        }
+        rest.is_empty()
     }
 
     /// What an item keeps of its kind.

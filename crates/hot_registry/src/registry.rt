@@ -1,11 +1,15 @@
 //! All that a program registers.
-ghost use Rattle.std.specs.Prelude.{◌≡◌, ◌&&◌, map, option_map, is_some, IfSome, true};
+ghost use Rattle.std.specs.Prelude.{◌≡◌, ◌&&◌, [], map, option_map, is_some, IfSome, true};
+ghost use Rattle.type_catalog.specs.Changes.{ChangeOf};
 ghost use Rattle.hot_registry.specs.Names.{are_few as the_are_few};
 ghost use Rattle.hot_registry.specs.Registries.{kind_name, kind_named, test_named};
 
 use crate::naming::{HasName, are_few, named};
 use crate::{Custom, Judge, KindDef};
+use heat_plan::{Kind, Properties};
 use heat_value::{Seq, Text};
+use std::alloc::Global;
+use type_catalog::{Effect, change_of};
 
 impl HasName for KindDef {
     ghost name_of = { kind_name };
@@ -41,6 +45,17 @@ pub struct Registry {
 }
 
 impl Registry {
+    /// Nothing is registered. It takes no memory.
+    pub fn empty(alloc: Global) -> Registry
+        ensures judges { result.judges ≡ [] }
+        ensures customs { result.customs ≡ [] }
+    {
+        Registry {
+            judges: Seq::new(alloc),
+            customs: Seq::new(alloc),
+        }
+    }
+
     /// The registry of these; none exactly where there are more than 16 of a sort, or a name twice in it.
     pub fn new(judges: Seq<Judge>, customs: Seq<Custom>) -> Option<Registry>
         ensures exact { is_some result
@@ -61,6 +76,19 @@ impl Registry {
             ≡ kind_named name.now (map (λ j. j.kind) self.now.judges) }
     {
         named(self.judges.as_slice(), name)
+    }
+
+    /// What a change of a resource of this kind asks for. The judge of the kind's name is asked where the
+    /// same properties change in place for him; a kind may come from anyone.
+    pub fn change(&self, kind: &Kind, old: &Properties, new: &Properties) -> Effect
+        ensures { ChangeOf kind.now.soft old.now new.now result }
+    {
+        if let Some(judge) = self.judge(&kind.name) {
+            if judge.kind.has_softs(kind.soft.as_slice()) {
+                return judge.change(old, new);
+            }
+        }
+        change_of(kind.soft.as_slice(), old, new)
     }
 
     /// The test of this name.

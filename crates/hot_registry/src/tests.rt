@@ -6,18 +6,19 @@ ghost use Rattle.hot_registry.specs.Names.{is_listed};
 ghost use Rattle.hot_registry.specs.Shipped.{flavor_test as the_flavor_test};
 
 use crate::{Ask, Change, Registry, box_kind, is_flavor, shipped_registry};
-use heat_plan::Properties;
-use heat_value::{Text, Value, ValueFault};
+use heat_plan::{Kind, Properties};
+use heat_value::{Seq, Text, Value, ValueFault};
 use std::alloc::{AllocError, Global};
 use std::test::Fail;
 use type_catalog::{Effect, change_of};
 
 // What is asked: the test of a name, of a text; the judge of a kind, of a change from the first properties to
-// the second.
+// the second; the registry, of such a change of a box for which these properties change in place.
 #[derive(Clone, Copy, Debug)]
 enum Asked {
     Of(&'static str, &'static str),
     Change(&'static str, &'static str, &'static str),
+    Box(&'static [&'static str], &'static str, &'static str),
 }
 
 // What the shipped registry answers.
@@ -39,6 +40,7 @@ fn answer(alloc: Global, asked: Asked) -> Result<&'static str, AllocError> {
     match asked {
         Asked::Of(name, text) => told(alloc, &registry, name, text),
         Asked::Change(kind, old, new) => judged(alloc, &registry, kind, old, new),
+        Asked::Box(softs, old, new) => changed(alloc, &registry, softs, old, new),
     }
 }
 
@@ -66,13 +68,39 @@ fn judged(
         return Ok("no properties");
     };
     match registry.judge(&Text::from_str(alloc, kind)?) {
-        Some(judge) => Ok(match judge.change(&old, &new) {
-            Effect::Same => "same",
-            Effect::InPlace => "in place",
-            Effect::Replace => "replace",
-        }),
+        Some(judge) => Ok(word(judge.change(&old, &new))),
         None => Ok("no such judge"),
     }
+}
+
+fn word(effect: Effect) -> &'static str {
+    match effect {
+        Effect::Same => "same",
+        Effect::InPlace => "in place",
+        Effect::Replace => "replace",
+    }
+}
+
+fn changed(
+    alloc: Global,
+    registry: &Registry,
+    softs: &[&str],
+    old: &str,
+    new: &str,
+) -> Result<&'static str, AllocError> {
+    let (Some(old), Some(new)) = (properties(alloc, old)?, properties(alloc, new)?) else {
+        return Ok("no properties");
+    };
+    let mut soft = Seq::new(alloc);
+    for name in softs {
+        soft.push(Text::from_str(alloc, name)?)?;
+    }
+    let kind = Kind {
+        name: Text::from_str(alloc, "Test::Box")?,
+        attrs: Seq::new(alloc),
+        soft,
+    };
+    Ok(word(registry.change(&kind, &old, &new)))
 }
 
 // Properties of a text in single quotes; none where it is no map.
@@ -118,6 +146,13 @@ fn the_shipped_registry_answers(rt: HostRuntime) -> Result<(), Fail> {
         ),
         (Asked::Change("Test::Box", "{}", "{'colour':1}"), "replace"),
         (Asked::Change("Test::Bag", "{}", "{}"), "no such judge"),
+        (
+            Asked::Box(&["link", "size"], "{}", "{'size':1}"),
+            "in place",
+        ),
+        (Asked::Box(&["link"], "{}", "{'size':1}"), "replace"),
+        (Asked::Box(&["zone"], "{}", "{'zone':1}"), "in place"),
+        (Asked::Box(&[], "{'size':1}", "{'size':1}"), "same"),
     ];
     for (asked, wanted) in rows {
         let told = match answer(rt.alloc(), asked) {

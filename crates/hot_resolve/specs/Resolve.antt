@@ -5,12 +5,20 @@ use Rattle.heat_value.specs.declared.path.Step.{Step}
 use Rattle.heat_plan.specs.Plans.{PlanData}
 use Rattle.heat_plan.specs.declared.item.Item.{Item}
 use Rattle.heat_plan.specs.declared.facts.KnownFacts.{KnownFacts}
+use Rattle.hot_eval.specs.Codes.{code_text}
+use Rattle.hot_eval.specs.Outcomes.{Faults, Gives, Outcome}
+use Rattle.hot_eval.specs.Resolutions.{resolve as outcome}
 
 -- a property map, or a fault's code and path
 pub data Resolved : Type 0 where
   Props : (props : Members) → Resolved
   Fault : (code : List ℕ) → (path : List Step) → Resolved
 
--- the item's properties as they are written: no function is evaluated, so that nothing faults
+-- the map that an evaluation made, whatever it cost; or its fault, with the code's text
+abbrev pub of_outcome : Outcome Members → Resolved
+of_outcome (Gives props spent) = Props props
+of_outcome (Faults code path) = Fault (code_text code) path
+
+-- what the item's properties come to with these facts, and nothing else that is known
 unfoldable pub resolve : PlanData → Item → List KnownFacts → Resolved
-resolve plan item known = Props item.props
+resolve plan item known = of_outcome (outcome plan item known)

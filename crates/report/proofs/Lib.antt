@@ -1,2 +1,3 @@
 pub mod Parts
 pub mod Backwards
+pub mod Currents

@@ -1,10 +1,9 @@
 -- What an entry adds to the text, given what was seen before it.
-use Rattle.std.specs.Prelude.{ℕ, List, [], ◌∷◌, ◌++◌, Bool, true, false, cond, Option, Some, None, codes, decimal}
+use Rattle.std.specs.Prelude.{ℕ, List, [], ◌∷◌, ◌++◌, Bool, cond, Option, Some, None, codes, decimal}
 use Rattle.heat_value.specs.declared.path.Step.{Step}
 use Rattle.heat_plan.specs.Tokens.{token_text}
 use Rattle.heat_plan.specs.declared.token.Token.{Token}
 use Rattle.heat_plan.specs.declared.phase.Act.{Act}
-use Rattle.heat_plan.specs.declared.phase.Act.TheVariants.{Init, Create, Update, Delete, Rollback}
 use Rattle.heat_plan.specs.declared.phase.Status.{Status}
 use Rattle.heat_plan.specs.declared.phase.Status.TheVariants.{Complete, InProgress, Failed}
 use Rattle.std.specs.Ordering.{nat_cmp}
@@ -18,9 +17,11 @@ use Rattle.core_state.specs.declared.entry.ShowWhat.TheVariants as show
 use Rattle.core_state.specs.declared.entry.What.{What}
 use Rattle.core_state.specs.declared.entry.What.TheVariants as what
 use Rattle.report.specs.Words.{words, line, stand_word, why_text, path_words}
-use Rattle.sorted_list.specs.Lists.{put, cut}
+use Rattle.sorted_list.specs.Lists.{put}
 use Rattle.report.specs.Seen.{SeenData, stack_key, stack_at, with_stacks, after_writes}
 use Rattle.report.specs.Rows.{writes_text, shown_lines}
+use Rattle.report.specs.Stacks.{begun, plan_seen, after_mark}
+use Rattle.report.specs.Outputs.{outputs_text}
 use Rattle.report.specs.declared.brief.SeenStack.{SeenStack}
 
 -- `stack <name> <trav> <ACT>_<STATUS>`
@@ -73,11 +74,10 @@ abbrev pub status_text : Option SeenStack → List ℕ
 status_text None = []
 status_text (Some stack) = stack_line stack.name stack.trav stack.act stack.status
 
--- of a stack's outputs nothing is told yet
 abbrev pub show_text : ShowWhat → List ℕ → SeenData → List ℕ
 show_text show.Status stack seen = status_text (stack_at seen.stacks stack)
 show_text show.Resources stack seen = shown_lines stack seen.rows
-show_text show.Outputs stack seen = []
+show_text show.Outputs stack seen = outputs_text stack seen.rows (plan_seen (stack_at seen.stacks stack))
 
 -- the line of an entry that writes no row
 abbrev pub line_of : SeenData → What → List ℕ
@@ -113,35 +113,10 @@ writes_of what.Closed = []
 abbrev pub what_text : SeenData → What → List ℕ
 what_text seen what = line_of seen what ++ writes_text seen (writes_of what)
 
--- how a marked traversal stands
-abbrev pub marked : Option Cause → Status
-marked None = Complete
-marked (Some cause) = Failed
-
--- a stack is gone with a delete that is complete
-abbrev pub is_gone : Act → Option Cause → Bool
-is_gone act (Some cause) = false
-is_gone Init None = false
-is_gone Create None = false
-is_gone Update None = false
-is_gone Delete None = true
-is_gone Rollback None = false
-
--- the stacks with one of them at this
-abbrev pub stands_at : List ℕ → ℕ → Act → Status → List SeenStack → List SeenStack
-stands_at name trav act status stacks =
-    put (slice_cmp nat_cmp) stack_key (record { name = name; trav = trav; act = act; status = status }) stacks
-
--- the stacks after a mark
-abbrev pub after_mark : List ℕ → ℕ → Act → Option Cause → List SeenStack → List SeenStack
-after_mark name trav act cause stacks =
-    cond (is_gone act cause) (cut (slice_cmp nat_cmp) stack_key name stacks)
-    (stands_at name trav act (marked cause) stacks)
-
 -- what is seen after an entry
 abbrev pub after_what : SeenData → What → SeenData
 after_what seen (what.Command stack trav act plan rollback) =
-    with_stacks seen (stands_at stack trav act InProgress seen.stacks)
+    with_stacks seen (put (slice_cmp nat_cmp) stack_key (begun stack trav act plan) seen.stacks)
 after_what seen (what.Call token request answer) = seen
 after_what seen (what.Release token) = seen
 after_what seen (what.Mark stack trav act cause) = with_stacks seen (after_mark stack trav act cause seen.stacks)

@@ -1,8 +1,7 @@
 -- What a report keeps of a history: its rows and stacks, in brief.
-use Rattle.std.specs.Prelude.{ℕ, List, [], ◌∷◌, Option, option_map}
+use Rattle.std.specs.Prelude.{ℕ, List, [], ◌∷◌, Option}
 use Rattle.std.specs.Ordering.{nat_cmp}
 use Rattle.std.specs.Cmp.Lexicographic.{slice_cmp}
-use Rattle.heat_plan.specs.declared.facts.Facts.{Facts}
 use Rattle.row_table.specs.declared.row.Row.{Row}
 use Rattle.core_state.specs.declared.stack.Stack.{Stack}
 use Rattle.core_state.specs.declared.entry.RowWrite.{RowWrite}
@@ -38,14 +37,20 @@ row_seen row = record {
   kind = row.kind.name;
   act = row.act;
   status = row.status;
-  id = option_map (λ (f : Facts). f.id) row.facts;
+  facts = row.facts;
   replaces = row.replaces;
   replaced_by = row.replaced_by;
 }
 
 -- what is kept of a stack
 abbrev pub stack_seen : Stack → SeenStack
-stack_seen stack = record { name = stack.name; trav = stack.trav; act = stack.act; status = stack.status }
+stack_seen stack = record {
+  name = stack.name;
+  trav = stack.trav;
+  act = stack.act;
+  status = stack.status;
+  plan = stack.plan;
+}
 
 -- rows are seen, each over the one of its number
 abbrev pub rows_seen : List SeenRow → List Row → List SeenRow

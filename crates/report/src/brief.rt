@@ -1,15 +1,15 @@
 //! What a report keeps of a row and of a stack.
-ghost use Rattle.std.specs.Prelude.{◌≡◌, IfOk, option_map};
+ghost use Rattle.std.specs.Prelude.{◌≡◌, IfOk};
 ghost use Rattle.report.specs.Seen.{row_seen, stack_seen};
 
-use core_state::{Row, Stack};
+use core_state::{Row, SharedPlan, Stack};
 use heat_plan::{Act, Facts, ResName, RowNo, StackName, Status, TravNo};
-use heat_value::{Text, TryCopy};
+use heat_value::{Text, TryCopy, copy_option};
 use sorted_list::Ordered;
 use std::alloc::AllocError;
 use std::cmp::Ordering;
 
-// What is shown of a row.
+// What is shown of a row, and its facts, which outputs may read.
 #[derive(Debug, Drop)]
 pub(crate) struct SeenRow {
     pub(crate) stack: StackName,
@@ -18,18 +18,19 @@ pub(crate) struct SeenRow {
     pub(crate) kind: Text,
     pub(crate) act: Act,
     pub(crate) status: Status,
-    pub(crate) id: Option<Text>,
+    pub(crate) facts: Option<Facts>,
     pub(crate) replaces: Option<RowNo>,
     pub(crate) replaced_by: Option<RowNo>,
 }
 
-// What is shown of a stack: its newest traversal, and how it stands.
+// What is shown of a stack: its newest traversal, how it stands, and the plan whose outputs it has.
 #[derive(Debug, Drop)]
 pub(crate) struct SeenStack {
     pub(crate) name: StackName,
     pub(crate) trav: TravNo,
     pub(crate) act: Act,
     pub(crate) status: Status,
+    pub(crate) plan: Option<SharedPlan>,
 }
 
 impl SeenRow {
@@ -44,20 +45,10 @@ impl SeenRow {
             kind: row.kind.name.copy()?,
             act: row.act,
             status: row.status,
-            id: id_of(&row.facts)?,
+            facts: copy_option(&row.facts)?,
             replaces: row.replaces,
             replaced_by: row.replaced_by,
         })
-    }
-}
-
-// The id among facts, if there are any.
-fn id_of(facts: &Option<Facts>) -> Result<Option<Text>, AllocError>
-    ensures { IfOk result (λ id. id ≡ option_map (λ f. f.id) facts.now) }
-{
-    match facts {
-        Some(facts) => Ok(Some(facts.id.copy()?)),
-        None => Ok(None),
     }
 }
 
@@ -71,6 +62,7 @@ impl SeenStack {
             trav: stack.trav,
             act: stack.act,
             status: stack.status,
+            plan: copy_option(&stack.plan)?,
         })
     }
 }

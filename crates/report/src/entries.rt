@@ -7,6 +7,7 @@ ghost use Rattle.report.specs.Entries.{show_text, line_of};
 ghost use Rattle.report.specs.Undone.{shown as shown_of};
 
 use crate::brief::SeenStack;
+use crate::outputs::outputs_text;
 use crate::rows::shown_lines;
 use crate::seen::Seen;
 use crate::words::{act_word, status_word, why_text};
@@ -162,7 +163,6 @@ fn status_text(alloc: Global, stack: Option<&SeenStack>) -> Result<String, Alloc
     }
 }
 
-// Of a stack's outputs nothing is told yet.
 fn show_text(
     alloc: Global,
     shown: ShowWhat,
@@ -174,7 +174,12 @@ fn show_text(
     match shown {
         ShowWhat::Status => status_text(alloc, seen.stacks.get(stack)),
         ShowWhat::Resources => shown_lines(alloc, stack, seen.rows.as_slice()),
-        ShowWhat::Outputs => Ok(String::new(alloc)),
+        ShowWhat::Outputs => outputs_text(
+            alloc,
+            stack,
+            seen.stacks.get(stack),
+            seen.rows.as_slice(),
+        ),
     }
 }
 

@@ -7,13 +7,18 @@ mod brief;
 mod entries;
 mod laws;
 mod log;
+mod output_line;
+#[cfg(test)]
+mod output_tests;
+mod outputs;
 mod report;
 mod rows;
 mod seen;
+mod stacks;
 mod tell;
 #[cfg(test)]
 mod tests;
 mod words;
 
-pub use laws::text_is_parted;
+pub use laws::{seen_row_is_current, text_is_parted};
 pub use report::{Reporter, lines_of};

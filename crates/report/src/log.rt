@@ -22,13 +22,14 @@ pub(crate) struct Log {
 impl Model for Log {
     ghost use Rattle.std.specs.Prelude.{◌-◌};
     ghost use Rattle.std.specs.Coded.{codes};
+    ghost use Rattle.heat_value.specs.Code.{data_code, members_code};
     ghost use Rattle.std.specs.Vec.{vec_len, vec_capacity};
     ghost use Rattle.sorted_list.specs.Rooms.{Roomy};
     ghost use Rattle.report.specs.declared.log.Was.{Was};
 
     ghost Value = { Roomy Was };
 
-    ghost coded = { Prim.hlevel (codes) };
+    ghost coded = { Prim.hlevel (codes, data_code, members_code) };
 
     ghost view = { λ l. record { items = l.all.items; spare = vec_capacity l.all - vec_len l.all } };
 }

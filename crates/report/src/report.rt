@@ -20,12 +20,13 @@ pub struct Reporter {
 
 impl Model for Reporter {
     ghost use Rattle.std.specs.Coded.{codes};
+    ghost use Rattle.heat_value.specs.Code.{data_code, members_code};
     ghost use Rattle.report.specs.Seen.{SeenData};
     ghost use Rattle.report.specs.Undone.{shown};
 
     ghost Value = { SeenData };
 
-    ghost coded = { Prim.hlevel (codes) };
+    ghost coded = { Prim.hlevel (codes, data_code, members_code) };
 
     ghost view = { λ r. shown r.seen };
 }

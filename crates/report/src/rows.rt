@@ -1,13 +1,11 @@
 //! The lines of row writes, and of a stack's rows.
 ghost use Rattle.std.specs.Prelude.{◌≡◌, IfOk, option_map, string_bytes};
-ghost use Rattle.report.specs.Words.{or_dash};
 ghost use Rattle.report.specs.Rows.{row_line, is_init, stands_alike, is_told, set_text, purge_text, shown_head};
-ghost use Rattle.report.specs.Rows.{shown_tail, shown_line, shown_lines};
+ghost use Rattle.report.specs.Rows.{id_word, shown_tail, shown_line, shown_lines};
 
 use crate::brief::SeenRow;
 use crate::words::{act_word, number_word, status_word};
-use heat_plan::{Act, StackName, Status};
-use heat_value::Text;
+use heat_plan::{Act, Facts, StackName, Status};
 use std::alloc::{AllocError, Global};
 
 fn row_line(alloc: Global, row: &SeenRow, act: Act, status: Status) -> Result<String, AllocError>
@@ -70,11 +68,12 @@ pub(crate) fn purge_text(alloc: Global, old: Option<&SeenRow>) -> Result<String,
     }
 }
 
-fn id_word(id: &Option<Text>) -> &str
-    ensures { result.now ≡ or_dash id.now }
+// The id among a row's facts, or a dash.
+fn id_word(facts: &Option<Facts>) -> &str
+    ensures { result.now ≡ id_word facts.now }
 {
-    match id {
-        Some(id) => id.as_str(),
+    match facts {
+        Some(facts) => facts.id.as_str(),
         None => "-",
     }
 }
@@ -99,7 +98,7 @@ fn shown_tail(alloc: Global, row: &SeenRow) -> Result<String, AllocError>
     let replaced_by = number_word(alloc, row.replaced_by)?;
     format!(in alloc;
         "id {} replaces {} replaced_by {}\n",
-        id_word(&row.id),
+        id_word(&row.facts),
         replaces.as_str(),
         replaced_by.as_str()
     )

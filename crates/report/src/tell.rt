@@ -1,9 +1,12 @@
 //! The text that entries add, each with what was seen before it. What is written meanwhile can be taken back.
 ghost use Rattle.std.specs.Prelude.{◌≡◌, ◌++◌, IfOk, OnOk, string_bytes};
-ghost use Rattle.report.specs.Seen.{after_write, after_writes, with_stacks};
+ghost use Rattle.std.specs.Ordering.{nat_cmp};
+ghost use Rattle.std.specs.Cmp.Lexicographic.{slice_cmp};
+ghost use Rattle.sorted_list.specs.Lists.{put};
+ghost use Rattle.report.specs.Seen.{after_write, after_writes, stack_key, with_stacks};
 ghost use Rattle.report.specs.Rows.{write_text, writes_text};
-ghost use Rattle.report.specs.Entries.{stands_at, after_mark, what_text, after_what, is_gone as gone};
-ghost use Rattle.report.specs.Entries.{marked as the_status};
+ghost use Rattle.report.specs.Stacks.{after_mark};
+ghost use Rattle.report.specs.Entries.{what_text, after_what};
 ghost use Rattle.report.specs.Text.{seen_after, told};
 ghost use Rattle.report.specs.Undone.{shown, unwound, CanUnwind};
 
@@ -12,8 +15,9 @@ use crate::entries::entry_line;
 use crate::log::Log;
 use crate::rows::{purge_text, set_text};
 use crate::seen::Seen;
+use crate::stacks::is_gone;
 use core_state::{Cause, Entry, Row, RowWrite, What};
-use heat_plan::{Act, RowNo, StackName, Status, TravNo};
+use heat_plan::{Act, RowNo, StackName, TravNo};
 use heat_value::TryCopy;
 use std::alloc::{AllocError, Global};
 
@@ -57,8 +61,12 @@ fn tell_entry(
             stack,
             trav,
             act,
+            plan,
             ..
-        } => see_stack(seen, log, stack, *trav, *act, Status::InProgress),
+        } => {
+            let stack = SeenStack::begun(alloc, stack, *trav, *act, plan)?;
+            see_stack(seen, log, stack)
+        }
         What::Mark {
             stack,
             trav,
@@ -74,28 +82,15 @@ fn tell_entry(
     }
 }
 
-// Sees a stack at this.
-fn see_stack(
-    seen: &mut Seen,
-    log: &mut Log,
-    name: &StackName,
-    trav: TravNo,
-    act: Act,
-    status: Status,
-) -> Result<(), AllocError>
+// Sees a stack.
+fn see_stack(seen: &mut Seen, log: &mut Log, stack: SeenStack) -> Result<(), AllocError>
     requires back { CanUnwind log.old seen.old }
     ensures seen { OnOk result (shown seen.new ≡ with_stacks (shown seen.old)
-        (stands_at name.now trav act status seen.old.stacks.items)) }
+        (put (slice_cmp nat_cmp) stack_key stack seen.old.stacks.items)) }
     ensures undone { unwound log.new.items (shown seen.new) ≡ unwound log.old.items (shown seen.old) }
     ensures back { CanUnwind log.new seen.new }
 {
-    let stack = SeenStack {
-        name: name.copy()?,
-        trav,
-        act,
-        status,
-    };
-    let name = name.copy()?;
+    let name = stack.name.copy()?;
     seen.reserve(log)?;
     seen.put_stack(log, name, stack);
     Ok(())
@@ -122,27 +117,8 @@ fn see_mark(
         seen.cut_stack(log, name);
         return Ok(());
     }
-    see_stack(seen, log, name, trav, act, marked(cause))
-}
-
-// Whether a stack is gone with this mark.
-fn is_gone(act: Act, cause: &Option<Cause>) -> bool
-    ensures { result ≡ gone act cause.now }
-{
-    match cause {
-        Some(_) => false,
-        None => matches!(act, Act::Delete),
-    }
-}
-
-// How a marked traversal stands.
-fn marked(cause: &Option<Cause>) -> Status
-    ensures { result ≡ the_status cause.now }
-{
-    match cause {
-        Some(_) => Status::Failed,
-        None => Status::Complete,
-    }
+    let stack = SeenStack::marked(name, trav, act, cause, seen.stacks.get(name))?;
+    see_stack(seen, log, stack)
 }
 
 // Each write sees those before it.

@@ -7,3 +7,4 @@ pub mod BodyParts
 pub mod OneBody
 pub mod OneReading
 pub mod PlainLemmas
+pub mod BodyDepths

@@ -1,10 +1,11 @@
 -- What a body asks for, and what is wrong with one.
-use Rattle.std.specs.Prelude.{◌≡◌, ◌≢◌, ℕ, List, [], ◌∷◌, Bool, false, Option, Some, None, codes, not}
+use Rattle.std.specs.Prelude.{◌≡◌, ◌≢◌, ◌≤◌, ℕ, List, [], ◌∷◌, Bool, false, Option, Some, None, codes, not}
 use Rattle.heat_value.specs.Data.{Data, null, flag, whole, words, items, fields, Members, no_members, lookup}
+use Rattle.heat_value.specs.Data.{depth, members_depth}
 use Rattle.heat_value.specs.Reading.{IsReadAs, HasNoReading, IsTooDeep, HasBadNumber}
 use Rattle.heat_value.specs.declared.path.Step.{Step}
 use Rattle.heat_value.specs.declared.path.Step.TheVariants.{Key}
-use Rattle.script_lines.specs.BodyKeys.{AreRight, IsFirstWrong}
+use Rattle.script_lines.specs.BodyKeys.{AreRight, AreTexts, IsFirstWrong}
 use Rattle.script_lines.specs.declared.misread.Misread.{Misread}
 use Rattle.script_lines.specs.declared.misread.Misread.TheVariants.{L06, L07, L08}
 
@@ -14,6 +15,12 @@ pub record BodyData : Type 0 where
   pub params : Members
   pub files : Members
   pub rollback : Bool
+
+-- what a body's parts keep: template and parameters nest at most 64 deep, and files are texts
+pub record IsKept (template : Data) (params files : Members) : Type 0 where
+  pub shallow : depth template ≤ 64
+  pub given : members_depth params ≤ 64
+  pub texts : AreTexts files
 
 -- the object that stands there; without one an empty one
 abbrev pub object_in : Option Data → Members

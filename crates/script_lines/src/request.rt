@@ -1,6 +1,6 @@
 //! What the body of a create or update asks for.
-ghost use Rattle.std.specs.Prelude.{◌≡◌, ◌≢◌, ◌∷◌, [], IfOk, IfErr, List, Some, codes};
-ghost use Rattle.heat_value.specs.Data.{Data, Members, lookup};
+ghost use Rattle.std.specs.Prelude.{◌≡◌, ◌≢◌, ◌≤◌, ◌∷◌, [], IfOk, IfErr, List, Some, codes};
+ghost use Rattle.heat_value.specs.Data.{Data, Members, lookup, depth, members_depth};
 ghost use Rattle.heat_value.specs.Meaning.{data_of};
 ghost use Rattle.heat_value.specs.Reading.{IsReadAs};
 ghost use Rattle.heat_value.specs.declared.path.Step.{Step as step_type};
@@ -28,7 +28,6 @@ pub struct Body {
 impl Model for Body {
     ghost use Rattle.std.specs.Coded.{codes};
     ghost use Rattle.heat_value.specs.Code.{data_code, members_code};
-    ghost use Rattle.script_lines.specs.BodyKeys.{AreTexts};
     ghost use Rattle.script_lines.specs.Requested.{BodyData};
 
     ghost Value = { BodyData };
@@ -36,6 +35,7 @@ impl Model for Body {
     ghost coded = { Prim.hlevel (codes, data_code, members_code) };
 
     ghost use Rattle.heat_value.specs.Meaning.{data_of};
+    ghost use Rattle.script_lines.specs.Requested.{IsKept};
 
     ghost view = { λ b. record {
       template = data_of b.template;
@@ -44,22 +44,24 @@ impl Model for Body {
       rollback = b.rollback;
     } };
 
-    ghost invariant = { λ b. AreTexts b.files };
+    ghost invariant = { λ b. IsKept (data_of b.template) b.params b.files };
 }
 
 impl Body {
     ghost use Rattle.script_lines.specs.BodyKeys.{AreTexts};
 
-    /// The template, of which nothing is known yet.
+    /// The template, of which nothing else is known yet.
     pub fn template(&self) -> &Value
-        ensures { data_of result.now ≡ self.now.template }
+        ensures value { data_of result.now ≡ self.now.template }
+        ensures shallow { depth self.now.template ≤ 64 }
     {
         &self.template
     }
 
     /// The parameters that are given.
     pub fn params(&self) -> &Props
-        ensures { result.now ≡ self.now.params }
+        ensures value { result.now ≡ self.now.params }
+        ensures shallow { members_depth self.now.params ≤ 64 }
     {
         &self.params
     }
@@ -108,6 +110,7 @@ pub fn value_of(alloc: Global, bytes: &[u8]) -> Result<Value, Misread>
 
 // What a body's object gives.
 fn given(alloc: Global, members: &Props) -> Result<Body, Misread>
+    requires { members_depth members.now ≤ 64 }
     ensures ok { IfOk result (λ b. Gives members.now b) }
     ensures fault { IfErr result (λ e. e ≢ Misread.Memory
         → (p : List step_type) × IsMisgiven members.now p × (e ≡ Misread.L08 p)) }
@@ -130,7 +133,9 @@ fn path_of(alloc: Global, key: &Text) -> Result<Path, AllocError>
 
 // What an object that is right gives, whose template this is.
 fn with_template(alloc: Global, template: &Value, members: &Props) -> Result<Body, AllocError>
-    requires { AreRight members.now }
+    requires right { AreRight members.now }
+    requires shallow { members_depth members.now ≤ 64 }
+    requires template { depth (data_of template.now) ≤ 64 }
     ensures { IfOk result (λ b. b ≡ body_with (data_of template.now) members.now) }
 {
     Ok(Body {

@@ -11,6 +11,7 @@ use check_steps::{Prepared, finish, prepare_now, take};
 use core_state::{Job, Made, Row, Stage, State};
 use heat_plan::{Answered, EngineNo, Refusal};
 use heat_value::{Path, Text};
+use hot_registry::Registry;
 use std::alloc::{AllocError, Global};
 use step_ends::{asked, begin_overrun, polled};
 use step_reads::{Task, freshness, next_of, point_of};
@@ -87,7 +88,11 @@ fn prepared(
     match reply {
         Reply::Faults => faulted(alloc),
         Reply::Works | Reply::Waits | Reply::Quota | Reply::Fails | Reply::Breaks => Ok(prepare_now(
-            alloc, s, e, job,
+            alloc,
+            &Registry::empty(alloc),
+            s,
+            e,
+            job,
         )),
     }
 }

@@ -1,10 +1,11 @@
-use Rattle.std.proofs.Common.{◌≡◌, ◌≤◌, true}
+use Rattle.std.proofs.Common.{◌≡◌, ◌≤◌, map, true}
 use Rattle.heat_io.specs.Streams.{ahead}
 use Rattle.report.specs.Seen.{seen_of}
 use Rattle.report.specs.Text.{seen_after}
 use Rattle.book.specs.Kept.{IsSameBook, opening_of}
 use Rattle.book.specs.Quiet.{page}
 use Rattle.converge_call.specs.Drives.{streams}
+use Rattle.converge_call.specs.Stocks.{stock, first_stock}
 use Rattle.converge_call.proofs.Driving.{SoFar}
 use Rattle.converge_call.proofs.drive.drive.Given as goal
 
@@ -12,6 +13,8 @@ abbrev pub invariant-loop-number : goal.invariant-loop-number
 invariant-loop-number g l = record {
   so : SoFar (streams (g.S.Source.left l.initial.source) (g.K.Sink.holds l.initial.sink))
       (opening_of g.P.Provider.cloud l.initial.book)
+      (first_stock (map (λ j. j.kind) l.registry.now.judges) (map (λ t. t.test) l.registry.now.customs))
+      (stock (map (λ t. t.test) l.registry.now.customs) l.catalog)
       (page l.book.state l.book.entries) (ahead l.reader.held (g.S.Source.left l.source))
       (g.K.Sink.holds l.sink) l.reader.given l.number;
   reads : g.S.Source.faults l.initial.source ≤ g.S.Source.faults l.source;

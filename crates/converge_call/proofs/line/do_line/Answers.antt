@@ -4,9 +4,9 @@ use Rattle.converge_call.proofs.Ordering.{misread_told}
 use Rattle.converge_call.proofs.line.do_line.Goals as goal
 
 pub returns-in-Ok-clause-done : goal.returns-in-Ok-clause-done
-returns-in-Ok-clause-done g c = asked_by _ _ _ _ _ _ _ c.in-Ok.asked c.in-Ok.ensures.ok c.do_asked.ensures.done
+returns-in-Ok-clause-done g c = asked_by _ _ _ _ _ _ _ _ c.in-Ok.asked c.in-Ok.ensures.ok c.do_asked.ensures.done
 
 pub returns-in-Err-clause-done : goal.returns-in-Err-clause-done
 returns-in-Err-clause-done g c =
-    misread_by _ _ _ _ _ _ _ c.in-Err.misread (λ code es it. c.in-Err.ensures.fault
+    misread_by _ _ _ _ _ _ _ _ c.in-Err.misread (λ code es it. c.in-Err.ensures.fault
     (misread_told c.in-Err.misread it.code it.its_code)) c.refuse_line.ensures.done

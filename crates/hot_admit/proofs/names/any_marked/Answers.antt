@@ -1,5 +1,5 @@
 -- The first that has its mark, or that none has.
-use Rattle.std.proofs.Common.{◌<◌, ℕ, length, true, false, refl, get_or, sym, ◌∙◌, arith}
+use Rattle.std.proofs.Common.{refl, get_or, arith}
 use Rattle.std.proofs.lemmas.Bool.{false≢true}
 use Rattle.std.proofs.lemmas.List.Elements.{Contains-get_or}
 use Rattle.dep_graph.proofs.MarkLemmas.{none_marked}

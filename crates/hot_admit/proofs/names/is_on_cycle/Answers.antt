@@ -1,5 +1,4 @@
 -- A successor that reaches the node closes a loop.
-use Rattle.std.proofs.Common.{◌↔◌}
 use Rattle.hot_admit.proofs.NameLoops.{marked_loops}
 use Rattle.hot_admit.proofs.names.is_on_cycle.Goals as goal
 

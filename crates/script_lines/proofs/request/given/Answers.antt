@@ -1,7 +1,8 @@
-use Rattle.std.proofs.Common.{◌≡◌, ◌∙◌, Some, codes, refl, sym, ap, List, ℕ}
+use Rattle.std.proofs.Common.{◌≡◌, ◌∙◌, Some, codes, refl, sym, ap, List, ℕ, arith}
 use Rattle.heat_value.specs.Data.{lookup}
 use Rattle.heat_value.specs.Meaning.{data_of}
 use Rattle.script_lines.specs.Requested.{wrong}
+use Rattle.script_lines.proofs.BodyDepths.{depth-lookup}
 use Rattle.script_lines.proofs.request.given.Goals as goal
 
 pub returns-in_ok-path_of-in-Some-first_wrong-clause-fault :
@@ -13,3 +14,7 @@ returns-in_ok-path_of-in-Some-first_wrong-clause-fault c _ =
       wrong _ under _ c.in-Some-first_wrong.ensures c.in_ok-path_of-in-Some-first_wrong.ensures,
       refl,
     )
+
+pub with_template-requires-clause-template : goal.with_template-requires-clause-template
+with_template-requires-clause-template c =
+    omega (arith, depth-lookup _ c.args.members.now _ (sym c.in-Some.ensures), c.requires)
