@@ -12,23 +12,13 @@ mod called;
 mod commanding;
 mod committing;
 mod engines;
-#[cfg(test)]
-mod fence_tests;
 mod going;
-#[cfg(test)]
-mod halt_tests;
 mod halting;
-#[cfg(test)]
-mod judge_tests;
 mod making;
 mod opening;
 mod poll;
 mod requests;
 mod stranger;
-#[cfg(test)]
-mod takeover_tests;
-#[cfg(test)]
-mod tests;
 mod turning;
 
 pub use book::Book;

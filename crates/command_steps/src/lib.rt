@@ -25,5 +25,3 @@ pub use due::is_due;
 pub use rolling_back::roll_back;
 pub use updating::update;
 
-#[cfg(test)]
-mod tests;

@@ -17,8 +17,6 @@ mod ready;
 mod shared_plan;
 mod stack;
 mod state;
-#[cfg(test)]
-mod tests;
 
 pub use apply_fault::ApplyFault;
 pub use batch::Batch;

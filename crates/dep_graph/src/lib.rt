@@ -10,8 +10,6 @@ mod marks;
 mod numbering;
 mod rising;
 mod searching;
-#[cfg(test)]
-mod tests;
 
 pub use closing::Added;
 pub use edges::Graph;

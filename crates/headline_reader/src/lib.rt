@@ -7,8 +7,6 @@ mod after;
 mod causes;
 mod certain;
 mod fitting;
-#[cfg(test)]
-mod function_tests;
 mod items;
 mod living;
 mod marks;
@@ -17,8 +15,6 @@ mod possible;
 mod releases;
 mod rows;
 mod states;
-#[cfg(test)]
-mod tests;
 mod traversal;
 
 pub use fitting::fits;

@@ -13,8 +13,6 @@ mod history;
 mod memory;
 mod memory_disk;
 mod opened;
-#[cfg(test)]
-mod tests;
 
 pub use disk::{Disk, DiskFailed};
 pub use file::FileDisk;

@@ -15,8 +15,6 @@ mod phase;
 mod plan;
 mod properties;
 mod refusal;
-#[cfg(test)]
-mod tests;
 mod token;
 
 pub use calls::{Answered, Request};

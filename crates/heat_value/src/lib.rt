@@ -8,8 +8,6 @@ mod equality;
 mod fault;
 mod path;
 mod seq;
-#[cfg(test)]
-mod tests;
 mod text;
 mod value;
 

@@ -19,8 +19,6 @@ mod needs;
 mod plan;
 mod references;
 mod sought;
-#[cfg(test)]
-mod tests;
 mod unsupported;
 
 pub use basis::Basis;

@@ -26,8 +26,6 @@ mod scene;
 mod setting;
 mod sorts;
 mod sum;
-#[cfg(test)]
-mod tests;
 mod texts;
 
 pub use code::FaultCode;

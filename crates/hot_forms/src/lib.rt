@@ -14,8 +14,6 @@ mod rule;
 mod sections;
 mod shape;
 mod sort;
-#[cfg(test)]
-mod tests;
 
 pub use argument::is_argument;
 pub use check::{is_among, under_key, under_name, under_place, unknown_key, unless};

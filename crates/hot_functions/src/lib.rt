@@ -8,8 +8,6 @@ mod condition;
 mod form;
 mod place;
 mod reference;
-#[cfg(test)]
-mod tests;
 mod walk;
 
 pub use argument::{has_form, stands};

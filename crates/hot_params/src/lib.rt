@@ -16,8 +16,6 @@ mod parameter;
 mod pattern;
 mod saying;
 mod size;
-#[cfg(test)]
-mod tests;
 mod values;
 
 pub use binding::bind;

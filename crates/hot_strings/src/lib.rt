@@ -16,8 +16,6 @@ mod pieces;
 mod replacing;
 mod size;
 mod splitting;
-#[cfg(test)]
-mod tests;
 mod whole;
 
 pub use digesting::{digest, is_digest_name};

@@ -11,8 +11,6 @@ mod output;
 mod pass;
 mod resource;
 mod template;
-#[cfg(test)]
-mod tests;
 mod whole;
 
 pub use fault::HotFault;

@@ -11,8 +11,6 @@ mod mails;
 mod ops;
 mod run;
 mod table;
-#[cfg(test)]
-mod tests;
 
 pub use list_mails::ListMails;
 pub use mails::Mails;

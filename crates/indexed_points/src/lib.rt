@@ -12,8 +12,6 @@ mod point;
 mod points;
 mod run;
 mod table;
-#[cfg(test)]
-mod tests;
 
 pub use list_points::ListPoints;
 pub use node_points::NodePoints;

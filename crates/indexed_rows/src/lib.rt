@@ -13,8 +13,6 @@ mod ops;
 mod rows;
 mod run;
 mod table;
-#[cfg(test)]
-mod tests;
 
 pub use list_rows::ListRows;
 pub use ops::{RowAnswer, RowOp};

@@ -8,16 +8,12 @@ mod entries;
 mod laws;
 mod log;
 mod output_line;
-#[cfg(test)]
-mod output_tests;
 mod outputs;
 mod report;
 mod rows;
 mod seen;
 mod stacks;
 mod tell;
-#[cfg(test)]
-mod tests;
 mod words;
 
 pub use laws::{seen_row_is_current, text_is_parted};

@@ -16,10 +16,6 @@ mod place;
 mod reading;
 mod snapshots;
 mod taking;
-#[cfg(test)]
-mod tests;
-#[cfg(test)]
-mod worked;
 
 pub use journal::Journal;
 pub use laws::journals_survive;

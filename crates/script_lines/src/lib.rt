@@ -9,19 +9,13 @@ mod boxes;
 mod forms;
 mod head;
 mod line;
-#[cfg(test)]
-mod line_tests;
 mod misread;
 mod plain;
-#[cfg(test)]
-mod plain_tests;
 mod properties;
 mod request;
 mod shapes;
 mod sort;
 mod template;
-#[cfg(test)]
-mod template_tests;
 mod unknown;
 mod words;
 

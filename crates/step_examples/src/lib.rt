@@ -34,3 +34,7 @@ mod takes;
 mod turns;
 #[cfg(test)]
 mod update_nodes;
+#[cfg(test)]
+mod commands_made;
+#[cfg(test)]
+mod reads;

@@ -17,8 +17,6 @@ mod points;
 mod resends;
 mod standing;
 mod targets;
-#[cfg(test)]
-mod tests;
 mod work;
 
 pub use at_work::{job_at, row_at};

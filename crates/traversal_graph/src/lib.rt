@@ -10,8 +10,6 @@ mod draft;
 mod laws;
 mod lists;
 mod shape;
-#[cfg(test)]
-mod tests;
 
 pub use brief::RowBrief;
 pub use building::build;

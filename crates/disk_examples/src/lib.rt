@@ -1,0 +1,9 @@
+//! Tests alone.
+#![tactic(auto)]
+
+#[cfg(test)]
+mod disks;
+#[cfg(test)]
+mod journals;
+#[cfg(test)]
+mod worked;

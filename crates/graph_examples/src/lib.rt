@@ -1,0 +1,7 @@
+//! Tests alone.
+#![tactic(auto)]
+
+#[cfg(test)]
+mod orders;
+#[cfg(test)]
+mod traversals;

@@ -1,0 +1,196 @@
+//! Lists of commands of one stack, each applied where it is made, and what is left of them: which
+//! answer each gets, and how many rows, letters and nodes there are in the end. Each call succeeds
+//! with ample memory, and each refusal but those of limits and of numbers is met once.
+ghost use Rattle.std.specs.Prelude.{◌≡◌, [], IfOk};
+
+use command_steps::{cancel, create, delete, is_due, roll_back, update};
+use core_state::{Made, State};
+use heat_plan::{
+    EngineNo, Item, Kind, Needs, Parameters, Plan, Policy, Properties, Refusal, ResName, StackName,
+};
+use heat_value::{Seq, Text};
+use std::alloc::{AllocError, Global};
+use std::test::Fail;
+
+// An item that needs nothing.
+fn item(alloc: Global, name: &[u8]) -> Result<Item, Fail>
+    ensures { IfOk result (λ i. i.needs ≡ []) }
+{
+    let name = ResName::read(alloc, name)?.ok_or("a name")?;
+    Ok(Item {
+        name,
+        kind: Kind {
+            name: Text::from_str(alloc, "Test::Box")?,
+            attrs: Seq::new(alloc),
+            soft: Seq::new(alloc),
+        },
+        props: Properties::new(alloc),
+        needs: Needs::new(alloc),
+        policy: Policy::Delete,
+    })
+}
+
+// The plan of one item.
+fn plan_of(alloc: Global, item: Item) -> Result<Plan, AllocError>
+    requires { item.needs ≡ [] }
+{
+    let mut items = Seq::new(alloc);
+    items.push(item)?;
+    Ok(Plan::new(
+        items,
+        Seq::new(alloc),
+        Parameters::new(alloc),
+        Seq::new(alloc),
+        Seq::new(alloc),
+        Seq::new(alloc),
+    ))
+}
+
+// The plan of one item of this name.
+fn plan(alloc: Global, name: &[u8]) -> Result<Plan, Fail> {
+    let item = item(alloc, name)?;
+    Ok(plan_of(alloc, item)?)
+}
+
+// A plan of nothing.
+fn no_plan(alloc: Global) -> Plan {
+    Plan::new(
+        Seq::new(alloc),
+        Seq::new(alloc),
+        Parameters::new(alloc),
+        Seq::new(alloc),
+        Seq::new(alloc),
+        Seq::new(alloc),
+    )
+}
+
+// One command: a create of nothing or of `a`, an update to `a` or to `b`, a delete, a rollback or
+// a cancel.
+fn commanded(
+    alloc: Global,
+    s: &State,
+    name: &StackName,
+    letter: u8,
+) -> Result<Result<Made, Refusal>, Fail> {
+    match letter {
+        b'e' => Ok(create(alloc, s, name, no_plan(alloc), false)),
+        b'c' => Ok(create(alloc, s, name, plan(alloc, b"a")?, true)),
+        b'u' => Ok(update(alloc, s, name, plan(alloc, b"a")?, true)),
+        b'n' => Ok(update(alloc, s, name, plan(alloc, b"b")?, false)),
+        b'd' => Ok(delete(alloc, s, name)),
+        b'r' => rolled_back(alloc, s, name),
+        _ => Ok(cancel(alloc, s, name)),
+    }
+}
+
+// The rollback behind a failure, where it is due.
+fn rolled_back(alloc: Global, s: &State, name: &StackName) -> Result<Result<Made, Refusal>, Fail> {
+    let engine = EngineNo::new(1).ok_or("a number")?;
+    match s.stack(name) {
+        Some(stack) if is_due(s, stack) => Ok(roll_back(alloc, s, engine, stack)),
+        _ => Ok(Err(Refusal::NotRunning)),
+    }
+}
+
+// Makes the changes.
+fn apply(s: &mut State, made: Made) -> Result<(), AllocError> {
+    let Made {
+        changes,
+        entries: _,
+    } = made;
+    s.reserve(changes.len())?;
+    s.apply_all(changes);
+    Ok(())
+}
+
+// The letter of a refusal.
+fn letter_of(refusal: Refusal) -> u8 {
+    match refusal {
+        Refusal::StackExists => b'E',
+        Refusal::NoStack => b'N',
+        Refusal::Deleting => b'D',
+        Refusal::NotRunning => b'R',
+        _ => b'?',
+    }
+}
+
+// One command, and its changes where it is made.
+fn run_one(alloc: Global, s: &mut State, name: &StackName, letter: u8) -> Result<u8, Fail> {
+    match commanded(alloc, s, name, letter)? {
+        Ok(made) => {
+            apply(s, made)?;
+            Ok(b'+')
+        }
+        Err(refusal) => Ok(letter_of(refusal)),
+    }
+}
+
+// How many rows, letters and nodes of the stack's graph there are, as digits.
+fn counts(s: &State, name: &StackName) -> [u8; 3] {
+    let nodes = match s.graph(name) {
+        Some(graph) => graph.graph.nodes.len(),
+        None => 9,
+    };
+    [
+        digit(s.rows().len()),
+        digit(s.letters().len()),
+        digit(nodes),
+    ]
+}
+
+// A digit.
+fn digit(count: usize) -> u8 {
+    if count < 10 { b'0' + count as u8 } else { b'?' }
+}
+
+// The answers of these commands, and the counts behind them.
+fn run_all(
+    alloc: Global,
+    s: &mut State,
+    name: &StackName,
+    letters: &[u8],
+) -> Result<Vec<u8>, Fail> {
+    let mut told = Vec::new(alloc);
+    for letter in letters {
+        told.push(run_one(alloc, s, name, *letter)?)?;
+    }
+    for digit in counts(s, name) {
+        told.push(digit)?;
+    }
+    Ok(told)
+}
+
+// The same from the empty state.
+fn told(alloc: Global, letters: &[u8]) -> Result<Vec<u8>, Fail> {
+    let name = StackName::read(alloc, b"s")?.ok_or("a name")?;
+    let mut s = State::new(alloc);
+    run_all(alloc, &mut s, &name, letters)
+}
+
+// Whether these commands give that.
+fn gives(alloc: Global, letters: &[u8], wanted: &[u8]) -> Result<bool, Fail> {
+    Ok(told(alloc, letters)?.as_slice() == wanted)
+}
+
+#[test]
+fn each_command_is_made(rt: HostRuntime) -> Result<(), Fail> {
+    assert!(rt; gives(rt.alloc(), b"e", b"+000")?);
+    assert!(rt; gives(rt.alloc(), b"c", b"+111")?);
+    assert!(rt; gives(rt.alloc(), b"cu", b"++122")?);
+    assert!(rt; gives(rt.alloc(), b"cn", b"++232")?);
+    assert!(rt; gives(rt.alloc(), b"cd", b"++121")?);
+    assert!(rt; gives(rt.alloc(), b"ed", b"++009")?);
+    assert!(rt; gives(rt.alloc(), b"cx", b"++121")?);
+    assert!(rt; gives(rt.alloc(), b"cr", b"++121")?);
+    Ok(())
+}
+
+#[test]
+fn each_refusal_is_met(rt: HostRuntime) -> Result<(), Fail> {
+    assert!(rt; gives(rt.alloc(), b"xudcc", b"NNN+E111")?);
+    assert!(rt; gives(rt.alloc(), b"cdux", b"++DD121")?);
+    assert!(rt; gives(rt.alloc(), b"cxx", b"++R121")?);
+    assert!(rt; gives(rt.alloc(), b"ex", b"+R000")?);
+    assert!(rt; gives(rt.alloc(), b"cnr", b"++R232")?);
+    Ok(())
+}

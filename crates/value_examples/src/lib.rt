@@ -1,0 +1,7 @@
+//! Tests alone.
+#![tactic(auto)]
+
+#[cfg(test)]
+mod plans;
+#[cfg(test)]
+mod values;
