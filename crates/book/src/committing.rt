@@ -48,10 +48,27 @@ pub(crate) fn commit_of<P: Provider>(
         return Turn::Stepped;
     }
     match work {
-        // Nothing is begun at an update node, so no judge is asked.
-        Work::Plain => turn_of(alloc, &Registry::empty(alloc), state, entries, cloud, e),
+        Work::Plain => turn_plainly(alloc, state, entries, cloud, e),
         Work::Begin(_) => begin_given(alloc, state, entries, e, &prepared),
     }
+}
+
+// A turn in which nothing is begun at an update node, so that no judge is asked.
+fn turn_plainly<P: Provider>(
+    alloc: Global,
+    state: &mut State,
+    entries: &mut Roomed<Entry>,
+    cloud: &mut P,
+    e: EngineNo,
+) -> Turn
+    requires drawn { e < state.old.state.next.engine }
+    requires sound { IsSoundOver state.old.state entries.old.items (P.cloud cloud.old) }
+    ensures { Turned e
+        (scene state.old.state entries.old.items (P.cloud cloud.old))
+        (scene state.new.state entries.new.items (P.cloud cloud.new)) result }
+{
+    let none = Registry::empty(alloc);
+    turn_of(alloc, &none, state, entries, cloud, e)
 }
 
 // The begin with what was prepared for it; an engine without a next step answers as at a turn.

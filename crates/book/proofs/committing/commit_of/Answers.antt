@@ -23,7 +23,7 @@ begin_given-requires-clause-begins g c = may_begin _ c.args.e _ _ _ c.in-Begin.i
 
 pub returns-in-Plain-clause-committed : goal.returns-in-Plain-clause-committed
 returns-in-Plain-clause-committed g c =
-    made (OnFalse_at c.if-is_overtaken.false c.is_overtaken.ensures.no_) c.turn_of.ensures
+    made (OnFalse_at c.if-is_overtaken.false c.is_overtaken.ensures.no_) c.turn_plainly.ensures
 
 pub returns-in-Plain-clause-unprepared : goal.returns-in-Plain-clause-unprepared
 returns-in-Plain-clause-unprepared g c =
