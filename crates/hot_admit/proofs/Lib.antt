@@ -5,6 +5,7 @@ pub mod Edges
 pub mod Alike
 pub mod Cycles
 pub mod Rising
+pub mod Searched
 pub mod OneCycle
 pub mod Judged
 pub mod Typed

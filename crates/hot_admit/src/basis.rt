@@ -1,10 +1,9 @@
 //! What the names in a template may stand for.
-ghost use Rattle.std.specs.Prelude.{◌≡◌, option_map, is_some};
-ghost use Rattle.heat_value.specs.Data.{lookup};
-ghost use Rattle.hot_admit.specs.Basis.{basis_data, kind_at as the_kind_at};
-ghost use Rattle.hot_admit.specs.Basis.{resource_named as the_resource_named};
-ghost use Rattle.hot_admit.specs.Resources.{resource_data, resources_data};
+ghost use Rattle.std.proofs.Props.{props};
+ghost use Rattle.heat_plan.specs.Order.{Rising};
+ghost use Rattle.hot_admit.specs.Resources.{resources_data, names_of};
 
+use crate::lookup::resource_of;
 use heat_value::{Props, Text};
 use hot_catalog::Catalog;
 use hot_parts::Res;
@@ -16,15 +15,22 @@ pub struct Basis<'a> {
     pub resources: &'a [Res],
     pub files: &'a Props,
     pub catalog: &'a Catalog,
+    ghost rising: { Rising (names_of (resources_data resources.now)) } by { Prim.hlevel props },
 }
 
 impl<'a> Basis<'a> {
+    ghost use Rattle.std.specs.Prelude.{◌≡◌, option_map, is_some};
+    ghost use Rattle.heat_value.specs.Data.{lookup};
+    ghost use Rattle.hot_admit.specs.Basis.{basis_data, kind_at as the_kind_at};
+    ghost use Rattle.hot_admit.specs.Basis.{resource_named as the_resource_named};
+    ghost use Rattle.hot_admit.specs.Resources.{resource_data};
+
     /// The resource of this name.
     pub fn resource_named(&self, name: &Text) -> Option<&'a Res>
         ensures { option_map (λ r. resource_data r.now) result
             ≡ the_resource_named (basis_data self.now).resources name.now }
     {
-        named(self.resources, name.as_str())
+        resource_of(self.resources, name)
     }
 
     /// Whether a file has this name.
@@ -40,17 +46,4 @@ impl<'a> Basis<'a> {
     {
         self.catalog.kind(&res.kind)
     }
-}
-
-// The first resource of this name.
-fn named<'a>(resources: &'a [Res], name: &str) -> Option<&'a Res>
-    ensures { option_map (λ r. resource_data r.now) result
-        ≡ the_resource_named (resources_data resources.now) name.now }
-{
-    for res in resources {
-        if res.name.as_str() == name {
-            return Some(res);
-        }
-    }
-    None
 }

@@ -21,7 +21,6 @@ use std::alloc::{AllocError, Global};
 pub fn items_of(alloc: Global, basis: &Basis, wanted: &[Wanted]) -> Result<Seq<Item>, AllocError>
     requires size { length wanted.now ≡ length basis.now.resources.now }
     requires fit { AreFit (basis_data basis.now) (basis_data basis.now).resources }
-    requires order { Rising (names_of (basis_data basis.now).resources) }
     ensures { IfOk result (λ is. is ≡ items_marked (basis_data basis.now)
         (names_marked true (basis_data basis.now).resources wanted.now)
         (basis_data basis.now).resources wanted.now) }

@@ -14,6 +14,7 @@ mod fault;
 mod items;
 mod kinds;
 mod laws;
+mod lookup;
 mod names;
 mod needs;
 mod plan;

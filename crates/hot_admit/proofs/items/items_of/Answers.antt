@@ -16,4 +16,4 @@ item_of-requires-clause-fit c =
 
 pub item_of-requires-clause-order : goal.item_of-requires-clause-order
 item_of-requires-clause-order c =
-    rw (c.as_slice.ensures, c.in_ok-names.ensures) (rising_marked true _ _ c.requires.order)
+    rw (c.as_slice.ensures, c.in_ok-names.ensures) (rising_marked true _ _ c.args.basis.now.rising)

@@ -9,6 +9,15 @@ pub returns-in-Err-clause-fault : goal.returns-in-Err-clause-fault
 returns-in-Err-clause-fault c =
     rw c.of_conditions.ensures (refused_conditions _ _ c.in-Err.fault c.in-Err.ensures.fault)
 
+-- the resources of a template come in byte order of their names
+pub invariant_of-basis : goal.invariant_of-basis
+invariant_of-basis c = record {
+  rising = rw c.as_slice.ensures (order_is _
+      (given_with c.args.bound.now.params c.args.files.now (standing c.args.catalog.now)) _ _
+      (grounded c.parts-parts.ensures.exact c.parts-parts.ensures.rising c.parts-parts.ensures.right
+      c.requires.template c.in-Ok.ensures.ok));
+}
+
 pub returns-in-Some-clause-fault : goal.returns-in-Some-clause-fault
 returns-in-Some-clause-fault c =
     refused_entries _ (given_with c.args.bound.now.params c.args.files.now (standing c.args.catalog.now)) _ _
@@ -34,13 +43,6 @@ items_of-requires-clause-fit c =
     (grounded c.parts-parts.ensures.exact c.parts-parts.ensures.rising c.parts-parts.ensures.right c.requires.template
     c.in-Ok.ensures.ok)
     c.in_ok-flaw.field-0 (rw (c.as_slice.ensures, c.as_slice-2.ensures) at c.in_ok-flaw.ensures) c.in_default.is))
-
-pub items_of-requires-clause-order : goal.items_of-requires-clause-order
-items_of-requires-clause-order c =
-    rw c.as_slice.ensures (order_is _
-    (given_with c.args.bound.now.params c.args.files.now (standing c.args.catalog.now)) _ _
-    (grounded c.parts-parts.ensures.exact c.parts-parts.ensures.rising c.parts-parts.ensures.right c.requires.template
-    c.in-Ok.ensures.ok))
 
 pub needs_cycle-requires-clause-rising : goal.needs_cycle-requires-clause-rising
 needs_cycle-requires-clause-rising c =
