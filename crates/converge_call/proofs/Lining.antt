@@ -63,3 +63,19 @@ pub kinds_as : (result : Result (Unit {0}) Exit) (said asks_for : Line) (old new
     → OnOk result (CatalogAsked asks_for old new) → OnOk result (CatalogAsked said old new)
 kinds_as result said asks_for old new is it =
     subst (λ (l : Line). OnOk result (CatalogAsked l old new)) (sym is) it
+
+-- the catalogue behind a line is that behind what it asks for
+pub kinds_read : (result : Result (Unit {0}) Exit) (line : List ℕ) (said : Line) (old new : Catalog)
+    → Reads line (Ok said) → OnOk result (CatalogAsked said old new) → OnOk result (CatalogBehind line old new)
+kinds_read (Ok u) line said old new reads it = stocks.asks said reads it
+kinds_read (Err e) line said old new reads it = tt
+
+-- a catalogue that nobody changed
+pub kinds_stay : (result : Result (Unit {0}) Exit) (c : Catalog) → OnOk result (c ≡ c)
+kinds_stay (Ok u) c = refl
+kinds_stay (Err e) c = tt
+
+-- what holds at all holds where all went well
+pub where_well : (A : Type 0) (result : Result (Unit {0}) Exit) → A → OnOk result A
+where_well A (Ok u) it = it
+where_well A (Err e) it = tt

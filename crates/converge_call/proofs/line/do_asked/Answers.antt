@@ -1,6 +1,6 @@
 -- What is done for each line that is asked.
 use Rattle.std.proofs.Common.{refl}
-use Rattle.converge_call.proofs.Lining.{asked_as}
+use Rattle.converge_call.proofs.Lining.{asked_as, kinds_as, kinds_stay}
 use Rattle.converge_call.proofs.Noting.{nothing_to_do}
 use Rattle.converge_call.proofs.line.do_asked.Goals as goal
 
@@ -73,3 +73,45 @@ pub returns-clause-done : goal.returns-clause-done
 returns-clause-done g c =
     asked_as _ _ _ c.args.number _ _ _ c.args.asked _ _ _ c.in-Restart.is (λ es does. does)
     (λ es why breaks. breaks) c.refuse.ensures.done
+
+pub returns-in-Blank-clause-kinds : goal.returns-in-Blank-clause-kinds
+returns-in-Blank-clause-kinds g c = kinds_as _ c.args.asked _ _ _ c.in-Blank.is (kinds_stay _ _)
+
+pub returns-in-Create-clause-kinds : goal.returns-in-Create-clause-kinds
+returns-in-Create-clause-kinds g c = kinds_as _ c.args.asked _ _ _ c.in-Create.is (kinds_stay _ _)
+
+pub returns-in-Update-clause-kinds : goal.returns-in-Update-clause-kinds
+returns-in-Update-clause-kinds g c = kinds_as _ c.args.asked _ _ _ c.in-Update.is (kinds_stay _ _)
+
+pub returns-in-Delete-clause-kinds : goal.returns-in-Delete-clause-kinds
+returns-in-Delete-clause-kinds g c = kinds_as _ c.args.asked _ _ _ c.in-Delete.is (kinds_stay _ _)
+
+pub returns-in-Cancel-clause-kinds : goal.returns-in-Cancel-clause-kinds
+returns-in-Cancel-clause-kinds g c = kinds_as _ c.args.asked _ _ _ c.in-Cancel.is (kinds_stay _ _)
+
+pub returns-in-Status-clause-kinds : goal.returns-in-Status-clause-kinds
+returns-in-Status-clause-kinds g c = kinds_as _ c.args.asked _ _ _ c.in-Status.is (kinds_stay _ _)
+
+pub returns-in-Resources-clause-kinds : goal.returns-in-Resources-clause-kinds
+returns-in-Resources-clause-kinds g c = kinds_as _ c.args.asked _ _ _ c.in-Resources.is (kinds_stay _ _)
+
+pub returns-in-Outputs-clause-kinds : goal.returns-in-Outputs-clause-kinds
+returns-in-Outputs-clause-kinds g c = kinds_as _ c.args.asked _ _ _ c.in-Outputs.is (kinds_stay _ _)
+
+pub returns-in-Run-clause-kinds : goal.returns-in-Run-clause-kinds
+returns-in-Run-clause-kinds g c = kinds_as _ c.args.asked _ _ _ c.in-Run.is (kinds_stay _ _)
+
+pub returns-in-Turn-clause-kinds : goal.returns-in-Turn-clause-kinds
+returns-in-Turn-clause-kinds g c = kinds_as _ c.args.asked _ _ _ c.in-Turn.is (kinds_stay _ _)
+
+pub returns-in-Stop-clause-kinds : goal.returns-in-Stop-clause-kinds
+returns-in-Stop-clause-kinds g c = kinds_as _ c.args.asked _ _ _ c.in-Stop.is (kinds_stay _ _)
+
+pub returns-in-Start-clause-kinds : goal.returns-in-Start-clause-kinds
+returns-in-Start-clause-kinds g c = kinds_as _ c.args.asked _ _ _ c.in-Start.is (kinds_stay _ _)
+
+pub returns-in-Types-clause-kinds : goal.returns-in-Types-clause-kinds
+returns-in-Types-clause-kinds g c = kinds_as _ c.args.asked _ _ _ c.in-Types.is c.types.ensures.kinds
+
+pub returns-clause-kinds : goal.returns-clause-kinds
+returns-clause-kinds g c = kinds_as _ c.args.asked _ _ _ c.in-Restart.is (kinds_stay _ _)
