@@ -2,6 +2,7 @@
 //! empty body and stands for its clause.
 #![tactic(auto)]
 
+ghost use Rattle.eval_laws.specs.Faults.{ConditionsFaultByNoForm, PropertiesFaultByNoForm, ValuesFaultByNoForm};
 ghost use Rattle.eval_laws.specs.Laws.{ReadsOnlyNamed, ReadsOnlyNeeds};
 
 /// An item's properties, or their first fault, are the same with any two lists of known facts that tell
@@ -14,4 +15,12 @@ pub fn reads_only_needs()
 /// properties refer to, whatever else is known.
 pub fn reads_only_named()
     ensures { ReadsOnlyNamed }
+{}
+
+/// A value whose calls are in their form faults by what arguments come to alone, or in what a repeat
+/// replaced; so does a condition, and so do an item's properties.
+pub fn faults_by_no_form()
+    ensures values { ValuesFaultByNoForm }
+    ensures conditions { ConditionsFaultByNoForm }
+    ensures properties { PropertiesFaultByNoForm }
 {}
