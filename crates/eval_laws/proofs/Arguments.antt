@@ -1,43 +1,32 @@
 -- What the argument of a call comes to, and what its key says of it.
-use Rattle.std.proofs.Common.{◌≡◌, List, [], ◌∷◌, ℕ, Bool, true, false, ◌&&◌, ◌||◌, Option, Some, None, refl, sym, subst}
-use Rattle.std.proofs.Common.{inl, inr, bytes_eq, codes, is_some}
-use Rattle.std.proofs.lemmas.Slice.Eq.{bytes_eq-Decides}
+use Rattle.std.proofs.Common.{◌≡◌, List, [], ℕ, true, Option, Some, None, refl, sym, subst}
+use Rattle.std.proofs.Common.{inl, is_some}
 use Rattle.std.specs.Prelude.{⊤}
 use Rattle.heat_value.specs.Data.{Data, null, flag, whole, words, items, fields}
-use Rattle.heat_value.specs.Data.{Members, no_members, member}
-use Rattle.heat_value.specs.declared.path.Step.{Step}
-use Rattle.heat_value.specs.declared.path.Step.TheVariants.{Key}
+use Rattle.heat_value.specs.Data.{no_members, member}
 use Rattle.hot_eval.specs.Evaluation.{Evaluating, called, sole_of}
 use Rattle.hot_eval.specs.Evaluation.{parts_outcome, repeat_outcome, if_outcome, condition_outcome, condition_parts_outcome}
 use Rattle.hot_eval.specs.Manners.{manner_of}
 use Rattle.hot_eval.specs.Names.{function_of, condition_function_of, is_formed, is_condition_formed}
 use Rattle.hot_eval.specs.Outcomes.{Outcome}
 use Rattle.hot_eval.specs.Scenes.{SceneData}
-use Rattle.hot_eval.specs.declared.code.FaultCode.{FaultCode}
 use Rattle.hot_eval.specs.declared.function.Function.{Function}
 use Rattle.hot_eval.specs.declared.function.Function.TheVariants as function
 use Rattle.hot_eval.specs.declared.manner.Manner.TheVariants as manner
-use Rattle.hot_functions.specs.Forms.{condition_form_of, has_form, is_condition, stands, are_among, holds_object}
+use Rattle.hot_functions.specs.Forms.{condition_form_of, has_form, is_condition}
 use Rattle.hot_functions.specs.declared.form.Form.TheVariants as form
 use Rattle.eval_laws.specs.Faulting.{MayFault, replaced, IsCallAt}
 use Rattle.eval_laws.specs.Formed.{IsFormed, HoldFormed, IsRight}
-use Rattle.eval_laws.specs.Reached.{HasMember, IsPart}
 use Rattle.eval_laws.specs.Roles.{as_value, as_parts, as_repetition, as_branches, as_condition, as_conditions}
 use Rattle.eval_laws.specs.Roles.{as_written, argument_role, argument_or}
 use Rattle.eval_laws.proofs.Calling.{ArgumentHolds, Inside, call_holds}
 use Rattle.eval_laws.proofs.Codes.{Fits, IsFlag}
-use Rattle.eval_laws.proofs.Forms.{form_for, left_holds, right_holds, value_form, condition_form, condition_named_by}
+use Rattle.eval_laws.proofs.Forms.{form_for, value_form, condition_form, condition_named_by}
 use Rattle.eval_laws.proofs.Holding.{Holds, gives_hold}
 use Rattle.eval_laws.proofs.Likeness.{ComesTo, IsLike}
-use Rattle.eval_laws.proofs.Named.{IfNamed, function_by, condition_by}
+use Rattle.eval_laws.proofs.Named.{IfNamed, condition_by}
 
 -- ---- what a key says
-
--- the key of a repeat
-repeat_key : (k : List ℕ) → IfNamed (λ f. function.Repeat ≡ f → k ≡ codes "repeat") (function_of k)
-repeat_key k = function_by (λ f. function.Repeat ≡ f → k ≡ codes "repeat") k
-    (λ e is. cc) (λ e is. cc) (λ e is. e) (λ is. cc) (λ is. cc) (λ is. cc) (λ is. cc) (λ is. cc) (λ is. cc) (λ is. cc)
-    (λ is. cc) (λ is. cc) (λ is. cc) (λ is. cc) (λ is. cc) (λ is. cc) (λ is. cc)
 
 -- no function of conditions is a repeat, and each gives a flag
 abbrev IsOfConditions : Function → Type 0
@@ -45,43 +34,14 @@ IsOfConditions f = (function.Repeat ≡ f → ⊥) × ((v : Data) → Fits f v �
 
 of_conditions : (k : List ℕ) → IfNamed IsOfConditions (condition_function_of k)
 of_conditions k = condition_by IsOfConditions k
-    ((λ is. cc), (λ v fits. fits)) ((λ is. cc), (λ v fits. fits)) ((λ is. cc), (λ v fits. fits))
-    ((λ is. cc), (λ v fits. fits)) ((λ is. cc), (λ v fits. fits)) ((λ is. cc), (λ v fits. fits))
+    (λ e. ((λ is. cc), (λ v fits. fits))) (λ e. ((λ is. cc), (λ v fits. fits))) (λ e. ((λ is. cc), (λ v fits. fits)))
+    (λ e. ((λ is. cc), (λ v fits. fits))) (λ e. ((λ is. cc), (λ v fits. fits))) (λ e. ((λ is. cc), (λ v fits. fits)))
 
 -- what holds of each function that a key may name holds of this one
 of_named : (P : Function → Type 0) (x : Option Function) (f : Function) → x ≡ Some f → IfNamed P x → P f
 of_named P x f is holds = subst (IfNamed P) is holds
 
 -- ---- what a form says
-
--- a key that stands has its value
-stands_there : (k : List ℕ) (ms : Members) → stands k ms ≡ true → (e : Data) × HasMember ms k e
-stands_there k no_members is = cc
-stands_there k (member l d ms) is = by (bytes_eq l k) refl is (stands_there k ms)
-  where
-    by : (b : Bool) → bytes_eq l k ≡ b → (b || stands k ms) ≡ true
-        → (stands k ms ≡ true → (e : Data) × HasMember ms k e) → (e : Data) × HasMember (member l d ms) k e
-    by true same is later = (d, inl (sym ((bytes_eq-Decides l k).0 same), refl))
-    by false same is later = ((later is).0, inr (later is).1)
-
--- the literal template of a repeat
-template_there : (d : Data) → has_form form.Repeated d ≡ true
-    → (e : Data) × IsPart as_repetition d (Key (codes "template")) as_written e
-template_there null has = cc
-template_there (flag b) has = cc
-template_there (whole z) has = cc
-template_there (words s) has = cc
-template_there (items ns) has = cc
-template_there (fields ms) has = by (stands_there (codes "template") ms
-    (right_holds known (stands (codes "template") ms)
-    (left_holds (known && stands (codes "template") ms) (holds_object (codes "for_each") ms) has)))
-  where
-    known : Bool
-    known = are_among (codes "for_each" ∷ codes "permutations" ∷ codes "template" ∷ []) ms
-
-    by : (e : Data) × HasMember ms (codes "template") e
-        → (e : Data) × IsPart as_repetition (fields ms) (Key (codes "template")) as_written e
-    by (e, there) = (e, (there, refl))
 
 -- the argument of a `not`
 negated_is : (d : Data) → has_form form.Negated d ≡ true → is_condition d ≡ true
@@ -133,23 +93,6 @@ module _ (S : SceneData) (X : Evaluating) where
 
   -- ---- objects with one member
 
-  -- in what a repeat replaced
-  inside_repeat : (k : List ℕ) (d : Data) → function_of k ≡ Some function.Repeat → k ≡ codes "repeat"
-      → has_form form.Repeated d ≡ true → (c : FaultCode) (p : List Step)
-      → MayFault as_value (fields (member k d no_members)) c (Key (codes "repeat") ∷ Key (codes "template") ∷ p)
-  inside_repeat k d is key has c p = replaced (record {
-    front = Key (codes "repeat") ∷ Key (codes "template") ∷ [];
-    rest = p;
-    template = (template_there d has).0;
-    split = refl;
-    reached = (
-      as_repetition,
-      d,
-      (inl (sym key, refl), λ i. argument_or as_value (sym is i)),
-      (as_written, (template_there d has).0, (template_there d has).1, (refl, refl)),
-    );
-  })
-
   module _ (k : List ℕ) (d : Data) (all : Evaluated d) (o : Outcome Data) (n : ℕ) where
     -- a function of values is called, or the object is plain
     pub value_called : (x : Option Function) → function_of k ≡ x → IsRight S as_value (Some (k, d)) x
@@ -179,10 +122,12 @@ module _ (S : SceneData) (X : Evaluating) where
         }
 
         within : Inside f (MayFault as_value (fields (member k d no_members)))
-        within same =
-            inside_repeat k d (subst (λ g. function_of k ≡ Some g) (sym same) is)
-            (of_named (λ g. function.Repeat ≡ g → k ≡ codes "repeat") (function_of k) f is (repeat_key k) same)
-            (subst (λ g. has_form (form_for g) d ≡ true) (sym same) has)
+        within same c p = replaced (record {
+          front = [];
+          rest = p;
+          repeat = subst (IsCallAt as_value (fields (member k d no_members)) []) (sym same) here;
+          split = refl;
+        })
 
     -- a function of conditions is called
     pub condition_called : (x : Option Function) → condition_function_of k ≡ x → IsRight S as_condition (Some (k, d)) x

@@ -92,7 +92,8 @@ module _ (S : SceneData) (X : Evaluating) where
     value_holds (fields ms) formed n =
         object_holds ms formed n (λ right out. members_hold as_value (fields ms) ms right out n)
 
-    values_hold : (r : Role) (w : Data) (i : ℕ) (ns : Nodes) → AreFormed S as_value i ns → OfItems (MayFault r w) i ns as_value → (n : ℕ)
+    values_hold : (r : Role) (w : Data) (i : ℕ) (ns : Nodes) → AreFormed S as_value i ns
+        → OfItems (MayFault r w) i ns as_value → (n : ℕ)
         → Holds (KeepTexts ns) (MayFault r w) (values_outcome X S i ns n)
     values_hold r w i no_nodes formed out n = tt
     values_hold r w i (node d ns) formed out n =

@@ -4,7 +4,9 @@ use Rattle.heat_value.specs.Data.{Data}
 use Rattle.heat_value.specs.declared.path.Step.{Step}
 use Rattle.hot_eval.specs.Outcomes.{Outcome, Gives, Faults, and_then, made_into, under}
 use Rattle.hot_eval.specs.declared.code.FaultCode.{FaultCode}
-use Rattle.eval_laws.specs.Faulting.{MayFault, own, replaced}
+use Rattle.hot_eval.specs.declared.function.Function.{Function}
+use Rattle.hot_eval.specs.declared.function.Function.TheVariants as function
+use Rattle.eval_laws.specs.Faulting.{MayFault, own, replaced, IsCallAt}
 use Rattle.eval_laws.specs.Reached.{IsPart}
 use Rattle.eval_laws.specs.Roles.{Role}
 
@@ -41,21 +43,25 @@ module _ {A : Type 0} (P : A → Type 0) (Q : Fault) where
   made_holds R f (Gives a n) more holds = more a holds
   made_holds R f (Faults c p) more holds = holds
 
--- a fault of a part is one of the whole
-pub deeper : (r : Role) (d : Data) (s : Step) (q : Role) (e : Data) → IsPart r d s q e → (c : FaultCode)
-    (path : List Step) → MayFault q e c path → MayFault r d c (s ∷ path)
-deeper r d s q e part c path (own f call may) = own f (record {
+-- a call in a part is one in the whole
+deeper_call : (r : Role) (d : Data) (s : Step) (q : Role) (e : Data) → IsPart r d s q e → (path : List Step)
+    (f : Function) → IsCallAt q e path f → IsCallAt r d (s ∷ path) f
+deeper_call r d s q e part path f call = record {
   role = call.role;
   key = call.key;
   argument = call.argument;
   reached = (q, e, part, call.reached);
   names = call.names;
   formed = call.formed;
-}) may
+}
+
+-- a fault of a part is one of the whole
+pub deeper : (r : Role) (d : Data) (s : Step) (q : Role) (e : Data) → IsPart r d s q e → (c : FaultCode)
+    (path : List Step) → MayFault q e c path → MayFault r d c (s ∷ path)
+deeper r d s q e part c path (own f call may) = own f (deeper_call r d s q e part path f call) may
 deeper r d s q e part c path (replaced at) = replaced (record {
   front = s ∷ at.front;
   rest = at.rest;
-  template = at.template;
+  repeat = deeper_call r d s q e part at.front function.Repeat at.repeat;
   split = λ i. s ∷ at.split i;
-  reached = (q, e, part, at.reached);
 })

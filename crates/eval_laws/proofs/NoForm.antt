@@ -13,7 +13,7 @@ use Rattle.hot_eval.specs.Scenes.{scene_of}
 use Rattle.hot_eval.specs.declared.code.FaultCode.{FaultCode}
 use Rattle.hot_eval.specs.declared.code.FaultCode.TheVariants.{F06}
 use Rattle.eval_laws.specs.Faulting.{MayFault}
-use Rattle.eval_laws.specs.Faults.{ConditionsFaultByNoForm, IsFaultUnder, IsFlagOrFault, PropertiesFaultByNoForm}
+use Rattle.eval_laws.specs.Faults.{ConditionsFaultByNoForm, IsPropertyFault, IsFlagOrFault, PropertiesFaultByNoForm}
 use Rattle.eval_laws.specs.Faults.{ValuesFaultByNoForm}
 use Rattle.eval_laws.specs.Roles.{as_value, as_parts, as_condition}
 use Rattle.eval_laws.proofs.Codes.{IsFlag}
@@ -36,15 +36,12 @@ conditions_law scene d spent formed is =
 
 -- a fault of a map of properties, seen from the template
 module _ (item : Item) (c : FaultCode) (path : List Step) where
-  abbrev IsSeen : Type 0
-  IsSeen = (rest : List Step) × (path ≡ properties_path item.name ++ rest) × IsFaultUnder item c rest
-
   seen : (o : Outcome Members) → Holds (λ v. ⊤) (MayFault as_parts (fields item.props)) o
-      → seen_from (λ p. properties_path item.name ++ p) (unless_large o) ≡ Faults c path → IsSeen
+      → seen_from (λ p. properties_path item.name ++ p) (unless_large o) ≡ Faults c path → IsPropertyFault item c path
   seen (Gives ms n) holds is = by (is_result (fields ms)) is
     where
       by : (b : Bool) → seen_from (λ p. properties_path item.name ++ p) (if b then Gives ms n else Faults F06 [])
-          ≡ Faults c path → IsSeen
+          ≡ Faults c path → IsPropertyFault item c path
       by true is = cc
       by false is = ([], cc, inl (refl, cc))
   seen (Faults e p) holds is = (p, cc, inr (subst (λ x. MayFault as_parts (fields item.props) x p) same holds))

@@ -1,14 +1,15 @@
 -- The faults that a value whose calls are in their form may have, and where.
-use Rattle.std.specs.Prelude.{◌≡◌, ◌++◌, ℕ, List, [], ◌∷◌, true, Some, Contains}
+use Rattle.std.specs.Prelude.{◌≡◌, ◌++◌, ℕ, List, [], ◌∷◌, true, Some, Contains, codes}
 use Rattle.heat_value.specs.Data.{Data, fields, no_members, member}
 use Rattle.heat_value.specs.declared.path.Step.{Step}
+use Rattle.heat_value.specs.declared.path.Step.TheVariants.{Key}
 use Rattle.hot_eval.specs.declared.code.FaultCode.{FaultCode}
 use Rattle.hot_eval.specs.declared.code.FaultCode.TheVariants.{F01, F02, F03, F04, F05, F06, F07}
 use Rattle.hot_eval.specs.declared.function.Function.{Function}
 use Rattle.hot_eval.specs.declared.function.Function.TheVariants as function
 use Rattle.eval_laws.specs.Formed.{is_formed_as}
 use Rattle.eval_laws.specs.Reached.{Reaches}
-use Rattle.eval_laws.specs.Roles.{Role, as_written, named_as}
+use Rattle.eval_laws.specs.Roles.{Role, named_as}
 
 -- the codes that a function may give by what its argument was evaluated to, where the argument is in its form: F01 for a
 -- part of the wrong sort, F02 to F05 for what the function can't do, F06 and F07 for what is too large
@@ -45,13 +46,12 @@ pub record IsCallAt (r : Role) (d : Data) (path : List Step) (f : Function) : Ty
   pub names : named_as role key ≡ Some f
   pub formed : is_formed_as role key argument ≡ true
 
--- the path leads into the literal template of a repeat, of which this is what stands first
+-- the path leads into the literal template of a repeat in its form
 pub record IsInTemplate (r : Role) (d : Data) (path : List Step) : Type 0 where
   pub front : List Step
   pub rest : List Step
-  pub template : Data
-  pub split : path ≡ front ++ rest
-  pub reached : Reaches r d front as_written template
+  pub repeat : IsCallAt r d front function.Repeat
+  pub split : path ≡ front ++ Key (codes "repeat") ∷ Key (codes "template") ∷ rest
 
 -- a fault of a value: of a call in its form, by what its argument was evaluated to; or in what a repeat replaced
 pub data MayFault (r : Role) (d : Data) (c : FaultCode) (path : List Step) : Type 0 where

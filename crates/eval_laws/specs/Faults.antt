@@ -1,4 +1,4 @@
--- What was found in its form faults by no form.
+-- What is in its form faults by no form.
 use Rattle.std.specs.Prelude.{◌≡◌, ◌⊎◌, ◌++◌, ℕ, List, [], Bool, true}
 use Rattle.heat_plan.specs.Plans.{PlanData}
 use Rattle.heat_plan.specs.declared.facts.KnownFacts.{KnownFacts}
@@ -35,8 +35,13 @@ ConditionsFaultByNoForm = (scene : SceneData) (d : Data) (spent : ℕ) → IsFor
 abbrev pub IsFaultUnder : Item → FaultCode → List Step → Type 0
 IsFaultUnder item c path = ((path ≡ []) × (c ≡ F06)) ⊎ MayFault as_parts (fields item.props) c path
 
+-- the same, seen from the template
+abbrev pub IsPropertyFault : Item → FaultCode → List Step → Type 0
+IsPropertyFault item c path =
+    (rest : List Step) × (path ≡ properties_path item.name ++ rest) × IsFaultUnder item c rest
+
 -- an item's properties in their form
 abbrev pub PropertiesFaultByNoForm : Type 0
 PropertiesFaultByNoForm = (plan : PlanData) (item : Item) (known : List KnownFacts) (c : FaultCode) (path : List Step)
     → IsFormed (scene_of plan known) as_parts (fields item.props) → resolve plan item known ≡ Faults c path
-    → (rest : List Step) × (path ≡ properties_path item.name ++ rest) × IsFaultUnder item c rest
+    → IsPropertyFault item c path

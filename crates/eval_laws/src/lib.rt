@@ -1,5 +1,5 @@
-//! Laws of evaluation: what an item's properties depend on. Nothing here is run: each function has an
-//! empty body and stands for its clause.
+//! Laws of evaluation: what an item's properties depend on, and which faults a value may have whose calls
+//! are in their form. Nothing here is run: each function has an empty body and stands for its clauses.
 #![tactic(auto)]
 
 ghost use Rattle.eval_laws.specs.Faults.{ConditionsFaultByNoForm, PropertiesFaultByNoForm, ValuesFaultByNoForm};
