@@ -86,7 +86,7 @@ IsRight scene r (Some m) (Some f) = IsRightCall scene r m f
 
 -- ---- values
 
--- each call that is evaluated in it is right, and each condition that is named has a value
+-- each call in it that may be evaluated is right, and each condition that may be asked for by its name has a value
 abbrev mutual
   pub IsFormed : SceneData → Role → Data → Type 0
   IsFormed scene r null = ⊤
