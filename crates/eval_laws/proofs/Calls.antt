@@ -176,16 +176,23 @@ module _ (S : SceneData) (other : List KnownFacts) where
 
     each_alike : (k : List ℕ) → IfNamed (IsCalledAlike k) (function_of k)
     each_alike k = function_by (IsCalledAlike k) k
+        (λ e. other_call k function.Parameter (λ a n. refl))
         (λ e. subst (λ x. IsCalledAlike x function.Resource) (sym e) refers)
         (λ e. subst (λ x. IsCalledAlike x function.Attribute) (sym e) refers_to_attribute)
+        (λ e. other_call k function.File (λ a n. refl))
+        (λ e. other_call k function.Join (λ a n. refl))
+        (λ e. other_call k function.Split (λ a n. refl))
+        (λ e. other_call k function.Replace (λ a n. refl))
+        (λ e. other_call k function.ReplaceStrictly (λ a n. refl))
         (λ e. subst (λ x. IsCalledAlike x function.Repeat) (sym e) repeats)
-        (other_call k function.Parameter (λ a n. refl)) (other_call k function.File (λ a n. refl))
-        (other_call k function.Join (λ a n. refl)) (other_call k function.Split (λ a n. refl))
-        (other_call k function.Replace (λ a n. refl)) (other_call k function.ReplaceStrictly (λ a n. refl))
-        (other_call k function.Digest (λ a n. refl)) (other_call k function.MergeMaps (λ a n. refl))
-        (other_call k function.ReplaceInMap (λ a n. refl)) (other_call k function.Concat (λ a n. refl))
-        (other_call k function.ConcatUnique (λ a n. refl)) (other_call k function.Filter (λ a n. refl))
-        (other_call k function.Contains (λ a n. refl)) (other_call k function.If (λ a n. refl))
+        (λ e. other_call k function.Digest (λ a n. refl))
+        (λ e. other_call k function.MergeMaps (λ a n. refl))
+        (λ e. other_call k function.ReplaceInMap (λ a n. refl))
+        (λ e. other_call k function.Concat (λ a n. refl))
+        (λ e. other_call k function.ConcatUnique (λ a n. refl))
+        (λ e. other_call k function.Filter (λ a n. refl))
+        (λ e. other_call k function.Contains (λ a n. refl))
+        (λ e. other_call k function.If (λ a n. refl))
 
     pub value_called : (k : List ℕ) (d : Data) → Parts k d → (o p : Outcome Data) → o ≡ p → (n : ℕ)
         → called X S (function_of k) (is_formed k d) (sole_of X S k d) o n
@@ -205,8 +212,8 @@ module _ (S : SceneData) (other : List KnownFacts) where
     condition_called k d sole o n = by (condition_function_of k) all
       where
         all : IfNamed AnswerAlike (condition_function_of k)
-        all = condition_by AnswerAlike k (λ a m. refl) (λ a m. refl) (λ a m. refl) (λ a m. refl) (λ a m. refl)
-            (λ a m. refl)
+        all = condition_by AnswerAlike k (λ e a m. refl) (λ e a m. refl) (λ e a m. refl) (λ e a m. refl)
+            (λ e a m. refl) (λ e a m. refl)
 
         by : (f : Option Function) → IfNamed AnswerAlike f
             → called X S f (is_condition_formed k d) (sole_of X S k d) o n

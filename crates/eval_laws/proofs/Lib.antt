@@ -3,3 +3,11 @@ pub mod Named
 pub mod Calls
 pub mod Same
 pub mod Resolved
+pub mod Holding
+pub mod Forms
+pub mod Codes
+pub mod Likeness
+pub mod Calling
+pub mod Arguments
+pub mod Formal
+pub mod NoForm

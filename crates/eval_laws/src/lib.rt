@@ -1,7 +1,8 @@
-//! Laws of evaluation: what an item's properties depend on. Nothing here is run: each function has an
-//! empty body and stands for its clause.
+//! Laws of evaluation: what an item's properties depend on, and which faults a value may have whose calls
+//! are in their form. Nothing here is run: each function has an empty body and stands for its clauses.
 #![tactic(auto)]
 
+ghost use Rattle.eval_laws.specs.Faults.{ConditionsFaultByNoForm, PropertiesFaultByNoForm, ValuesFaultByNoForm};
 ghost use Rattle.eval_laws.specs.Laws.{ReadsOnlyNamed, ReadsOnlyNeeds};
 
 /// An item's properties, or their first fault, are the same with any two lists of known facts that tell
@@ -14,4 +15,12 @@ pub fn reads_only_needs()
 /// properties refer to, whatever else is known.
 pub fn reads_only_named()
     ensures { ReadsOnlyNamed }
+{}
+
+/// A value whose calls are in their form faults by what arguments come to alone, or in what a repeat
+/// replaced; so does a condition, and so do an item's properties.
+pub fn faults_by_no_form()
+    ensures values { ValuesFaultByNoForm }
+    ensures conditions { ConditionsFaultByNoForm }
+    ensures properties { PropertiesFaultByNoForm }
 {}
