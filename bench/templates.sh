@@ -1,7 +1,7 @@
 #!/bin/sh
-# Prints processor seconds and peak memory of a template of 1 MiB with 1,000 resources, 10,000 functions and 100
-# parameters: its text made, then read as a value, then taken as a template, then its parameters bound, then its
-# plan made; each word does what the one before it does, and one thing more. It judges nothing.
+# Prints processor seconds and peak memory of a template of 1 MiB with 1,000 resources that need one another, 10,000
+# functions, 100 parameters and 50 conditions: its text made, then read as a value, then taken as a template, then its
+# parameters bound, then its plan made; each word does what the one before it does, and one thing more. It judges nothing.
 set -e
 cd "$(dirname "$0")/../crates/bench_templates"
 rt run -- bind 1 >/dev/null 2>&1

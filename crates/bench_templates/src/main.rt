@@ -3,6 +3,7 @@
 //! came out, which is the same at each run.
 #![tactic(auto)]
 
+mod conditions;
 mod parameters;
 mod resources;
 mod work;

@@ -5,6 +5,7 @@ ghost use Rattle.heat_value.specs.Meaning.{data_of};
 ghost use Rattle.hot_registry.specs.Names.{is_listed};
 ghost use Rattle.hot_registry.specs.Shipped.{flavor_test as the_flavor_test};
 
+use crate::conditions::push_conditions;
 use crate::parameters::{given, push_parameters};
 use crate::resources::{KINDS, push_resources};
 use anyhow::{Result, bail};
@@ -55,7 +56,9 @@ pub fn count(alloc: Global, work: Work, size: u32) -> Result<usize> {
 // The template as text.
 fn text_of(alloc: Global, size: u32) -> Result<String> {
     let mut text = String::new(alloc);
-    text.push_str("{\"heat_template_version\":\"2018-08-31\",\"parameters\":{")?;
+    text.push_str("{\"conditions\":{")?;
+    push_conditions(alloc, &mut text)?;
+    text.push_str("},\"heat_template_version\":\"2018-08-31\",\"parameters\":{")?;
     push_parameters(alloc, &mut text)?;
     text.push_str("},\"resources\":{")?;
     push_resources(alloc, &mut text, size)?;

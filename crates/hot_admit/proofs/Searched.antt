@@ -18,12 +18,17 @@ use Rattle.hot_admit.specs.Basis.{resource_named}
 use Rattle.hot_admit.specs.Resources.{ResourceData, resource_data, resources_data, names_of}
 use Rattle.hot_parts.specs.declared.res.Res.{Res}
 
-abbrev cmp : List ℕ → List ℕ → Ordering
+abbrev pub cmp : List ℕ → List ℕ → Ordering
 cmp = slice_cmp nat_cmp
 
 -- whether two names are equal, by how they compare
-same_by : (a b : List ℕ) (o : Ordering) → cmp a b ≡ o → bytes_eq a b ≡ is_eq o
+pub same_by : (a b : List ℕ) (o : Ordering) → cmp a b ≡ o → bytes_eq a b ≡ is_eq o
 same_by a b o is = sym (is_eq-slice_cmp a b) ∙ ap is_eq is
+
+-- what is below a name that is the same as another is below the other
+pub below_same : (a b c : List ℕ) → cmp a b ≡ Less → cmp b c ≡ Equal → cmp a c ≡ Less
+below_same a b c below same =
+    flipped c a Greater (sym (nat_list_cmp_total.congr b c a same) ∙ flipped a b Less below)
 
 -- ---- the names rise
 
@@ -65,11 +70,10 @@ unfolding IsStrictlySortedBy
 found_at name [] p d up l here = absurd (omega arith)
 found_at name (r ∷ rs) zero d up l here = sym (ap (tested name r rs) (same_by r.name name Equal (here r)))
 found_at name (r ∷ rs) (suc p) d up l here =
-    let this : List ℕ = (get_or rs p r).name in
-    let above : cmp name r.name ≡ Greater = sym (nat_list_cmp_total.congr this name r.name (here r))
-    ∙ flipped r.name this Less (below_at r.name rs p r up.0 (omega arith)) in
+    let before : cmp r.name name ≡ Less =
+    below_same r.name (get_or rs p r).name name (below_at r.name rs p r up.0 (omega arith)) (here r) in
     found_at name rs p d up.1 (omega arith) here
-    ∙ sym (ap (tested name r rs) (same_by r.name name Less (flipped name r.name Greater above)))
+    ∙ sym (ap (tested name r rs) (same_by r.name name Less before))
 
 none_named : (name : List ℕ) (rs : List Res)
     → ((p : ℕ) (d : Res) → p < length rs → bytes_eq (get_or rs p d).name name ≡ false)

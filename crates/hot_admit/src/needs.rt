@@ -1,11 +1,10 @@
 //! What an item needs: of the items' names those that its resource names.
-ghost use Rattle.std.specs.Prelude.{◌≡◌, ◌++◌, IfOk, OnOk, bytes_eq, filter, map};
-ghost use Rattle.std.specs.List.{list_any};
+ghost use Rattle.std.specs.Prelude.{◌≡◌, ◌++◌, ◌∷◌, [], ℕ, List, IfOk, OnOk, filter, length, map};
 ghost use Rattle.heat_plan.specs.Order.{Rising};
 ghost use Rattle.heat_value.specs.Meaning.{data_of, nodes_of};
 ghost use Rattle.hot_admit.specs.Items.{needs_among, named_by as the_named_by, dependencies, texts_in};
 ghost use Rattle.hot_admit.specs.Resources.{resource_data};
-ghost use Rattle.hot_forms.specs.Checks.{is_among as the_is_among};
+ghost use Rattle.hot_forms.specs.Checks.{is_among};
 
 use heat_plan::{Needs, ResName};
 use heat_value::{Seq, Text, TryCopy, Value};
@@ -66,25 +65,40 @@ fn those_among(
     names: &[ResName],
     named: &[&Text],
 ) -> Result<Seq<ResName>, AllocError>
-    ensures { IfOk result (λ ns. ns ≡ filter (the_is_among (map (λ t. t.now) named.now)) names.now) }
+    requires { Rising names.now }
+    ensures { IfOk result (λ ns. ns ≡ filter (is_among (map (λ t. t.now) named.now)) names.now) }
 {
+    let marks = marks_of(alloc, names, named)?;
     let mut those = Seq::new(alloc);
-    for name in names {
-        if is_among(named, name.as_str()) {
+    for (place, name) in names.iter().enumerate() {
+        if marks[place] {
             those.push(name.copy()?)?;
         }
     }
     Ok(those)
 }
 
-fn is_among(named: &[&Text], name: &str) -> bool
-    ensures { result ≡ the_is_among (map (λ t. t.now) named.now) name.now }
+// Of each of these names whether it is named.
+fn marks_of(alloc: Global, names: &[ResName], named: &[&Text]) -> Result<Vec<bool>, AllocError>
+    requires { Rising names.now }
+    ensures { IfOk result (λ ms. ms.items ≡ map (is_among (map (λ t. t.now) named.now)) names.now) }
 {
-    any_is(named, name)
+    let mut marks = vec![in alloc; false; names.len()]?;
+    for name in named {
+        mark(names, name, &mut marks);
+    }
+    Ok(marks)
 }
 
-fn any_is(named: &[&Text], name: &str) -> bool
-    ensures { result ≡ list_any (λ t. bytes_eq name.now t.now) named.now }
+// Marks a name, where it is one of these; its place is found by binary search.
+fn mark(names: &[ResName], name: &Text, marks: &mut Vec<bool>)
+    requires rising { Rising names.now }
+    requires size { length marks.old.items ≡ length names.now }
+    ensures { (named : List (List ℕ)) → marks.old.items ≡ map (is_among named) names.now
+        → marks.new.items ≡ map (is_among (named ++ name.now ∷ [])) names.now }
 {
-    named.iter().any(|other| name == other.as_str())
+    match names.binary_search_by(|other| other.as_str().cmp(name.as_str())) {
+        Ok(place) => marks[place] = true,
+        Err(_) => {}
+    }
 }
