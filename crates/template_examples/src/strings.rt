@@ -162,6 +162,15 @@ impl Teller for Split {
     }
 }
 
+// An index; none where it is no value.
+fn index_of(alloc: Global, index: &str) -> Result<Option<Value>, AllocError> {
+    match Value::read(alloc, index.as_bytes()) {
+        Ok(index) => Ok(Some(index)),
+        Err(ValueFault::Memory) => Err(AllocError),
+        Err(_) => Ok(None),
+    }
+}
+
 // The part of this index, or all of them where there is none.
 fn parts_of(
     alloc: Global,
@@ -169,13 +178,9 @@ fn parts_of(
     text: &Text,
     index: &str,
 ) -> Result<String, AllocError> {
-    let answer = match Value::read(alloc, index.as_bytes()) {
-        Ok(index) => split(alloc, delimiter, text, Some(&index)),
-        Err(ValueFault::Memory) => return Err(AllocError),
-        Err(_) => split(alloc, delimiter, text, None),
-    };
-    match answer {
-        Ok(value) => words_of(alloc, Ok(value.text(alloc)?)),
+    let index = index_of(alloc, index)?;
+    match split(alloc, delimiter, text, index.as_ref()) {
+        Ok(value) => String::from_str(alloc, value.text(alloc)?.as_str()),
         Err(fault) => code_of(alloc, &fault),
     }
 }
