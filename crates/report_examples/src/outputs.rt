@@ -1,11 +1,11 @@
 //! What is told of a stack's outputs: values, faults with their places, and whose facts they read.
-use report::Reporter;
 use core_state::{Actor, Entry, Row, RowWrite, ShowWhat, State, What};
 use heat_plan::{
     Act, Expression, Facts, Kind, Output, Parameters, Plan, Policy, Properties, ResName, RowNo,
     StackName, Status, TravNo,
 };
 use heat_value::{Seq, Text, Value};
+use report::Reporter;
 use std::alloc::{AllocError, Global};
 use std::test::Fail;
 

@@ -1,5 +1,4 @@
 //! One of each line, and what the entries from a place on add.
-use report::{Reporter, lines_of};
 use core_state::{
     Actor, Cause, Change, EngineChange, Entry, Row, RowWrite, ShowWhat, State, What, Why,
 };
@@ -8,6 +7,7 @@ use heat_plan::{
     TravNo,
 };
 use heat_value::{Path, Seq, Step, Text};
+use report::{Reporter, lines_of};
 use std::process::Abort;
 
 fn stack(rt: &(impl Abort + AllocGlobal)) -> StackName {
