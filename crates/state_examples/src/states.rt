@@ -120,40 +120,52 @@ fn put_stacks(alloc: Global, state: &mut State) -> Result<(), Fail> {
     put_stack(alloc, state, b's', 3)
 }
 
+// Whether a copy of the state has stacks of these numbers.
+fn is_copied(state: &State, wanted: &[u64]) -> bool {
+    match state.copy() {
+        Ok(copy) => has_stacks(&copy, wanted),
+        Err(_) => false,
+    }
+}
+
+// Whether the third stack stands in the place of the first, and does in a copy.
+fn stacks_in(alloc: Global, state: &mut State) -> Result<(bool, bool), Fail> {
+    put_stacks(alloc, state)?;
+    Ok((has_stacks(state, &[3, 2]), is_copied(state, &[3, 2])))
+}
+
+fn stacks_seen(alloc: Global) -> Result<(bool, bool), Fail> {
+    let mut state = State::new(alloc);
+    stacks_in(alloc, &mut state)
+}
+
 #[test]
 fn a_record_is_put_in_the_place_of_its_key(rt: HostRuntime) -> Result<(), Fail> {
-    let mut state = State::new(rt.alloc());
-    let put = put_stacks(rt.alloc(), &mut state);
-    let stands = has_stacks(&state, &[3, 2]);
-    let copied = match state.copy() {
-        Ok(copy) => has_stacks(&copy, &[3, 2]),
-        Err(_) => false,
-    };
-    put?;
-    assert!(rt; stands);
-    assert!(rt; copied);
+    assert_eq!(rt; stacks_seen(rt.alloc())?, (true, true));
     Ok(())
 }
 
-// Sends two letters and drops the first.
-fn send_and_drop(alloc: Global, state: &mut State) -> Result<(), Fail> {
+// Sends two letters and drops the first; how many wait then.
+fn letters_in(alloc: Global, state: &mut State) -> Result<usize, Fail> {
     send(alloc, state, 1)?;
     send(alloc, state, 2)?;
-    change(alloc, state, Change::Drop(letter_no(1)?))
+    change(alloc, state, Change::Drop(letter_no(1)?))?;
+    Ok(state.letters().len())
+}
+
+fn letters_seen(alloc: Global) -> Result<usize, Fail> {
+    let mut state = State::new(alloc);
+    letters_in(alloc, &mut state)
 }
 
 #[test]
 fn a_dropped_letter_is_gone(rt: HostRuntime) -> Result<(), Fail> {
-    let mut state = State::new(rt.alloc());
-    let sent = send_and_drop(rt.alloc(), &mut state);
-    let waiting = state.letters().len();
-    sent?;
-    assert_eq!(rt; waiting, 1);
+    assert_eq!(rt; letters_seen(rt.alloc())?, 1);
     Ok(())
 }
 
 // Whether a job is held, and then ended.
-fn held_and_ended(alloc: Global, state: &mut State) -> Result<(bool, bool), Fail> {
+fn job_in(alloc: Global, state: &mut State) -> Result<(bool, bool), Fail> {
     let engine = engine_no(1)?;
     hold(alloc, state)?;
     let held = state.job(&engine).is_some();
@@ -161,11 +173,14 @@ fn held_and_ended(alloc: Global, state: &mut State) -> Result<(bool, bool), Fail
     Ok((held, state.job(&engine).is_none()))
 }
 
+fn job_seen(alloc: Global) -> Result<(bool, bool), Fail> {
+    let mut state = State::new(alloc);
+    job_in(alloc, &mut state)
+}
+
 #[test]
 fn a_job_is_held_until_it_ends(rt: HostRuntime) -> Result<(), Fail> {
-    let mut state = State::new(rt.alloc());
-    let seen = held_and_ended(rt.alloc(), &mut state);
-    assert_eq!(rt; seen?, (true, true));
+    assert_eq!(rt; job_seen(rt.alloc())?, (true, true));
     Ok(())
 }
 
@@ -178,31 +193,24 @@ fn opening(alloc: Global) -> Result<Batch<Change>, Fail> {
     Ok(changes)
 }
 
-fn open(alloc: Global, state: &mut State) -> Result<(), Fail> {
+// How many engines are live behind an opening, and the next row.
+fn opening_in(alloc: Global, state: &mut State) -> Result<(usize, Next), Fail> {
     let changes = ready_all(alloc, opening(alloc)?)?;
     if state.reserve(changes.len()).is_ok() {
         state.apply_all(changes);
     }
-    Ok(())
+    Ok((state.live().len(), state.next().row))
+}
+
+fn opening_seen(alloc: Global) -> Result<(usize, Next), Fail> {
+    let mut state = State::new(alloc);
+    opening_in(alloc, &mut state)
 }
 
 #[test]
 fn changes_are_made_in_order(rt: HostRuntime) -> Result<(), Fail> {
-    let mut state = State::new(rt.alloc());
-    let opened = open(rt.alloc(), &mut state);
-    let live = state.live().len();
-    let row = state.next().row;
-    opened?;
-    assert_eq!(rt; live, 1);
-    assert_eq!(rt; row, Next::first());
+    assert_eq!(rt; opening_seen(rt.alloc())?, (1, Next::first()));
     Ok(())
-}
-
-// Puts a stack, its graph and its node's point.
-fn put_both(alloc: Global, state: &mut State) -> Result<(), Fail> {
-    put_stack(alloc, state, b's', 1)?;
-    put_graph(alloc, state)?;
-    put_point(alloc, state)
 }
 
 // Whether the first node of the stack's graph is done.
@@ -213,13 +221,22 @@ fn is_done(state: &State, stack: &StackName) -> bool {
     }
 }
 
+// Puts a stack, its graph and its node's point; whether the point is in the graph.
+fn point_in(alloc: Global, state: &mut State, stack: &StackName) -> Result<bool, Fail> {
+    put_stack(alloc, state, b's', 1)?;
+    put_graph(alloc, state)?;
+    put_point(alloc, state)?;
+    Ok(is_done(state, stack))
+}
+
+fn point_seen(alloc: Global) -> Result<bool, Fail> {
+    let stack = stack_name(alloc, b's')?;
+    let mut state = State::new(alloc);
+    point_in(alloc, &mut state, &stack)
+}
+
 #[test]
 fn a_point_is_put_into_its_graph(rt: HostRuntime) -> Result<(), Fail> {
-    let name = stack_name(rt.alloc(), b's')?;
-    let mut state = State::new(rt.alloc());
-    let put = put_both(rt.alloc(), &mut state);
-    let done = is_done(&state, &name);
-    put?;
-    assert!(rt; done);
+    assert!(rt; point_seen(rt.alloc())?);
     Ok(())
 }
