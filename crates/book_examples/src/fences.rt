@@ -1,7 +1,7 @@
 //! What becomes of an older look that others overtake.
 
+use crate::plans::command;
 use crate::takeovers::{is_drawn, opened, turn};
-use crate::books::command;
 use book::{Book, Look, StackCommand, Turn, prepare};
 use heat_plan::EngineNo;
 use hot_registry::Registry;

@@ -1,8 +1,8 @@
 //! The plain program over the histories of the rows that stand, which the engine writes over the simulated
 //! cloud: no command, one resource at each step to its end, and a second create of its name.
-use headline_reader::{Living, could, fits, mark_of, newest, stored};
 use book::{Book, Opened, StackCommand, Turn};
 use core_state::{Entry, What};
+use headline_reader::{Living, could, fits, mark_of, newest, stored};
 use heat_plan::{Parameters, Plan, StackName, Status, Token};
 use heat_value::{Seq, Text};
 use hot_registry::Registry;

@@ -1,15 +1,14 @@
 //! The plain program over the history of a resource whose properties hold a function: it fits each plan
 //! whose item resolves to what was made, however that is written.
-ghost use Rattle.std.specs.Prelude.{◌≡◌, [], IfOk};
-
-use headline_reader::fits;
 use crate::fits::{empty_cloud, turn};
+use crate::plans::{item_of, plan_of, properties_of};
 use book::{Book, Opened, StackCommand};
-use heat_plan::{Item, Kind, Needs, Parameters, Plan, Policy, Properties, ResName, StackName};
-use heat_value::{Seq, Text, TryCopy, Value};
+use headline_reader::fits;
+use heat_plan::{Plan, StackName};
+use heat_value::{Seq, TryCopy};
 use hot_registry::Registry;
 use sim_cloud::SimCloud;
-use std::alloc::{AllocError, Global};
+use std::alloc::Global;
 use std::test::Fail;
 
 // Properties with a function, with what it comes to, with another, and with one that is a fault.
@@ -21,46 +20,10 @@ const UNLIKE: &str = "{\"size\":{\"list_join\":[\"\",[\"a\",\"b\"]]}}";
 
 const FAULTY: &str = "{\"size\":{\"list_join\":[]}}";
 
-fn props_of(alloc: Global, text: &str) -> Result<Properties, Fail> {
-    match Value::read(alloc, text.as_bytes()) {
-        Ok(Value::Fields(props)) => Ok(Properties::from_props(props).ok_or("shallow")?),
-        _ => Ok(Properties::new(alloc)),
-    }
-}
-
-// An item that needs nothing.
-fn item(alloc: Global, props: &str) -> Result<Item, Fail>
-    ensures { IfOk result (λ i. i.needs ≡ []) }
-{
-    let name = ResName::read(alloc, b"a")?.ok_or("a name")?;
-    let kind = Kind {
-        name: Text::from_str(alloc, "Test::Box")?,
-        attrs: Seq::new(alloc),
-        soft: Seq::new(alloc),
-    };
-    Ok(Item {
-        name,
-        kind,
-        props: props_of(alloc, props)?,
-        needs: Needs::new(alloc),
-        policy: Policy::Delete,
-    })
-}
-
-// The plan of one item.
-fn plan_of(alloc: Global, item: Item) -> Result<Plan, AllocError>
-    requires { item.needs ≡ [] }
-{
-    let mut items = Seq::new(alloc);
-    items.push(item)?;
-    Ok(Plan::new(
-        items,
-        Seq::new(alloc),
-        Parameters::new(alloc),
-        Seq::new(alloc),
-        Seq::new(alloc),
-        Seq::new(alloc),
-    ))
+// The plan of an item with these properties.
+fn plan(alloc: Global, props: &str) -> Result<Plan, Fail> {
+    let props = properties_of(alloc, props)?;
+    Ok(plan_of(alloc, item_of(alloc, Seq::new(alloc), props)?)?)
 }
 
 // Creates the stack and makes it.
@@ -103,8 +66,8 @@ fn what_a_function_comes_to_fits(rt: HostRuntime) -> Result<(), Fail> {
         ("a fault", FAULTY, false),
     ];
     for &(case, props, is) in &cases {
-        let made = plan_of(alloc, item(alloc, JOINED)?)?;
-        let asked = plan_of(alloc, item(alloc, props)?)?;
+        let made = plan(alloc, JOINED)?;
+        let asked = plan(alloc, props)?;
         let seen = fits_made(alloc, made, &asked, &name)?;
         assert_eq!(rt; seen, Some(is), "{}", case);
     }

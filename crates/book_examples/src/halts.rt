@@ -1,7 +1,7 @@
 //! What a halted book answers.
 
+use crate::plans::command;
 use crate::takeovers::{opened, turn};
-use crate::books::command;
 use book::{Book, Halt, StackCommand, Turn};
 use heat_plan::Refusal;
 use provider::Provider;

@@ -1,59 +1,33 @@
 //! An update over a registry with a judge: the plan's own properties that change in place decide, whether the
 //! judge of the kind has the same or others.
-ghost use Rattle.std.specs.Prelude.{◌≡◌, [], IfOk};
 ghost use Rattle.type_catalog.specs.Changes.{ChangeOf};
 
+use crate::plans::{KIND, item_of, plan_of, properties_of};
+use crate::seen::{Case, cloud, seen_over};
 use book::StackCommand;
-use crate::books::{Case, KIND, cloud, plan_of, seen_over};
-use heat_plan::{Item, Kind, Needs, Plan, Policy, Properties, ResName, StackName};
-use heat_value::{Seq, Text, Value};
+use heat_plan::{Plan, Properties, StackName};
+use heat_value::{Seq, Text};
 use hot_registry::{Change, Judge, KindDef, PropDef, Registry};
 use std::alloc::{AllocError, Global};
 use std::test::Fail;
 use type_catalog::{Effect, change_of};
 
-// An item of this size, for which this property changes in place.
-fn item(alloc: Global, soft: &str, size: &[u8]) -> Result<Item, Fail>
-    ensures { IfOk result (λ i. i.needs ≡ []) }
-{
-    let name = ResName::read(alloc, b"a")?.ok_or("a name")?;
-    let props = properties(alloc, size)?;
+// The plan of an item of this size, for which this property changes in place.
+fn plan(alloc: Global, soft: &str, size: &str) -> Result<Plan, Fail> {
+    let props = properties_of(alloc, size)?;
     let mut softs = Seq::new(alloc);
     softs.push(Text::from_str(alloc, soft)?)?;
-    Ok(Item {
-        name,
-        kind: Kind {
-            name: Text::from_str(alloc, KIND)?,
-            attrs: Seq::new(alloc),
-            soft: softs,
-        },
-        props,
-        needs: Needs::new(alloc),
-        policy: Policy::Delete,
-    })
-}
-
-// The properties of a text.
-fn properties(alloc: Global, text: &[u8]) -> Result<Properties, Fail> {
-    match Value::read(alloc, text) {
-        Ok(Value::Fields(props)) => Ok(Properties::from_props(props).ok_or("no properties")?),
-        _ => Err(Fail::from("no map")),
-    }
-}
-
-// The plan of that item.
-fn plan(alloc: Global, soft: &str, size: &[u8]) -> Result<Plan, Fail> {
-    Ok(plan_of(alloc, item(alloc, soft, size)?)?)
+    Ok(plan_of(alloc, item_of(alloc, softs, props)?)?)
 }
 
 // A create of a resource, and its update to another size.
 fn commands(alloc: Global, soft: &str) -> Result<Vec<StackCommand>, Fail> {
     let mut all = Vec::new(alloc);
     let name = StackName::read(alloc, b"s")?.ok_or("a name")?;
-    let first = plan(alloc, soft, b"{\"size\":1}")?;
+    let first = plan(alloc, soft, "{\"size\":1}")?;
     all.push(StackCommand::Create(name, first, false))?;
     let name = StackName::read(alloc, b"s")?.ok_or("a name")?;
-    let second = plan(alloc, soft, b"{\"size\":2}")?;
+    let second = plan(alloc, soft, "{\"size\":2}")?;
     all.push(StackCommand::Update(name, second, false))?;
     Ok(all)
 }

@@ -1,4 +1,6 @@
-//! Tests alone.
+//! Books over scripted and simulated clouds: each answer of the cloud, looks that others overtake, take-overs,
+//! halts, and what the plain program reads of their histories. There are tests alone here, of `book` and
+//! `headline_reader`; nothing stands on this crate.
 #![tactic(auto)]
 
 #[cfg(test)]
@@ -13,5 +15,9 @@ mod function_fits;
 mod halts;
 #[cfg(test)]
 mod judges;
+#[cfg(test)]
+mod plans;
+#[cfg(test)]
+mod seen;
 #[cfg(test)]
 mod takeovers;

@@ -1,7 +1,8 @@
 //! What becomes of a stopped engine's job.
 ghost use Rattle.std.specs.Prelude.{◌↔◌, ◌<◌, IsTrue};
 
-use crate::books::{cloud, command};
+use crate::plans::command;
+use crate::seen::cloud;
 use book::{Book, Opened, StackCommand, Turn};
 use heat_plan::EngineNo;
 use hot_registry::Registry;

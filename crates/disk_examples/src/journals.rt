@@ -1,8 +1,8 @@
 //! A failure at each disk call of openings, appends and snapshots, what a crash then leaves, what an
 //! opening finds of it, and what a crash inside that opening leaves.
-use row_journal::{Imaged, Journal, Recovered};
+use crate::steps::{adds, snaps, text_of};
 use heat_disk::{Disk, Fuse, MemDisk};
-use journal_form::Payload;
+use row_journal::{Imaged, Journal, Recovered};
 use std::alloc::{AllocError, Global};
 use std::process::Abort;
 use std::test::Fail;
@@ -11,34 +11,6 @@ const ONE: &[u8] = b"HEATJ001\x01\0\0\0\0\0\0\0\x03abc\0";
 
 // First ends at a gate that a crash left torn, with the whole record `abc` behind it.
 const TORN: &[u8] = b"HEATJ002\x07\0\0\0\0\0\0\0\x03\0\0\0\0\0\0\0\x01abc\0";
-
-// The payloads, each with a stop behind it.
-pub(crate) fn text_of(alloc: Global, payloads: &[Payload]) -> Result<Vec<u8>, AllocError> {
-    let mut text = Vec::new(alloc);
-    for payload in payloads {
-        text.extend_from_slice(payload.as_slice())?;
-        text.push(b'.')?;
-    }
-    Ok(text)
-}
-
-// Adds a record, and says whether the disk took it.
-pub(crate) fn adds<D: Disk>(journal: &mut Journal<D>, bytes: &[u8]) -> Result<bool, AllocError> {
-    if journal.has_failed() || journal.version() != 2 {
-        return Ok(false);
-    }
-    journal.reserve(bytes.len())?;
-    Ok(journal.append(bytes).is_ok())
-}
-
-// Makes a snapshot, and says whether the disk took it.
-pub(crate) fn snaps<D: Disk>(journal: &mut Journal<D>, bytes: &[u8]) -> Result<bool, AllocError> {
-    if journal.has_failed() || !journal.can_snapshot() {
-        return Ok(false);
-    }
-    journal.reserve_snapshot(bytes.len())?;
-    Ok(journal.snapshot(bytes).is_ok())
-}
 
 // Makes one step: `+b` adds the record `b`, `*s` makes the snapshot `s`.
 fn makes<D: Disk>(journal: &mut Journal<D>, step: &[u8]) -> Result<bool, AllocError> {

@@ -1,4 +1,5 @@
-//! Tests alone.
+//! Disks and journals: what crashes leave of worked bytes, what each failing call leaves, and real files.
+//! There are tests alone here, of `heat_disk` and `row_journal`; nothing stands on this crate.
 #![tactic(auto)]
 
 #[cfg(test)]
@@ -6,4 +7,6 @@ mod disks;
 #[cfg(test)]
 mod journals;
 #[cfg(test)]
-mod worked;
+mod steps;
+#[cfg(test)]
+mod worked_bytes;

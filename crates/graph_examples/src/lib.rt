@@ -1,4 +1,5 @@
-//! Tests alone.
+//! Small graphs and graphs of traversals, drawn by hand, with their orders, cycles, edges and leaves. There
+//! are tests alone here, of `dep_graph` and `traversal_graph`; nothing stands on this crate.
 #![tactic(auto)]
 
 #[cfg(test)]

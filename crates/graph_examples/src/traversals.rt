@@ -1,11 +1,11 @@
 //! Graphs that were drawn by hand, the left-out edge of a cyclic clean-up among them. Names are
 //! single letters.
 
-use traversal_graph::{Node, RowBrief, TravGraph, build};
 use heat_plan::{Item, Kind, Needs, Policy, Properties, ResName, RowNo, are_in_order, is_rising};
 use heat_value::{Equals, Seq, Text, TryCopy};
 use std::process::Abort;
 use std::test::Fail;
+use traversal_graph::{Node, RowBrief, TravGraph, build};
 
 // What a graph is drawn from, and what it is to be. Needs are pairs of an item and its need,
 // required and replaced rows pairs of a row and the other.

@@ -1,148 +1,94 @@
 //! What is told of a stack's outputs: values, faults with their places, and whose facts they read.
-use report::Reporter;
-use core_state::{Actor, Entry, Row, RowWrite, ShowWhat, State, What};
-use heat_plan::{
-    Act, Expression, Facts, Kind, Output, Parameters, Plan, Policy, Properties, ResName, RowNo,
-    StackName, Status, TravNo,
-};
+use crate::parts::{begins, completes, row, row_no, sets, stack, text};
+use core_state::{Actor, Entry, Row, ShowWhat, State, What};
+use heat_plan::{Act, Expression, Facts, Output, Parameters, Plan, Properties, Status};
 use heat_value::{Seq, Text, Value};
-use std::alloc::{AllocError, Global};
-use std::test::Fail;
+use report::Reporter;
+use std::process::Abort;
 
 // JSON in single quotes, read.
-fn value_of(alloc: Global, text: &str) -> Result<Value, Fail> {
-    let text = text.replace(alloc, "'", "\"")?;
-    Ok(Value::read(alloc, text.as_bytes()).ok().ok_or("JSON")?)
+fn value_of(rt: &(impl Abort + AllocGlobal), text: &str) -> Value {
+    let text = text.replace(rt.alloc(), "'", "\"").expect(rt, "memory");
+    Value::read(rt.alloc(), text.as_bytes()).expect(rt, "JSON")
 }
 
-fn stack(alloc: Global) -> Result<StackName, Fail> {
-    Ok(StackName::read(alloc, b"s")?.ok_or("a name")?)
-}
-
-fn number(no: u64) -> Result<RowNo, Fail> {
-    Ok(RowNo::new(no).ok_or("a number")?)
-}
-
-fn trav() -> Result<TravNo, Fail> {
-    Ok(TravNo::new(1).ok_or("a number")?)
-}
-
-// Each output's name, and its value in single quotes.
-fn outputs_of(alloc: Global, outputs: &[(&str, &str)]) -> Result<Seq<Output>, Fail> {
-    let mut all = Seq::new(alloc);
-    for (name, value) in outputs {
-        let value = Expression::from_value(value_of(alloc, value)?).ok_or("shallow")?;
-        let name = Text::from_str(alloc, name)?;
-        all.push(Output { name, value })?;
+fn output(rt: &(impl Abort + AllocGlobal), name: &str, value: &str) -> Output {
+    let value = Expression::from_value(value_of(rt, value)).expect(rt, "shallow");
+    Output {
+        name: text(rt, name),
+        value,
     }
-    Ok(all)
 }
 
 // A plan of these outputs alone.
-fn plan_of(alloc: Global, outputs: &[(&str, &str)]) -> Result<Plan, Fail> {
-    let outputs = outputs_of(alloc, outputs)?;
-    Ok(Plan::new(
-        Seq::new(alloc),
-        outputs,
-        Parameters::new(alloc),
-        Seq::new(alloc),
-        Seq::new(alloc),
-        Seq::new(alloc),
-    ))
+fn plan_of(rt: &(impl Abort + AllocGlobal), outputs: &[(&str, &str)]) -> Plan {
+    let mut all = Seq::new(rt.alloc());
+    for (name, value) in outputs {
+        all.push(output(rt, name, value)).expect(rt, "memory");
+    }
+    Plan::new(
+        Seq::new(rt.alloc()),
+        all,
+        Parameters::new(rt.alloc()),
+        Seq::new(rt.alloc()),
+        Seq::new(rt.alloc()),
+        Seq::new(rt.alloc()),
+    )
 }
 
-// The traversal 1 of `s` begins.
-fn begins(alloc: Global, act: Act, plan: Option<Plan>) -> Result<What, Fail> {
-    Ok(What::Command {
-        stack: stack(alloc)?,
-        trav: trav()?,
-        act,
-        plan,
-        rollback: false,
-    })
-}
-
-fn completes(alloc: Global) -> Result<What, Fail> {
-    Ok(What::Mark {
-        stack: stack(alloc)?,
-        trav: trav()?,
-        act: Act::Create,
-        cause: None,
-    })
-}
-
-// The facts of an id, with an address of the same text.
-fn facts_of(alloc: Global, id: &str) -> Result<Facts, Fail> {
-    let attrs = format!(in alloc; "{{'addr':'{}'}}", id)?;
-    match value_of(alloc, attrs.as_str())? {
-        Value::Fields(attrs) => Ok(Facts {
-            id: Text::from_str(alloc, id)?,
-            attrs: Properties::from_props(attrs).ok_or("shallow")?,
-        }),
-        _ => Err(Fail::from("an object")),
+// A map with an address of this text.
+fn address(rt: &(impl Abort + AllocGlobal), id: &str) -> Properties {
+    let attrs = format!(in rt.alloc(); "{{'addr':'{}'}}", id).expect(rt, "memory");
+    match value_of(rt, attrs.as_str()) {
+        Value::Fields(attrs) => Properties::from_props(attrs).expect(rt, "shallow"),
+        _ => Properties::new(rt.alloc()),
     }
 }
 
-fn kind(alloc: Global) -> Result<Kind, AllocError> {
-    Ok(Kind {
-        name: Text::from_str(alloc, "Test::Box")?,
-        attrs: Seq::new(alloc),
-        soft: Seq::new(alloc),
-    })
+// A row of `s` that is ready, and its id.
+fn ready(rt: &(impl Abort + AllocGlobal), no: u64, name: &str, act: Act, id: &str) -> Row {
+    let mut ready = row(rt, no, name, act, Status::Complete);
+    ready.facts = Some(Facts {
+        id: text(rt, id),
+        attrs: address(rt, id),
+    });
+    ready
 }
 
-// A row of `s` that is ready.
-fn row_of(alloc: Global, no: u64, name: &[u8], act: Act, id: &str) -> Result<Row, Fail> {
-    Ok(Row {
-        no: number(no)?,
-        stack: stack(alloc)?,
-        name: ResName::read(alloc, name)?.ok_or("a name")?,
-        kind: kind(alloc)?,
-        act,
-        status: Status::Complete,
-        trav: trav()?,
-        props: Properties::new(alloc),
-        target: None,
-        facts: Some(facts_of(alloc, id)?),
-        requires_: Seq::new(alloc),
-        replaces: None,
-        replaced_by: None,
-        engine: None,
-        key: 0,
-        policy: Policy::Delete,
-    })
+fn reporter(rt: &(impl Abort + AllocGlobal)) -> Reporter {
+    Reporter::new(rt.alloc(), &State::new(rt.alloc())).expect(rt, "memory")
+}
+
+// What one entry more tells.
+fn add(rt: &(impl Abort + AllocGlobal), reporter: &mut Reporter, what: What) -> Text {
+    let mut entries = Vec::new(rt.alloc());
+    let by = Actor::Main;
+    entries.push(Entry { by, what }).expect(rt, "memory");
+    reporter.add(&entries).expect(rt, "memory")
+}
+
+// A traversal of `s` begins with a plan of these outputs.
+fn begin(rt: &(impl Abort + AllocGlobal), told: &mut Reporter, act: Act, outputs: &[(&str, &str)]) {
+    let plan = plan_of(rt, outputs);
+    add(rt, told, begins(rt, act, Some(plan)));
+}
+
+// What is told of the outputs of `s`.
+fn outputs(rt: &(impl Abort + AllocGlobal), told: &mut Reporter) -> Text {
+    let what = ShowWhat::Outputs;
+    let stack = stack(rt);
+    add(rt, told, What::Show { what, stack })
 }
 
 // Row 1 of `a` is replaced by row 3, and row 2 of `b` is to go.
-fn rows(alloc: Global) -> Result<What, Fail> {
-    let mut old = row_of(alloc, 1, b"a", Act::Update, "old")?;
-    old.replaced_by = Some(number(3)?);
-    let mut new = row_of(alloc, 3, b"a", Act::Create, "new")?;
-    new.replaces = Some(number(1)?);
-    let gone = row_of(alloc, 2, b"b", Act::Delete, "gone")?;
-    let mut writes = Seq::new(alloc);
-    for row in [old, gone, new] {
-        writes.push(RowWrite::Set(row))?;
-    }
-    Ok(What::Rows { writes })
-}
-
-fn add(alloc: Global, reporter: &mut Reporter, what: What) -> Result<Text, AllocError> {
-    let mut entries = Vec::new(alloc);
-    let by = Actor::Main;
-    entries.push(Entry { by, what })?;
-    reporter.add(&entries)
-}
-
-// What is told of the outputs of `s` once these entries were told.
-fn told<const N: usize>(alloc: Global, before: [What; N]) -> Result<Text, Fail> {
-    let mut reporter = Reporter::new(alloc, &State::new(alloc))?;
-    for what in before {
-        let _ = add(alloc, &mut reporter, what)?;
-    }
-    let what = ShowWhat::Outputs;
-    let stack = stack(alloc)?;
-    Ok(add(alloc, &mut reporter, What::Show { what, stack })?)
+fn add_rows(rt: &(impl Abort + AllocGlobal), told: &mut Reporter) {
+    let mut old = ready(rt, 1, "a", Act::Update, "old");
+    old.replaced_by = Some(row_no(rt, 3));
+    add(rt, told, sets(rt, old));
+    add(rt, told, sets(rt, ready(rt, 2, "b", Act::Delete, "gone")));
+    let mut new = ready(rt, 3, "a", Act::Create, "new");
+    new.replaces = Some(row_no(rt, 1));
+    add(rt, told, sets(rt, new));
 }
 
 const OUTPUTS: [(&str, &str); 6] = [
@@ -166,37 +112,29 @@ output z \"new\"
 ";
 
 #[test]
-fn outputs_are_told_by_name(rt: HostRuntime) -> Result<(), Fail> {
-    let alloc = rt.alloc();
-    let plan = plan_of(alloc, &OUTPUTS)?;
-    let begun = begins(alloc, Act::Create, Some(plan))?;
-    let found = told(alloc, [begun, rows(alloc)?, completes(alloc)?])?;
-    assert_eq!(rt; found.as_str(), TOLD);
-    Ok(())
+fn outputs_are_told_by_name(rt: HostRuntime) {
+    let mut told = reporter(&rt);
+    begin(&rt, &mut told, Act::Create, &OUTPUTS);
+    add_rows(&rt, &mut told);
+    add(&rt, &mut told, completes(&rt, 1, Act::Create));
+    assert_eq!(rt; outputs(&rt, &mut told).as_str(), TOLD);
 }
 
 #[test]
-fn outputs_are_those_of_the_last_command(rt: HostRuntime) -> Result<(), Fail> {
-    let alloc = rt.alloc();
-    let first = plan_of(alloc, &[("first", "1")])?;
-    let first = begins(alloc, Act::Create, Some(first))?;
-    let second = plan_of(alloc, &[("second", "2")])?;
-    let second = begins(alloc, Act::Update, Some(second))?;
-    let found = told(alloc, [first, second])?;
-    assert_eq!(rt; found.as_str(), "output second 2\n");
-    Ok(())
+fn outputs_are_those_of_the_last_command(rt: HostRuntime) {
+    let mut told = reporter(&rt);
+    begin(&rt, &mut told, Act::Create, &[("first", "1")]);
+    begin(&rt, &mut told, Act::Update, &[("second", "2")]);
+    assert_eq!(rt; outputs(&rt, &mut told).as_str(), "output second 2\n");
 }
 
 #[test]
-fn a_stack_without_outputs_tells_none(rt: HostRuntime) -> Result<(), Fail> {
-    let alloc = rt.alloc();
-    assert_eq!(rt; told(alloc, [])?.as_str(), "", "no stack");
-    let first = plan_of(alloc, &[("first", "1")])?;
-    let first = begins(alloc, Act::Create, Some(first))?;
-    let deleted = begins(alloc, Act::Delete, None)?;
-    assert_eq!(rt; told(alloc, [first, deleted])?.as_str(), "", "no plan");
-    let bare = plan_of(alloc, &[])?;
-    let bare = begins(alloc, Act::Create, Some(bare))?;
-    assert_eq!(rt; told(alloc, [bare])?.as_str(), "", "no output");
-    Ok(())
+fn a_stack_without_outputs_tells_none(rt: HostRuntime) {
+    let mut told = reporter(&rt);
+    assert_eq!(rt; outputs(&rt, &mut told).as_str(), "", "no stack");
+    begin(&rt, &mut told, Act::Create, &[("first", "1")]);
+    add(&rt, &mut told, begins(&rt, Act::Delete, None));
+    assert_eq!(rt; outputs(&rt, &mut told).as_str(), "", "no plan");
+    begin(&rt, &mut told, Act::Create, &[]);
+    assert_eq!(rt; outputs(&rt, &mut told).as_str(), "", "no output");
 }

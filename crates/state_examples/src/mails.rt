@@ -1,146 +1,149 @@
-//! What no clause says: that both forms give equal answers to one list of calls, where there is memory.
+//! Forty calls of the mail: both forms of it give equal answers to them.
+use crate::parts::{engine_no, letter_no, row_no, stack_name, trav_no};
+use heat_plan::WORN;
+use heat_value::Seq;
 use indexed_mail::{ListMails, MailAnswer, MailOp, MailTable, run_mails};
-use heat_plan::{EngineNo, LetterNo, RowNo, StackName, TravNo, WORN};
 use mail_table::{Job, Letter, Stage};
 use std::alloc::Global;
 use std::test::Fail;
 
-fn engine(no: u64) -> Result<EngineNo, Fail> {
-    Ok(EngineNo::new(no).ok_or("a number")?)
+// A call, with numbers of letters and engines, and with stacks by their letters. A job is of an engine, at a
+// row of a stack; who holds a row is asked of the row and its stack.
+#[derive(Clone, Copy)]
+enum Call {
+    Send(u8),
+    Insert(u64, u8),
+    Remove(u64),
+    TakeFirst,
+    Letters,
+    NextNo,
+    SetNext(u64),
+    Reserve(usize, usize),
+    Hold(u64, u64, u8),
+    Holder(u64, u8),
+    JobOf(u64),
+    End(u64),
+    Jobs,
 }
 
-fn row(no: u64) -> Result<RowNo, Fail> {
-    Ok(RowNo::new(no).ok_or("a number")?)
-}
+const CALLS: [Call; 40] = [
+    // Letters come, not in order, and the first ones are taken; numbers wear out.
+    Call::TakeFirst,
+    Call::NextNo,
+    Call::Reserve(3, 2),
+    Call::SetNext(5),
+    Call::Send(b's'),
+    Call::Insert(3, b't'),
+    Call::Insert(4, b't'),
+    Call::Insert(3, b's'),
+    Call::NextNo,
+    Call::Letters,
+    Call::TakeFirst,
+    Call::Letters,
+    Call::Remove(4),
+    Call::Remove(4),
+    Call::TakeFirst,
+    Call::TakeFirst,
+    Call::SetNext(0),
+    Call::SetNext(WORN),
+    Call::Send(b's'),
+    Call::NextNo,
+    // Engines get jobs, two of them at one row, and other ones; a row of the number is another stack's.
+    Call::Hold(7, 1, b's'),
+    Call::Hold(4, 1, b's'),
+    Call::Hold(2, 1, b't'),
+    Call::Holder(1, b's'),
+    Call::Holder(1, b't'),
+    Call::Holder(2, b's'),
+    Call::JobOf(4),
+    Call::Hold(4, 2, b's'),
+    Call::Holder(1, b's'),
+    Call::Holder(2, b's'),
+    Call::JobOf(7),
+    Call::End(7),
+    Call::JobOf(7),
+    Call::Holder(1, b's'),
+    Call::End(9),
+    Call::End(2),
+    Call::Holder(1, b't'),
+    Call::Jobs,
+    Call::Hold(2, 1, b's'),
+    Call::Holder(1, b's'),
+];
 
-fn stack(rt: &impl AllocGlobal, letter: u8) -> Result<StackName, Fail> {
-    Ok(StackName::read(rt.alloc(), &[letter])?.ok_or("a name")?)
-}
-
-fn trav() -> Result<TravNo, Fail> {
-    Ok(TravNo::new(1).ok_or("a number")?)
-}
-
-fn letter(rt: &impl AllocGlobal, no: u64, of: u8) -> Result<Letter, Fail> {
+fn letter(alloc: Global, no: u64, of: u8) -> Result<Letter, Fail> {
+    let no = letter_no(no)?;
+    let trav = trav_no(1)?;
+    let stack = stack_name(alloc, of)?;
     Ok(Letter {
-        no: LetterNo::new(no).ok_or("a number")?,
-        stack: stack(rt, of)?,
-        trav: trav()?,
+        no,
+        stack,
+        trav,
         node: 3,
     })
 }
 
-fn send(rt: &impl AllocGlobal, ops: &mut Vec<MailOp>, of: u8) -> Result<(), Fail> {
-    ops.push(MailOp::Send(stack(rt, of)?, trav()?, 2))?;
-    Ok(())
-}
-
-fn insert(rt: &impl AllocGlobal, ops: &mut Vec<MailOp>, no: u64, of: u8) -> Result<(), Fail> {
-    ops.push(MailOp::Insert(letter(rt, no, of)?))?;
-    Ok(())
-}
-
-fn remove(ops: &mut Vec<MailOp>, no: u64) -> Result<(), Fail> {
-    let no = LetterNo::new(no).ok_or("a number")?;
-    ops.push(MailOp::Remove(no))?;
-    Ok(())
-}
-
-// An engine has a job at a row of a stack.
-fn hold(
-    rt: &impl AllocGlobal,
-    ops: &mut Vec<MailOp>,
-    by: u64,
-    at: u64,
-    of: u8,
-) -> Result<(), Fail> {
-    ops.push(MailOp::Hold(Job {
-        engine: engine(by)?,
-        letter: letter(rt, 9, of)?,
-        row: row(at)?,
+fn job(alloc: Global, by: u64, at: u64, of: u8) -> Result<Job, Fail> {
+    let engine = engine_no(by)?;
+    let row = row_no(at)?;
+    let letter = letter(alloc, 9, of)?;
+    Ok(Job {
+        engine,
+        letter,
+        row,
         stage: Stage::Taken,
-    }))?;
-    Ok(())
+    })
 }
 
-fn holder(rt: &impl AllocGlobal, ops: &mut Vec<MailOp>, at: u64, of: u8) -> Result<(), Fail> {
-    ops.push(MailOp::Holder(stack(rt, of)?, row(at)?))?;
-    Ok(())
-}
-
-// What is asked of one engine in turn: its job, and to end it.
-fn each(ops: &mut Vec<MailOp>, calls: &[u8], by: u64) -> Result<(), Fail> {
-    let engine = engine(by)?;
-    for call in calls {
-        ops.push(match *call {
-            b'j' => MailOp::JobOf(engine),
-            _ => MailOp::End(engine),
-        })?;
+// The call of jobs.
+fn op_of_jobs(alloc: Global, call: Call) -> Result<MailOp, Fail> {
+    match call {
+        Call::Hold(by, at, of) => Ok(MailOp::Hold(job(alloc, by, at, of)?)),
+        Call::Holder(at, of) => {
+            let row = row_no(at)?;
+            Ok(MailOp::Holder(stack_name(alloc, of)?, row))
+        }
+        Call::JobOf(by) => Ok(MailOp::JobOf(engine_no(by)?)),
+        Call::End(by) => Ok(MailOp::End(engine_no(by)?)),
+        _ => Ok(MailOp::Jobs),
     }
-    Ok(())
 }
 
-// What is asked of the letters: all of them, the first, the next number.
-fn letters(ops: &mut Vec<MailOp>, calls: &[u8]) -> Result<(), Fail> {
-    for call in calls {
-        ops.push(match *call {
-            b'l' => MailOp::Letters,
-            b'f' => MailOp::TakeFirst,
-            b'j' => MailOp::Jobs,
-            _ => MailOp::NextNo,
-        })?;
+fn op_of(alloc: Global, call: Call) -> Result<MailOp, Fail> {
+    match call {
+        Call::Send(of) => {
+            let trav = trav_no(1)?;
+            Ok(MailOp::Send(stack_name(alloc, of)?, trav, 2))
+        }
+        Call::Insert(no, of) => Ok(MailOp::Insert(letter(alloc, no, of)?)),
+        Call::Remove(no) => Ok(MailOp::Remove(letter_no(no)?)),
+        Call::TakeFirst => Ok(MailOp::TakeFirst),
+        Call::Letters => Ok(MailOp::Letters),
+        Call::NextNo => Ok(MailOp::NextNo),
+        Call::SetNext(no) => Ok(MailOp::SetNext(no)),
+        Call::Reserve(letters, jobs) => Ok(MailOp::Reserve(letters, jobs)),
+        call => op_of_jobs(alloc, call),
     }
-    Ok(())
 }
 
-// Letters come, not in order, and the first ones are taken; numbers wear out.
-fn letters_go(rt: &impl AllocGlobal, ops: &mut Vec<MailOp>) -> Result<(), Fail> {
-    letters(ops, b"fn")?;
-    ops.push(MailOp::Reserve(3, 2))?;
-    ops.push(MailOp::SetNext(5))?;
-    send(rt, ops, b's')?;
-    insert(rt, ops, 3, b't')?;
-    insert(rt, ops, 4, b't')?;
-    insert(rt, ops, 3, b's')?;
-    letters(ops, b"nlfl")?;
-    remove(ops, 4)?;
-    remove(ops, 4)?;
-    letters(ops, b"ff")?;
-    ops.push(MailOp::SetNext(0))?;
-    ops.push(MailOp::SetNext(WORN))?;
-    send(rt, ops, b's')?;
-    letters(ops, b"n")?;
-    Ok(())
-}
-
-// Engines get jobs, two of them at one row, and other ones; a row of the number is another stack's.
-fn jobs_go(rt: &impl AllocGlobal, ops: &mut Vec<MailOp>) -> Result<(), Fail> {
-    hold(rt, ops, 7, 1, b's')?;
-    hold(rt, ops, 4, 1, b's')?;
-    hold(rt, ops, 2, 1, b't')?;
-    holder(rt, ops, 1, b's')?;
-    holder(rt, ops, 1, b't')?;
-    holder(rt, ops, 2, b's')?;
-    each(ops, b"j", 4)?;
-    hold(rt, ops, 4, 2, b's')?;
-    holder(rt, ops, 1, b's')?;
-    holder(rt, ops, 2, b's')?;
-    each(ops, b"jej", 7)?;
-    holder(rt, ops, 1, b's')?;
-    each(ops, b"e", 9)?;
-    each(ops, b"e", 2)?;
-    holder(rt, ops, 1, b't')?;
-    letters(ops, b"j")?;
-    hold(rt, ops, 2, 1, b's')?;
-    holder(rt, ops, 1, b's')?;
-    Ok(())
-}
-
-fn forty(rt: &impl AllocGlobal) -> Result<Vec<MailOp>, Fail> {
-    let mut ops = Vec::new(rt.alloc());
-    letters_go(rt, &mut ops)?;
-    jobs_go(rt, &mut ops)?;
+fn ops_of(alloc: Global, calls: &[Call]) -> Result<Vec<MailOp>, Fail> {
+    let mut ops = Vec::new(alloc);
+    for call in calls {
+        ops.push(op_of(alloc, *call)?)?;
+    }
     Ok(ops)
+}
+
+// What the lists of letters and jobs answer.
+fn plain_answers(alloc: Global, ops: &[MailOp]) -> Result<Seq<MailAnswer>, Fail> {
+    let mut list = ListMails::new(alloc);
+    Ok(run_mails(alloc, &mut list, ops)?)
+}
+
+// What the table with its indexes answers.
+fn indexed_answers(alloc: Global, ops: &[MailOp]) -> Result<Seq<MailAnswer>, Fail> {
+    let mut table = MailTable::new(alloc);
+    Ok(run_mails(alloc, &mut table, ops)?)
 }
 
 fn same_letter(a: &Letter, b: &Letter) -> bool {
@@ -242,23 +245,21 @@ fn numbers(alloc: Global, answers: &[MailAnswer]) -> Result<Vec<u64>, Fail> {
     Ok(numbers)
 }
 
+// The numbers that are told, where both forms answer the same; none where they don't.
+fn told(alloc: Global, ops: &[MailOp]) -> Result<Vec<u64>, Fail> {
+    let plain = plain_answers(alloc, ops)?;
+    let indexed = indexed_answers(alloc, ops)?;
+    if !all_same(plain.as_slice(), indexed.as_slice()) {
+        return Ok(Vec::new(alloc));
+    }
+    numbers(alloc, indexed.as_slice())
+}
+
 #[test]
 fn forty_calls_give_equal_answers_in_both_forms(rt: HostRuntime) -> Result<(), Fail> {
-    let ops = forty(&rt)?;
-    let mut list = ListMails::new(rt.alloc());
-    let mut table = MailTable::new(rt.alloc());
-    let plain = run_mails(rt.alloc(), &mut list, &ops)?;
-    let indexed = run_mails(rt.alloc(), &mut table, &ops)?;
-    let numbers = numbers(rt.alloc(), indexed.as_slice())?;
-    assert!(rt; ops.len() == 40, "as many as are meant: {}", ops.len());
-    assert!(rt;
-        all_same(plain.as_slice(), indexed.as_slice()),
-        "equal answers"
-    );
+    let ops = ops_of(rt.alloc(), &CALLS)?;
+    let told = told(rt.alloc(), &ops)?;
     let wanted: [u64; 12] = [0, 3, 5, 0, 4, 2, 0, 7, 4, 0, 0, 2];
-    assert!(rt;
-        numbers.as_slice() == wanted.as_slice(),
-        "letters taken, and holders: {numbers:?}"
-    );
+    assert_eq!(rt; told.as_slice(), wanted.as_slice());
     Ok(())
 }

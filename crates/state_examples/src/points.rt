@@ -1,18 +1,102 @@
-//! What no clause says: that both forms give equal answers to one list of calls, where there is memory.
-use indexed_points::{ListPoints, PointAnswer, PointOp, SyncPoints, run_points};
-use heat_plan::{ResName, RowNo, StackName};
+//! Forty calls of the points of a graph: both forms of them give equal answers to them.
+use crate::parts::{res_name, row_no, stack_name};
 use heat_value::Seq;
+use indexed_points::{ListPoints, PointAnswer, PointOp, SyncPoints, run_points};
 use std::alloc::Global;
 use std::test::Fail;
 use sync_points::Input;
 
-fn input(rt: &impl AllocGlobal, from: u32, row: u64) -> Result<Input, Fail> {
+// A call. An input comes from a node to a node, and has a row; what is set are inputs from these nodes,
+// and whether the node is done.
+#[derive(Clone, Copy)]
+enum Call {
+    Gather(u32, u32, u64),
+    Set(u32, &'static [u32], bool),
+    Inputs(u32),
+    IsDone(u32),
+    Finish(u32),
+}
+
+const CALLS: [Call; 40] = [
+    // Inputs come along edges, some twice, and where no edge is.
+    Call::Inputs(0),
+    Call::IsDone(0),
+    Call::Finish(0),
+    Call::IsDone(0),
+    Call::Inputs(0),
+    Call::Gather(0, 1, 1),
+    Call::Gather(0, 1, 2),
+    Call::Gather(2, 3, 3),
+    Call::Gather(2, 3, 3),
+    Call::Gather(0, 3, 4),
+    Call::Inputs(3),
+    Call::IsDone(3),
+    Call::Gather(1, 3, 5),
+    Call::Gather(4, 4, 6),
+    Call::Gather(0, 4, 7),
+    Call::Gather(1, 5, 8),
+    Call::Inputs(4),
+    Call::Finish(4),
+    Call::Inputs(5),
+    Call::IsDone(5),
+    Call::Finish(5),
+    // A node gets other inputs, more than it has edges, and then fewer.
+    Call::Set(3, &[1, 1, 7], true),
+    Call::Inputs(3),
+    Call::IsDone(3),
+    Call::Gather(1, 3, 1),
+    Call::Gather(2, 3, 1),
+    Call::Gather(2, 3, 1),
+    Call::Set(3, &[], false),
+    Call::Inputs(3),
+    Call::IsDone(3),
+    Call::Gather(2, 3, 1),
+    Call::Gather(1, 3, 2),
+    Call::Inputs(3),
+    Call::Finish(3),
+    Call::IsDone(3),
+    Call::Set(5, &[1], true),
+    Call::IsDone(2),
+    Call::Inputs(2),
+    Call::IsDone(1),
+    Call::Inputs(1),
+];
+
+fn input(alloc: Global, from: u32, row: u64) -> Result<Input, Fail> {
+    let row = row_no(row)?;
+    let name = res_name(alloc, b'a')?;
     Ok(Input {
         from,
-        name: ResName::read(rt.alloc(), b"a")?,
-        row: RowNo::new(row).ok_or("a number")?,
+        name: Some(name),
+        row,
         facts: None,
     })
+}
+
+fn inputs(alloc: Global, froms: &[u32]) -> Result<Seq<Input>, Fail> {
+    let mut inputs = Seq::new(alloc);
+    for from in froms {
+        inputs.push(input(alloc, *from, 9)?)?;
+    }
+    Ok(inputs)
+}
+
+fn op_of(alloc: Global, call: Call) -> Result<PointOp, Fail> {
+    match call {
+        Call::Gather(from, to, row) => Ok(PointOp::Gather(to, from, input(alloc, from, row)?)),
+        Call::Set(node, froms, done) => Ok(PointOp::Set(node, inputs(alloc, froms)?, done)),
+        Call::Inputs(node) => Ok(PointOp::Inputs(node)),
+        Call::IsDone(node) => Ok(PointOp::IsDone(node)),
+        Call::Finish(node) => Ok(PointOp::Finish(node)),
+    }
+}
+
+fn ops_of(alloc: Global, calls: &[Call]) -> Result<Vec<PointOp>, Fail> {
+    let mut ops = Vec::new(alloc);
+    for call in calls {
+        ops.push(op_of(alloc, *call)?)?;
+    }
+    Ok(ops)
 }
 
 // Nodes 1 and 2 are behind 0, 3 behind 1 and 2, and 4 behind 0 and itself.
@@ -25,85 +109,20 @@ fn preds(alloc: Global) -> Result<Vec<Seq<u32>>, Fail> {
     Ok(preds)
 }
 
-fn gather(
-    rt: &impl AllocGlobal,
-    ops: &mut Vec<PointOp>,
-    edge: (u32, u32),
-    row: u64,
-) -> Result<(), Fail> {
-    let input = input(rt, edge.0, row)?;
-    ops.push(PointOp::Gather(edge.1, edge.0, input))?;
-    Ok(())
+// What the list of the points answers.
+fn plain_answers(alloc: Global, ops: &[PointOp]) -> Result<Seq<PointAnswer>, Fail> {
+    let stack = stack_name(alloc, b's')?;
+    let preds = preds(alloc)?;
+    let mut list = ListPoints::new(alloc, &stack, &preds)?;
+    Ok(run_points(alloc, &mut list, ops)?)
 }
 
-fn set(
-    rt: &impl AllocGlobal,
-    ops: &mut Vec<PointOp>,
-    node: u32,
-    froms: &[u32],
-    done: bool,
-) -> Result<(), Fail> {
-    let mut inputs = Seq::new(rt.alloc());
-    for from in froms {
-        inputs.push(input(rt, *from, 9)?)?;
-    }
-    ops.push(PointOp::Set(node, inputs, done))?;
-    Ok(())
-}
-
-// What is asked of one node in turn: its inputs, whether it is done, to be done.
-fn each(ops: &mut Vec<PointOp>, calls: &[u8], node: u32) -> Result<(), Fail> {
-    for call in calls {
-        ops.push(match *call {
-            b'i' => PointOp::Inputs(node),
-            b'd' => PointOp::IsDone(node),
-            _ => PointOp::Finish(node),
-        })?;
-    }
-    Ok(())
-}
-
-// Inputs come along edges, some twice, and where no edge is.
-fn inputs_come(rt: &impl AllocGlobal, ops: &mut Vec<PointOp>) -> Result<(), Fail> {
-    each(ops, b"idFdi", 0)?;
-    gather(rt, ops, (0, 1), 1)?;
-    gather(rt, ops, (0, 1), 2)?;
-    gather(rt, ops, (2, 3), 3)?;
-    gather(rt, ops, (2, 3), 3)?;
-    gather(rt, ops, (0, 3), 4)?;
-    each(ops, b"id", 3)?;
-    gather(rt, ops, (1, 3), 5)?;
-    gather(rt, ops, (4, 4), 6)?;
-    gather(rt, ops, (0, 4), 7)?;
-    gather(rt, ops, (1, 5), 8)?;
-    each(ops, b"iF", 4)?;
-    each(ops, b"idF", 5)?;
-    Ok(())
-}
-
-// A node gets other inputs, more than it has edges, and then fewer.
-fn inputs_change(rt: &impl AllocGlobal, ops: &mut Vec<PointOp>) -> Result<(), Fail> {
-    set(rt, ops, 3, &[1, 1, 7], true)?;
-    each(ops, b"id", 3)?;
-    gather(rt, ops, (1, 3), 1)?;
-    gather(rt, ops, (2, 3), 1)?;
-    gather(rt, ops, (2, 3), 1)?;
-    set(rt, ops, 3, &[], false)?;
-    each(ops, b"id", 3)?;
-    gather(rt, ops, (2, 3), 1)?;
-    gather(rt, ops, (1, 3), 2)?;
-    each(ops, b"iFd", 3)?;
-    set(rt, ops, 5, &[1], true)?;
-    each(ops, b"di", 2)?;
-    each(ops, b"di", 1)?;
-    Ok(())
-}
-
-fn forty(rt: &impl AllocGlobal) -> Result<Vec<PointOp>, Fail> {
-    let mut ops = Vec::new(rt.alloc());
-    inputs_come(rt, &mut ops)?;
-    inputs_change(rt, &mut ops)?;
-    Ok(ops)
+// What the points at their nodes' places answer.
+fn indexed_answers(alloc: Global, ops: &[PointOp]) -> Result<Seq<PointAnswer>, Fail> {
+    let stack = stack_name(alloc, b's')?;
+    let preds = preds(alloc)?;
+    let mut table = SyncPoints::new(alloc, &stack, &preds)?;
+    Ok(run_points(alloc, &mut table, ops)?)
 }
 
 fn same_inputs(a: &[Input], b: &[Input]) -> bool {
@@ -143,7 +162,7 @@ fn all_same(a: &[PointAnswer], b: &[PointAnswer]) -> bool {
 }
 
 // What the gatherings told: 1 where the input is new, and 2 more where the point is full.
-fn told(alloc: Global, answers: &[PointAnswer]) -> Result<Vec<u8>, Fail> {
+fn gathered(alloc: Global, answers: &[PointAnswer]) -> Result<Vec<u8>, Fail> {
     let mut told = Vec::new(alloc);
     for answer in answers {
         if let PointAnswer::Gathered(gathered) = answer {
@@ -153,25 +172,21 @@ fn told(alloc: Global, answers: &[PointAnswer]) -> Result<Vec<u8>, Fail> {
     Ok(told)
 }
 
+// The same, where both forms answer the same; nothing where they don't.
+fn told(alloc: Global, ops: &[PointOp]) -> Result<Vec<u8>, Fail> {
+    let plain = plain_answers(alloc, ops)?;
+    let indexed = indexed_answers(alloc, ops)?;
+    if !all_same(plain.as_slice(), indexed.as_slice()) {
+        return Ok(Vec::new(alloc));
+    }
+    gathered(alloc, indexed.as_slice())
+}
+
 #[test]
 fn forty_calls_give_equal_answers_in_both_forms(rt: HostRuntime) -> Result<(), Fail> {
-    let ops = forty(&rt)?;
-    let preds = preds(rt.alloc())?;
-    let stack = StackName::read(rt.alloc(), b"s")?.ok_or("a name")?;
-    let mut list = ListPoints::new(rt.alloc(), &stack, &preds)?;
-    let mut indexed = SyncPoints::new(rt.alloc(), &stack, &preds)?;
-    let plain = run_points(rt.alloc(), &mut list, &ops)?;
-    let fast = run_points(rt.alloc(), &mut indexed, &ops)?;
-    let told = told(rt.alloc(), fast.as_slice())?;
-    assert!(rt; ops.len() == 40, "as many as are meant: {}", ops.len());
-    assert!(rt;
-        all_same(plain.as_slice(), fast.as_slice()),
-        "equal answers"
-    );
+    let ops = ops_of(rt.alloc(), &CALLS)?;
+    let told = told(rt.alloc(), &ops)?;
     let wanted: [u8; 12] = [3, 2, 1, 0, 3, 1, 3, 0, 3, 2, 1, 3];
-    assert!(rt;
-        told.as_slice() == wanted.as_slice(),
-        "what was told: {told:?}"
-    );
+    assert_eq!(rt; told.as_slice(), wanted.as_slice());
     Ok(())
 }

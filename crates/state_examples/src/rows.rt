@@ -1,59 +1,104 @@
-//! What no clause says: that both forms give equal answers to one list of calls, where there is memory.
-use indexed_rows::{ListRows, RowAnswer, RowOp, RowTable, run_rows};
-use heat_plan::{
-    Act, EngineNo, Kind, Policy, Properties, ResName, RowNo, StackName, Status, TravNo,
-};
+//! Forty calls of a table of rows: both forms of the table give equal answers to them.
+use crate::parts::{engine_no, res_name, row_no, stack_name, trav_no};
+use heat_plan::{Act, Kind, Policy, Properties, RowNo, Status};
 use heat_value::{Seq, Text};
+use indexed_rows::{ListRows, RowAnswer, RowOp, RowTable, run_rows};
 use row_table::Row;
 use std::alloc::Global;
 use std::test::Fail;
 
-fn no(no: u64) -> Result<RowNo, Fail> {
-    Ok(RowNo::new(no).ok_or("a number")?)
+// A call, with numbers of rows, and with stacks and names by their letters. A lock is for the engine of the
+// next number; what is set is the row s/a, which the row of the next number replaces.
+#[derive(Clone, Copy)]
+enum Call {
+    Reserve(usize),
+    Put(u64, u8, u8),
+    Set(u64, Act),
+    Current(u8, u8),
+    OfStack(u8),
+    Get(u64),
+    Lock(u64),
+    Unlock(u64),
+    Head(u64),
+    Purge(u64),
 }
 
-fn engine(no: u64) -> Result<EngineNo, Fail> {
-    Ok(EngineNo::new(no).ok_or("a number")?)
-}
+const CALLS: [Call; 40] = [
+    // Rows come: three, then two more of a name that has one.
+    Call::Reserve(4),
+    Call::Put(1, b's', b'a'),
+    Call::Put(2, b's', b'b'),
+    Call::Put(3, b't', b'a'),
+    Call::Current(b's', b'a'),
+    Call::Current(b's', b'c'),
+    Call::OfStack(b's'),
+    Call::OfStack(b'u'),
+    Call::Put(5, b's', b'a'),
+    Call::Current(b's', b'a'),
+    Call::Put(4, b's', b'a'),
+    Call::Current(b's', b'a'),
+    // The greatest is replaced, and locked then; another's chain ends at it; none of number 9 stands.
+    Call::Lock(5),
+    Call::Get(5),
+    Call::Set(5, Act::Update),
+    Call::Current(b's', b'a'),
+    Call::Lock(5),
+    Call::Set(4, Act::Update),
+    Call::Head(4),
+    Call::Set(9, Act::Update),
+    Call::Get(9),
+    Call::Head(9),
+    Call::Unlock(9),
+    Call::Purge(9),
+    // A row goes to another stack, and others go for good.
+    Call::Put(2, b't', b'a'),
+    Call::OfStack(b's'),
+    Call::OfStack(b't'),
+    Call::Current(b't', b'a'),
+    Call::Current(b's', b'b'),
+    Call::Purge(1),
+    Call::Get(1),
+    Call::Purge(4),
+    Call::OfStack(b's'),
+    Call::Current(b's', b'a'),
+    Call::Set(3, Act::Delete),
+    Call::Current(b's', b'a'),
+    Call::OfStack(b't'),
+    Call::Lock(3),
+    Call::Unlock(3),
+    Call::Get(3),
+];
 
-fn stack(rt: &impl AllocGlobal, letter: u8) -> Result<StackName, Fail> {
-    Ok(StackName::read(rt.alloc(), &[letter])?.ok_or("a name")?)
-}
-
-fn name(rt: &impl AllocGlobal, letter: u8) -> Result<ResName, Fail> {
-    Ok(ResName::read(rt.alloc(), &[letter])?.ok_or("a name")?)
-}
-
-fn kind(rt: &impl AllocGlobal) -> Result<Kind, Fail> {
+fn kind(alloc: Global) -> Result<Kind, Fail> {
     Ok(Kind {
-        name: Text::from_str(rt.alloc(), "Test::Box")?,
-        attrs: Seq::new(rt.alloc()),
-        soft: Seq::new(rt.alloc()),
+        name: Text::from_str(alloc, "Test::Box")?,
+        attrs: Seq::new(alloc),
+        soft: Seq::new(alloc),
     })
 }
 
 // A row of this number, with a stack, a name and an act, and the row behind it.
 fn row(
-    rt: &impl AllocGlobal,
+    alloc: Global,
     number: u64,
     of: (u8, u8),
     act: Act,
     behind: Option<RowNo>,
 ) -> Result<Row, Fail> {
-    let no = no(number)?;
-    let trav = TravNo::new(1).ok_or("a number")?;
+    let no = row_no(number)?;
+    let trav = trav_no(1)?;
     Ok(Row {
         no,
-        stack: stack(rt, of.0)?,
-        name: name(rt, of.1)?,
-        kind: kind(rt)?,
+        stack: stack_name(alloc, of.0)?,
+        name: res_name(alloc, of.1)?,
+        kind: kind(alloc)?,
         act,
         status: Status::InProgress,
         trav,
-        props: Properties::new(rt.alloc()),
+        props: Properties::new(alloc),
         target: None,
         facts: None,
-        requires_: Seq::new(rt.alloc()),
+        requires_: Seq::new(alloc),
         replaces: None,
         replaced_by: behind,
         engine: None,
@@ -62,99 +107,59 @@ fn row(
     })
 }
 
-fn put(rt: &impl AllocGlobal, ops: &mut Vec<RowOp>, number: u64, of: (u8, u8)) -> Result<(), Fail> {
-    let row = row(rt, number, of, Act::Create, None)?;
-    ops.push(RowOp::Put(row))?;
-    Ok(())
-}
-
-// Writes over a row: it is replaced by the one of the next number, or is to go.
-fn set(rt: &impl AllocGlobal, ops: &mut Vec<RowOp>, number: u64, act: Act) -> Result<(), Fail> {
-    let behind = no(number.saturating_add(1))?;
-    let row = row(rt, number, (b's', b'a'), act, Some(behind))?;
-    ops.push(RowOp::Set(row))?;
-    Ok(())
-}
-
-fn current(rt: &impl AllocGlobal, ops: &mut Vec<RowOp>, of: (u8, u8)) -> Result<(), Fail> {
-    ops.push(RowOp::Current(stack(rt, of.0)?, name(rt, of.1)?))?;
-    Ok(())
-}
-
-fn of_stack(rt: &impl AllocGlobal, ops: &mut Vec<RowOp>, letter: u8) -> Result<(), Fail> {
-    ops.push(RowOp::OfStack(stack(rt, letter)?))?;
-    Ok(())
-}
-
-// What is asked of one number in turn: to get it, lock it, unlock it, its chain's end, purge it.
-fn each(ops: &mut Vec<RowOp>, calls: &[u8], number: u64) -> Result<(), Fail> {
-    let no = no(number)?;
-    for call in calls {
-        ops.push(match *call {
-            b'g' => RowOp::Get(no),
-            b'l' => RowOp::Lock(no, engine(number.saturating_add(1))?),
-            b'u' => RowOp::Unlock(no),
-            b'h' => RowOp::Head(no),
-            _ => RowOp::Purge(no),
-        })?;
+// The call of a row's number alone.
+fn op_of_number(call: Call) -> Result<RowOp, Fail> {
+    match call {
+        Call::Get(no) => Ok(RowOp::Get(row_no(no)?)),
+        Call::Lock(no) => Ok(RowOp::Lock(row_no(no)?, engine_no(no.saturating_add(1))?)),
+        Call::Unlock(no) => Ok(RowOp::Unlock(row_no(no)?)),
+        Call::Head(no) => Ok(RowOp::Head(row_no(no)?)),
+        Call::Purge(no) => Ok(RowOp::Purge(row_no(no)?)),
+        _ => Err("no number")?,
     }
-    Ok(())
 }
 
-// Rows come: three, then two more of a name that has one.
-fn rows_come(rt: &impl AllocGlobal, ops: &mut Vec<RowOp>) -> Result<(), Fail> {
-    ops.push(RowOp::Reserve(4))?;
-    put(rt, ops, 1, (b's', b'a'))?;
-    put(rt, ops, 2, (b's', b'b'))?;
-    put(rt, ops, 3, (b't', b'a'))?;
-    current(rt, ops, (b's', b'a'))?;
-    current(rt, ops, (b's', b'c'))?;
-    of_stack(rt, ops, b's')?;
-    of_stack(rt, ops, b'u')?;
-    put(rt, ops, 5, (b's', b'a'))?;
-    current(rt, ops, (b's', b'a'))?;
-    put(rt, ops, 4, (b's', b'a'))?;
-    current(rt, ops, (b's', b'a'))?;
-    Ok(())
+// What is put in the place of the row s/a: it is replaced by the row of the next number.
+fn replaced(alloc: Global, no: u64, act: Act) -> Result<Row, Fail> {
+    let behind = row_no(no.saturating_add(1))?;
+    row(alloc, no, (b's', b'a'), act, Some(behind))
 }
 
-// The greatest is replaced, and locked then; another's chain ends at it; none of number 9 stands.
-fn one_is_replaced(rt: &impl AllocGlobal, ops: &mut Vec<RowOp>) -> Result<(), Fail> {
-    each(ops, b"lg", 5)?;
-    set(rt, ops, 5, Act::Update)?;
-    current(rt, ops, (b's', b'a'))?;
-    each(ops, b"l", 5)?;
-    set(rt, ops, 4, Act::Update)?;
-    each(ops, b"h", 4)?;
-    set(rt, ops, 9, Act::Update)?;
-    each(ops, b"ghuP", 9)?;
-    Ok(())
+fn op_of(alloc: Global, call: Call) -> Result<RowOp, Fail> {
+    match call {
+        Call::Reserve(rows) => Ok(RowOp::Reserve(rows)),
+        Call::Put(no, stack, name) => {
+            let row = row(alloc, no, (stack, name), Act::Create, None)?;
+            Ok(RowOp::Put(row))
+        }
+        Call::Set(no, act) => Ok(RowOp::Set(replaced(alloc, no, act)?)),
+        Call::Current(stack, name) => {
+            let stack = stack_name(alloc, stack)?;
+            Ok(RowOp::Current(stack, res_name(alloc, name)?))
+        }
+        Call::OfStack(stack) => Ok(RowOp::OfStack(stack_name(alloc, stack)?)),
+        call => op_of_number(call),
+    }
 }
 
-// A row goes to another stack, and others go for good.
-fn rows_go(rt: &impl AllocGlobal, ops: &mut Vec<RowOp>) -> Result<(), Fail> {
-    put(rt, ops, 2, (b't', b'a'))?;
-    of_stack(rt, ops, b's')?;
-    of_stack(rt, ops, b't')?;
-    current(rt, ops, (b't', b'a'))?;
-    current(rt, ops, (b's', b'b'))?;
-    each(ops, b"Pg", 1)?;
-    each(ops, b"P", 4)?;
-    of_stack(rt, ops, b's')?;
-    current(rt, ops, (b's', b'a'))?;
-    set(rt, ops, 3, Act::Delete)?;
-    current(rt, ops, (b's', b'a'))?;
-    of_stack(rt, ops, b't')?;
-    each(ops, b"lug", 3)?;
-    Ok(())
-}
-
-fn forty(rt: &impl AllocGlobal) -> Result<Vec<RowOp>, Fail> {
-    let mut ops = Vec::new(rt.alloc());
-    rows_come(rt, &mut ops)?;
-    one_is_replaced(rt, &mut ops)?;
-    rows_go(rt, &mut ops)?;
+fn ops_of(alloc: Global, calls: &[Call]) -> Result<Vec<RowOp>, Fail> {
+    let mut ops = Vec::new(alloc);
+    for call in calls {
+        ops.push(op_of(alloc, *call)?)?;
+    }
     Ok(ops)
+}
+
+// What the list of the rows answers.
+fn plain_answers(alloc: Global, ops: &[RowOp]) -> Result<Seq<RowAnswer>, Fail> {
+    let mut list = ListRows::new(alloc);
+    Ok(run_rows(alloc, &mut list, ops)?)
+}
+
+// What the table with its indexes answers.
+fn indexed_answers(alloc: Global, ops: &[RowOp]) -> Result<Seq<RowAnswer>, Fail> {
+    let mut table = RowTable::new(alloc);
+    Ok(run_rows(alloc, &mut table, ops)?)
 }
 
 fn same_row(a: &Option<Row>, b: &Option<Row>) -> bool {
@@ -207,23 +212,21 @@ fn told_nos(alloc: Global, answers: &[RowAnswer]) -> Result<Vec<u64>, Fail> {
     Ok(nos)
 }
 
+// The numbers that are told, where both forms answer the same; none where they don't.
+fn told(alloc: Global, ops: &[RowOp]) -> Result<Vec<u64>, Fail> {
+    let plain = plain_answers(alloc, ops)?;
+    let indexed = indexed_answers(alloc, ops)?;
+    if !all_same(plain.as_slice(), indexed.as_slice()) {
+        return Ok(Vec::new(alloc));
+    }
+    told_nos(alloc, indexed.as_slice())
+}
+
 #[test]
 fn forty_calls_give_equal_answers_in_both_forms(rt: HostRuntime) -> Result<(), Fail> {
-    let ops = forty(&rt)?;
-    let mut list = ListRows::new(rt.alloc());
-    let mut table = RowTable::new(rt.alloc());
-    let plain = run_rows(rt.alloc(), &mut list, &ops)?;
-    let indexed = run_rows(rt.alloc(), &mut table, &ops)?;
-    let nos = told_nos(rt.alloc(), indexed.as_slice())?;
-    assert!(rt; ops.len() == 40, "as many as are meant: {}", ops.len());
-    assert!(rt;
-        all_same(plain.as_slice(), indexed.as_slice()),
-        "equal answers"
-    );
+    let ops = ops_of(rt.alloc(), &CALLS)?;
+    let told = told(rt.alloc(), &ops)?;
     let wanted: [u64; 10] = [1, 0, 5, 5, 4, 5, 3, 0, 0, 0];
-    assert!(rt;
-        nos.as_slice() == wanted.as_slice(),
-        "the current rows and chains: {nos:?}"
-    );
+    assert_eq!(rt; told.as_slice(), wanted.as_slice());
     Ok(())
 }

@@ -1,5 +1,6 @@
 //! Each row of the steps' tables once: a state, the step that is next in it, and what that changes and
-//! tells. There are tests alone here. A state is made by the steps that lead to it.
+//! tells; and what reads of a state give. There are tests alone here. A state is made by the steps that lead
+//! to it.
 #![tactic(auto)]
 
 #[cfg(test)]
@@ -10,6 +11,8 @@ mod cases;
 mod cleanup_nodes;
 #[cfg(test)]
 mod commands;
+#[cfg(test)]
+mod commands_made;
 #[cfg(test)]
 mod ends;
 #[cfg(test)]
@@ -23,6 +26,8 @@ mod parts;
 #[cfg(test)]
 mod puts;
 #[cfg(test)]
+mod reads;
+#[cfg(test)]
 mod replies;
 #[cfg(test)]
 mod scripts;
@@ -34,7 +39,3 @@ mod takes;
 mod turns;
 #[cfg(test)]
 mod update_nodes;
-#[cfg(test)]
-mod commands_made;
-#[cfg(test)]
-mod reads;

@@ -1,4 +1,5 @@
-//! Tests alone.
+//! Values, names, numbers and plans from outside: what is read, and that each call succeeds with ample
+//! memory. There are tests alone here, of `heat_value` and `heat_plan`; nothing stands on this crate.
 #![tactic(auto)]
 
 #[cfg(test)]

@@ -1,5 +1,7 @@
 //! What no clause says: values from outside, printed texts, and that each call succeeds with ample memory.
-use heat_value::{Equals, Items, Path, Props, Seq, Step, Text, TryCopy, Value, ValueFault, text_of};
+use heat_value::{
+    Equals, Items, Path, Props, Seq, Step, Text, TryCopy, Value, ValueFault, text_of,
+};
 use std::alloc::{AllocError, Global};
 use std::test::Fail;
 

@@ -1,5 +1,5 @@
 use Rattle.heat_plan.proofs.OneItem.{one_is_plan}
-use Rattle.command_steps.proofs.tests.plan_of.Goals as goal
+use Rattle.step_examples.proofs.commands_made.plan_of.Goals as goal
 
 pub new-requires-6 : goal.new-requires-6
 new-requires-6 c =

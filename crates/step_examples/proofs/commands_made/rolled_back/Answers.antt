@@ -3,7 +3,7 @@ use Rattle.std.proofs.Common.{◌≡◌, ◌∙◌, Some, refl, sym, ap}
 use Rattle.std.specs.Prelude.{option_map}
 use Rattle.core_state.specs.State.{stack_at}
 use Rattle.command_steps.proofs.Steps.{stack_self}
-use Rattle.command_steps.proofs.tests.rolled_back.Goals as goal
+use Rattle.step_examples.proofs.commands_made.rolled_back.Goals as goal
 
 pub roll_back-requires : goal.roll_back-requires
 roll_back-requires c =

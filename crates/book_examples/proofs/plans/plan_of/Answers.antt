@@ -1,5 +1,5 @@
-use Rattle.book.proofs.OneItem.{one_is_plan}
-use Rattle.book.proofs.tests.plan_of.Goals as goal
+use Rattle.heat_plan.proofs.OneItem.{one_is_plan}
+use Rattle.book_examples.proofs.plans.plan_of.Goals as goal
 
 pub new-requires-6 : goal.new-requires-6
 new-requires-6 c = rw (c.in_ok-push.ensures.ok, c.new-items.ensures, c.new-5.ensures)

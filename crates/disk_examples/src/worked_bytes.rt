@@ -1,9 +1,9 @@
 //! Worked bytes of both versions: what an opening reads of them, and what it, an append or a snapshot
 //! leaves. Each front of them is opened, and each gate.
-use crate::journals::{adds, snaps, text_of};
-use row_journal::{Imaged, Journal, Recovered};
+use crate::steps::{adds, snaps, text_of};
 use heat_disk::{FileDisk, Half, MemDisk};
 use heat_value::Text;
+use row_journal::{Imaged, Journal, Recovered};
 use std::alloc::{AllocError, Global};
 use std::fs;
 use std::process::Abort;

@@ -1,5 +1,0 @@
-use Rattle.hot_eval.proofs.NoItems.{no_item_is_plan}
-use Rattle.hot_eval.proofs.tests.plan_of.Goals as goal
-
-pub new-requires-3 : goal.new-requires-3
-new-requires-3 c = no_item_is_plan c.new.result c.push-4.new.self c.new.ensures

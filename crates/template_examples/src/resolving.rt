@@ -1,0 +1,137 @@
+//! What the properties of an item resolve to, and the names that a value and a map of properties need.
+use crate::cases::{Case, Teller, value_of, value_words, wrong_among};
+use crate::plans::{both_known, eval_fault_words, name_of, plan_of, properties_of, props_of};
+use heat_plan::{Item, Kind, Needs, Policy, Properties};
+use heat_value::{Seq, Text, TryCopy, Value};
+use hot_eval::{needs_of, needs_of_props, resolve};
+use std::alloc::{AllocError, Global};
+use std::test::Fail;
+
+// The item r of these properties.
+fn item_of(alloc: Global, props: Properties) -> Result<Item, AllocError> {
+    Ok(Item {
+        name: name_of(alloc, "r")?,
+        kind: Kind {
+            name: Text::from_str(alloc, "k")?,
+            attrs: Seq::new(alloc),
+            soft: Seq::new(alloc),
+        },
+        props,
+        needs: Needs::new(alloc),
+        policy: Policy::Delete,
+    })
+}
+
+// What an item's properties resolve to, in words.
+fn outcome_of(alloc: Global, item: &Item) -> Result<String, AllocError> {
+    let plan = plan_of(alloc)?;
+    let known = both_known(alloc)?;
+    match resolve(alloc, &plan, item, known.as_slice()) {
+        Ok(props) => value_words(alloc, &Value::Fields(props.as_props().copy()?)),
+        Err(fault) => eval_fault_words(alloc, &fault),
+    }
+}
+
+// What the properties that are given resolve to, or the fault.
+struct Resolved;
+
+impl Teller for Resolved {
+    fn told(&self, alloc: Global, given: &str) -> Result<String, AllocError> {
+        let item = item_of(alloc, properties_of(alloc, given)?)?;
+        outcome_of(alloc, &item)
+    }
+}
+
+const RESOLVED: &[Case] = &[
+    ("{}", "{}"),
+    ("{'get_param':'p'}", "{'get_param':'p'}"),
+    ("{'a':{'get_param':'p'},'b':1}", "{'a':'x','b':1}"),
+    (
+        "{'size':{'str_split':[',',{'get_attr':['a','addr']},5]}}",
+        "F02 ['resources','r','properties','size']",
+    ),
+    (
+        "{'b':[{'get_file':'g'}],'a':{'get_param':'q'}}",
+        "F01 ['resources','r','properties','a']",
+    ),
+];
+
+#[test]
+fn properties_are_resolved(rt: HostRuntime) -> Result<(), Fail> {
+    let wrong = wrong_among(rt.alloc(), &Resolved, RESOLVED)?;
+    assert_eq!(rt; wrong.as_str(), "");
+    Ok(())
+}
+
+// The names, parted by commas.
+fn listed(alloc: Global, needs: &Needs) -> Result<String, AllocError> {
+    let mut words = String::new(alloc);
+    for name in needs.as_slice() {
+        words.push_str(name.as_str())?;
+        words.push_str(",")?;
+    }
+    Ok(words)
+}
+
+// The names that the value needs.
+struct Needed;
+
+impl Teller for Needed {
+    fn told(&self, alloc: Global, given: &str) -> Result<String, AllocError> {
+        match value_of(alloc, given)? {
+            Some(value) => listed(alloc, &needs_of(alloc, &value)?),
+            None => String::from_str(alloc, "no value"),
+        }
+    }
+}
+
+const NEEDED: &[Case] = &[
+    ("{'a':{'get_resource':'n'}}", "n,"),
+    (
+        "[{'get_attr':['b','x']},{'get_resource':'c'},{'get_attr':['a']},{'get_resource':'b'}]",
+        "a,b,c,",
+    ),
+    (
+        "{'if':['c',{'get_resource':'t'},{'get_resource':'f'}]}",
+        "f,t,",
+    ),
+    ("{'get_attr':['a','x',{'get_resource':'b'}]}", "a,b,"),
+    (
+        "{'repeat':{'template':{'get_resource':'a'},'for_each':{}}}",
+        "a,",
+    ),
+    (
+        "[{'get_resource':'a','x':1},{'get_resource':5},{'get_resource':'a b'},{'get_attr':[5]}]",
+        "",
+    ),
+];
+
+#[test]
+fn values_have_needs(rt: HostRuntime) -> Result<(), Fail> {
+    let wrong = wrong_among(rt.alloc(), &Needed, NEEDED)?;
+    assert_eq!(rt; wrong.as_str(), "");
+    Ok(())
+}
+
+// The names that a map of properties needs.
+struct NeededUnder;
+
+impl Teller for NeededUnder {
+    fn told(&self, alloc: Global, given: &str) -> Result<String, AllocError> {
+        let props = props_of(alloc, given)?;
+        listed(alloc, &needs_of_props(alloc, &props)?)
+    }
+}
+
+// A property's own name is no function.
+const NEEDED_UNDER: &[Case] = &[
+    ("{'get_resource':'a','x':{'get_resource':'b'}}", "b,"),
+    ("{'get_resource':'a'}", ""),
+];
+
+#[test]
+fn properties_have_needs(rt: HostRuntime) -> Result<(), Fail> {
+    let wrong = wrong_among(rt.alloc(), &NeededUnder, NEEDED_UNDER)?;
+    assert_eq!(rt; wrong.as_str(), "");
+    Ok(())
+}
