@@ -1,5 +1,5 @@
 -- The lines so far, and the next one.
-use Rattle.std.proofs.Common.{◌∙◌, ◌≤◌, List, [], inl, inr, refl, sym, ap, arith}
+use Rattle.std.proofs.Common.{◌∙◌, ◌≤◌, List, [], inl, inr, refl, sym, ap, map, arith}
 use Rattle.core_state.specs.declared.entry.Entry.{Entry}
 use Rattle.core_state.specs.State.{StateData}
 use Rattle.heat_io.specs.Reading.{Reader}
@@ -8,6 +8,7 @@ use Rattle.report.specs.Seen.{seen_of}
 use Rattle.report.specs.Text.{seen_after}
 use Rattle.book.specs.Kept.{opening_of}
 use Rattle.book.specs.Quiet.{page}
+use Rattle.converge_call.specs.Stocks.{stock}
 use Rattle.converge_call.proofs.Handing.{same_opening}
 use Rattle.converge_call.proofs.Driving.{first_is, starts, goes_on, ends_at, ends_well, ends_unread, too_long_of}
 use Rattle.converge_call.proofs.Answering.{answered_as, never_read}
@@ -17,7 +18,8 @@ pub loop-number-init : goal.loop-number-init
 loop-number-init g c = record {
   so = starts _ (opening_of g.P.Provider.cloud c.args.book.now) _ _ _ c.new-reader.result.held
       c.new-reader.result.given c.requires.opened c.requires.fresh
-      (first_is _ _ _ c.in-Ok-catalog.ensures.registered c.in-Ok-catalog.ensures.given) (ap (λ (r : Reader). r.held) c.new-reader.ensures)
+      (first_is _ _ _ c.in-Ok-new.ensures.registered c.in-Ok-new.ensures.given)
+      (ap (λ (r : Reader). r.held) c.new-reader.ensures)
       (ap (λ (r : Reader). r.given) c.new-reader.ensures);
   reads = omega arith;
   writes = omega arith;
@@ -29,11 +31,12 @@ loop-number-init g c = record {
 
 pub loop-number-preserved : goal.loop-number-preserved
 loop-number-preserved g c = record {
-  so = goes_on _ _ _ _ _ _ _ _ _ c.loop-number.invariant.so _ c.next.new.self.given c.in-Line.line _ _ _ _
+  so = goes_on _ _ _ _ _ _ _ _ _ c.loop-number.invariant.so _ c.next.new.self.given c.in-Line.line
+      (stock (map (λ t. t.test) c.args.registry.now.customs) c.answer.new.catalog) _ _ _
       c.in-Line.ensures.told c.in-Line.ensures.seen.1.rises c.in-Line.ensures.seen.1.within
       (answered_as _ _ c.in-Line.line _ _ _ _ _ _ _ _ c.as_slice.ensures
       (same_opening g.P.Provider.cloud _ _ c.loop-number.invariant.same) c.answer.ensures.answered) c.in-Ok-answer.is
-      c.in-Ok-answer.ensures.kinds refl;
+      (rw c.as_slice.ensures at c.in-Ok-answer.ensures.kinds) refl;
   reads = omega (arith, c.loop-number.invariant.reads, c.next.ensures.later);
   writes = omega (arith, c.loop-number.invariant.writes, c.answer.ensures.later);
   same = record {
@@ -49,6 +52,12 @@ answer-requires g c = c.loop-number.invariant.seen
 
 pub returns-in_default-clause-drove : goal.returns-in_default-clause-drove
 returns-in_default-clause-drove g c =
+    ends_unread _ _ _ _ _ _ _ _ _ (starts _ (opening_of g.P.Provider.cloud c.args.book.now) _ _
+    (page c.args.book.now.state c.args.book.now.entries) [] 0 c.requires.opened c.requires.fresh refl refl refl) _ _
+    (inr refl)
+
+pub returns-in_default-new-clause-drove : goal.returns-in_default-new-clause-drove
+returns-in_default-new-clause-drove g c =
     ends_unread _ _ _ _ _ _ _ _ _ (starts _ (opening_of g.P.Provider.cloud c.args.book.now) _ _
     (page c.args.book.now.state c.args.book.now.entries) [] 0 c.requires.opened c.requires.fresh refl refl refl) _ _
     (inr refl)

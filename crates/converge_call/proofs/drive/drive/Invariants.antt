@@ -13,8 +13,8 @@ abbrev pub invariant-loop-number : goal.invariant-loop-number
 invariant-loop-number g l = record {
   so : SoFar (streams (g.S.Source.left l.initial.source) (g.K.Sink.holds l.initial.sink))
       (opening_of g.P.Provider.cloud l.initial.book)
-      (first_stock (map (λ j. j.kind) l.registry.now.judges) (map (λ t. t.test) l.registry.now.customs))
-      (stock (map (λ t. t.test) l.registry.now.customs) l.catalog)
+      (first_stock (map (λ j. j.kind) l.registry.judges) (map (λ t. t.test) l.registry.customs))
+      (stock (map (λ t. t.test) l.registry.customs) l.catalog)
       (page l.book.state l.book.entries) (ahead l.reader.held (g.S.Source.left l.source))
       (g.K.Sink.holds l.sink) l.reader.given l.number;
   reads : g.S.Source.faults l.initial.source ≤ g.S.Source.faults l.source;

@@ -1,5 +1,5 @@
 -- What is done for each line that is asked.
-use Rattle.std.proofs.Common.{refl}
+use Rattle.std.proofs.Common.{refl, Ok}
 use Rattle.converge_call.proofs.Lining.{asked_as, kinds_as, kinds_stay}
 use Rattle.converge_call.proofs.Noting.{nothing_to_do}
 use Rattle.converge_call.proofs.line.do_asked.Goals as goal
@@ -69,13 +69,14 @@ returns-in-Types-clause-done g c =
     asked_as _ _ _ c.args.number _ _ _ c.args.asked _ _ _ c.in-Types.is (λ es does. does)
     (λ es why breaks. breaks) (c.types.ensures.done _)
 
-pub returns-clause-done : goal.returns-clause-done
-returns-clause-done g c =
+pub returns-in-Restart-clause-done : goal.returns-in-Restart-clause-done
+returns-in-Restart-clause-done g c =
     asked_as _ _ _ c.args.number _ _ _ c.args.asked _ _ _ c.in-Restart.is (λ es does. does)
     (λ es why breaks. breaks) c.refuse.ensures.done
 
 pub returns-in-Blank-clause-kinds : goal.returns-in-Blank-clause-kinds
-returns-in-Blank-clause-kinds g c = kinds_as _ c.args.asked _ _ _ c.in-Blank.is (kinds_stay _ _)
+returns-in-Blank-clause-kinds g c =
+    kinds_as (Ok tt) c.args.asked _ c.args.catalog.now c.args.catalog.now c.in-Blank.is refl
 
 pub returns-in-Create-clause-kinds : goal.returns-in-Create-clause-kinds
 returns-in-Create-clause-kinds g c = kinds_as _ c.args.asked _ _ _ c.in-Create.is (kinds_stay _ _)
@@ -113,5 +114,5 @@ returns-in-Start-clause-kinds g c = kinds_as _ c.args.asked _ _ _ c.in-Start.is 
 pub returns-in-Types-clause-kinds : goal.returns-in-Types-clause-kinds
 returns-in-Types-clause-kinds g c = kinds_as _ c.args.asked _ _ _ c.in-Types.is c.types.ensures.kinds
 
-pub returns-clause-kinds : goal.returns-clause-kinds
-returns-clause-kinds g c = kinds_as _ c.args.asked _ _ _ c.in-Restart.is (kinds_stay _ _)
+pub returns-in-Restart-clause-kinds : goal.returns-in-Restart-clause-kinds
+returns-in-Restart-clause-kinds g c = kinds_as _ c.args.asked _ _ _ c.in-Restart.is (kinds_stay _ _)
