@@ -24,4 +24,3 @@ pub use deleting::delete;
 pub use due::is_due;
 pub use rolling_back::roll_back;
 pub use updating::update;
-

@@ -134,7 +134,7 @@ not_broken_for why other (inr worn) same (inr is) = cc
 -- the source has no part in a line's answer
 pub never_read : (o : Opening) (t : Stock) (number : ℕ) (line : List ℕ) (old new : Page)
     (holds holds_new : Option (List ℕ)) (answered : Result (Unit {0}) Exit) (why : Exit)
-        → LineAnswered o t number line old new holds holds_new answered
+    → LineAnswered o t number line old new holds holds_new answered
     → answered ≡ Err why → why ≡ exit.ReadFault → ⊥
 never_read o t number line old new holds holds_new answered why
     (drives.done es does is (drives.all grows ended)) failed same = cc

@@ -24,7 +24,7 @@ module _ (o : Opening) (h : List Entry) (t : Stock) (number : ℕ) (line : List 
       → HasDone (LineDoes o h t number line) (LineBreaks line) old new result
   asked_by said reads it =
       done_as (AskedDoes o h t number said) (LineDoes o h t number line) (AskedBreaks said)
-          (LineBreaks line) old new result
+      (LineBreaks line) old new result
       (λ es does. asks said reads does) (λ es why breaks. asked said reads breaks) it
 
   pub misread_by : (why : Misread)
