@@ -20,69 +20,69 @@ fn graph_of(
     Ok(graph)
 }
 
-#[derive(Drop)]
-struct Listing<'a> {
-    name: &'a str,
+struct Listing {
+    name: &'static str,
     size: u32,
-    edges: &'a [(u32, u32)],
+    edges: &'static [(u32, u32)],
     ordered: bool,
-    nodes: &'a [u32],
+    nodes: &'static [u32],
 }
+
+const LISTINGS: &[Listing] = &[
+    Listing {
+        name: "no nodes",
+        size: 0,
+        edges: &[],
+        ordered: true,
+        nodes: &[],
+    },
+    Listing {
+        name: "no edges",
+        size: 2,
+        edges: &[],
+        ordered: true,
+        nodes: &[0, 1],
+    },
+    Listing {
+        name: "a diamond",
+        size: 4,
+        edges: &[(0, 1), (0, 2), (1, 3), (2, 3)],
+        ordered: true,
+        nodes: &[0, 1, 2, 3],
+    },
+    Listing {
+        name: "greater nodes first",
+        size: 4,
+        edges: &[(3, 0), (2, 0), (3, 2)],
+        ordered: true,
+        nodes: &[1, 3, 2, 0],
+    },
+    Listing {
+        name: "a and b",
+        size: 2,
+        edges: &[(0, 1), (1, 0)],
+        ordered: false,
+        nodes: &[0, 1],
+    },
+    Listing {
+        name: "one alone",
+        size: 2,
+        edges: &[(1, 1)],
+        ordered: false,
+        nodes: &[1],
+    },
+    Listing {
+        name: "behind a stem",
+        size: 4,
+        edges: &[(2, 0), (3, 2), (2, 3), (3, 1)],
+        ordered: false,
+        nodes: &[2, 3],
+    },
+];
 
 #[test]
 fn lists_orders_and_cycles(rt: HostRuntime) -> Result<(), Fail> {
-    let cases = [
-        Listing {
-            name: "no nodes",
-            size: 0,
-            edges: &[],
-            ordered: true,
-            nodes: &[],
-        },
-        Listing {
-            name: "no edges",
-            size: 2,
-            edges: &[],
-            ordered: true,
-            nodes: &[0, 1],
-        },
-        Listing {
-            name: "a diamond",
-            size: 4,
-            edges: &[(0, 1), (0, 2), (1, 3), (2, 3)],
-            ordered: true,
-            nodes: &[0, 1, 2, 3],
-        },
-        Listing {
-            name: "greater nodes first",
-            size: 4,
-            edges: &[(3, 0), (2, 0), (3, 2)],
-            ordered: true,
-            nodes: &[1, 3, 2, 0],
-        },
-        Listing {
-            name: "a and b",
-            size: 2,
-            edges: &[(0, 1), (1, 0)],
-            ordered: false,
-            nodes: &[0, 1],
-        },
-        Listing {
-            name: "one alone",
-            size: 2,
-            edges: &[(1, 1)],
-            ordered: false,
-            nodes: &[1],
-        },
-        Listing {
-            name: "behind a stem",
-            size: 4,
-            edges: &[(2, 0), (3, 2), (2, 3), (3, 1)],
-            ordered: false,
-            nodes: &[2, 3],
-        },
-    ];
-    for case in &cases {
+    for case in LISTINGS {
         let graph = graph_of(&rt, case.size, case.edges)?;
         let (ordered, nodes) = match graph.order()? {
             Order::Order(nodes) => (true, nodes),
@@ -94,61 +94,61 @@ fn lists_orders_and_cycles(rt: HostRuntime) -> Result<(), Fail> {
     Ok(())
 }
 
-#[derive(Drop)]
-struct Closing<'a> {
-    name: &'a str,
+struct Closing {
+    name: &'static str,
     size: u32,
-    edges: &'a [(u32, u32)],
+    edges: &'static [(u32, u32)],
     before: u32,
     after: u32,
-    path: &'a [u32],
+    path: &'static [u32],
 }
+
+const CLOSINGS: &[Closing] = &[
+    Closing {
+        name: "back",
+        size: 2,
+        edges: &[(0, 1)],
+        before: 1,
+        after: 0,
+        path: &[0, 1],
+    },
+    Closing {
+        name: "itself",
+        size: 1,
+        edges: &[],
+        before: 0,
+        after: 0,
+        path: &[0],
+    },
+    Closing {
+        name: "forward",
+        size: 2,
+        edges: &[],
+        before: 0,
+        after: 1,
+        path: &[],
+    },
+    Closing {
+        name: "again",
+        size: 2,
+        edges: &[(0, 1)],
+        before: 0,
+        after: 1,
+        path: &[],
+    },
+    Closing {
+        name: "through the least",
+        size: 5,
+        edges: &[(0, 1), (0, 2), (0, 3), (2, 4), (3, 4)],
+        before: 4,
+        after: 0,
+        path: &[0, 2, 4],
+    },
+];
 
 #[test]
 fn refuses_what_closes(rt: HostRuntime) -> Result<(), Fail> {
-    let cases = [
-        Closing {
-            name: "back",
-            size: 2,
-            edges: &[(0, 1)],
-            before: 1,
-            after: 0,
-            path: &[0, 1],
-        },
-        Closing {
-            name: "itself",
-            size: 1,
-            edges: &[],
-            before: 0,
-            after: 0,
-            path: &[0],
-        },
-        Closing {
-            name: "forward",
-            size: 2,
-            edges: &[],
-            before: 0,
-            after: 1,
-            path: &[],
-        },
-        Closing {
-            name: "again",
-            size: 2,
-            edges: &[(0, 1)],
-            before: 0,
-            after: 1,
-            path: &[],
-        },
-        Closing {
-            name: "through the least",
-            size: 5,
-            edges: &[(0, 1), (0, 2), (0, 3), (2, 4), (3, 4)],
-            before: 4,
-            after: 0,
-            path: &[0, 2, 4],
-        },
-    ];
-    for case in &cases {
+    for case in CLOSINGS {
         let mut graph = graph_of(&rt, case.size, case.edges)?;
         assert!(rt; case.before < graph.size());
         assert!(rt; case.after < graph.size());

@@ -186,27 +186,48 @@ fn kind_and_row(node: &Node) -> (bool, u64) {
     }
 }
 
-#[test]
-fn reads_what_stands_beside_a_node(rt: HostRuntime) -> Result<(), Fail> {
-    let mut edges = Seq::new(rt.alloc());
-    for edge in [(3, 1), (0, 1), (2, 1), (0, 1), (0, 3)] {
-        edges.push(edge)?;
-    }
+// Four clean-up nodes.
+fn four_nodes(rt: &impl AllocGlobal) -> Result<Seq<Node>, Fail> {
     let mut nodes = Seq::new(rt.alloc());
     for no in 1..5 {
         nodes.push(Node::C(number(no)?))?;
     }
-    let drawn = TravGraph { nodes, edges };
-    let graph = drawn.copy()?;
-    assert!(rt; graph.equals(&drawn));
+    Ok(nodes)
+}
+
+// Their graph, with an edge that stands twice.
+fn four(rt: &impl AllocGlobal) -> Result<TravGraph, Fail> {
+    let nodes = four_nodes(rt)?;
+    let mut edges = Seq::new(rt.alloc());
+    for edge in [(3, 1), (0, 1), (2, 1), (0, 1), (0, 3)] {
+        edges.push(edge)?;
+    }
+    Ok(TravGraph { nodes, edges })
+}
+
+#[test]
+fn reads_what_stands_beside_a_node(rt: HostRuntime) -> Result<(), Fail> {
+    let graph = four(&rt)?;
     assert_eq!(rt; graph.nodes.len(), 4);
     assert_eq!(rt; graph.preds(1)?.as_slice(), [0, 2, 3].as_slice());
     assert_eq!(rt; graph.succs(0)?.as_slice(), [1, 3].as_slice());
     assert_eq!(rt; graph.leaves()?.as_slice(), [0, 2].as_slice());
-    let all = graph.all_preds()?;
+    Ok(())
+}
+
+#[test]
+fn reads_what_stands_before_each_node(rt: HostRuntime) -> Result<(), Fail> {
+    let all = four(&rt)?.all_preds()?;
     assert_eq!(rt; all.len(), 4);
     assert_eq!(rt; all.as_slice()[1].as_slice(), [0, 2, 3].as_slice());
     assert_eq!(rt; all.as_slice()[3].as_slice(), [0].as_slice());
+    Ok(())
+}
+
+#[test]
+fn graphs_are_copied(rt: HostRuntime) -> Result<(), Fail> {
+    let graph = four(&rt)?;
+    assert!(rt; graph.copy()?.equals(&graph));
     Ok(())
 }
 

@@ -17,63 +17,78 @@ fn long_name(alloc: Global, letters: usize, second: char) -> Result<String, Allo
     Ok(text)
 }
 
+// Whether a stack, and whether a resource, may have a name of these bytes.
+fn named(alloc: Global, bytes: &[u8]) -> Result<(bool, bool), AllocError> {
+    let stack = StackName::read(alloc, bytes)?.is_some();
+    let resource = ResName::read(alloc, bytes)?.is_some();
+    Ok((stack, resource))
+}
+
+const NAMES: &[(&[u8], bool, bool)] = &[
+    (b"a", true, true),
+    (b"", false, false),
+    (b"Az09_.-", true, true),
+    (b"1a", false, true),
+    (b"-", false, true),
+    (b"a b", false, false),
+    (b"a/b", false, false),
+    (b"\xC3\xA9", false, false),
+];
+
 #[test]
 fn names_are_read(rt: HostRuntime) -> Result<(), Fail> {
-    let rows: [(&[u8], bool, bool); 8] = [
-        (b"a", true, true),
-        (b"", false, false),
-        (b"Az09_.-", true, true),
-        (b"1a", false, true),
-        (b"-", false, true),
-        (b"a b", false, false),
-        (b"a/b", false, false),
-        (b"\xC3\xA9", false, false),
-    ];
-    for (bytes, stack, resource) in rows {
-        assert_eq!(rt; StackName::read(rt.alloc(), bytes)?.is_some(), stack);
-        assert_eq!(rt; ResName::read(rt.alloc(), bytes)?.is_some(), resource);
-    }
-    for (letters, second, fits) in [(255, 'a', true), (256, 'a', false), (255, '\u{e9}', false)] {
-        let name = long_name(rt.alloc(), letters, second)?;
-        assert_eq!(rt;
-            StackName::read(rt.alloc(), name.as_bytes())?.is_some(),
-            fits,
-            "{letters}"
-        );
-        assert_eq!(rt;
-            ResName::read(rt.alloc(), name.as_bytes())?.is_some(),
-            fits,
-            "{letters}"
-        );
+    for (bytes, stack, resource) in NAMES {
+        assert_eq!(rt; named(rt.alloc(), bytes)?, (*stack, *resource), "{bytes:?}");
     }
     Ok(())
 }
 
+fn long_named(alloc: Global, letters: usize, second: char) -> Result<(bool, bool), AllocError> {
+    let name = long_name(alloc, letters, second)?;
+    named(alloc, name.as_bytes())
+}
+
+#[test]
+fn names_have_255_letters(rt: HostRuntime) -> Result<(), Fail> {
+    for (letters, second, fits) in [(255, 'a', true), (256, 'a', false), (255, '\u{e9}', false)] {
+        let found = long_named(rt.alloc(), letters, second)?;
+        assert_eq!(rt; found, (fits, fits), "{letters}");
+    }
+    Ok(())
+}
+
+const TOKENS: &[(&[u8], bool)] = &[
+    (b"s/a/1", true),
+    (b"s/a/01", false),
+    (b"s/a", false),
+    (b"s/a/0", false),
+    (b"s/a/+1", false),
+    (b"s/a/4611686018427387903", true),
+    (b"s/a/4611686018427387904", false),
+    (b"s/a/99999999999999999999", false),
+    (b"s/a/1/", false),
+    (b"1/a/1", false),
+    (b"", false),
+];
+
+// Whether a token is read, and its text is what it was read from.
+fn is_token(alloc: Global, bytes: &[u8]) -> Result<bool, AllocError> {
+    match Token::read(alloc, bytes)? {
+        Some(token) => is_written(alloc, &token, bytes),
+        None => Ok(false),
+    }
+}
+
+fn is_written(alloc: Global, token: &Token, bytes: &[u8]) -> Result<bool, AllocError> {
+    let same = token.copy()?.equals(token);
+    let text = token.text(alloc)?;
+    Ok(same && text.as_str().as_bytes() == bytes)
+}
+
 #[test]
 fn tokens_are_read_and_written(rt: HostRuntime) -> Result<(), Fail> {
-    let rows: [(&[u8], bool); 11] = [
-        (b"s/a/1", true),
-        (b"s/a/01", false),
-        (b"s/a", false),
-        (b"s/a/0", false),
-        (b"s/a/+1", false),
-        (b"s/a/4611686018427387903", true),
-        (b"s/a/4611686018427387904", false),
-        (b"s/a/99999999999999999999", false),
-        (b"s/a/1/", false),
-        (b"1/a/1", false),
-        (b"", false),
-    ];
-    for (bytes, reads) in rows {
-        match Token::read(rt.alloc(), bytes)? {
-            Some(token) => {
-                assert!(rt; token.copy()?.equals(&token));
-                let text = token.text(rt.alloc())?;
-                assert!(rt; reads);
-                assert_eq!(rt; text.as_str().as_bytes(), bytes);
-            }
-            None => assert!(rt; !reads),
-        }
+    for (bytes, reads) in TOKENS {
+        assert_eq!(rt; is_token(rt.alloc(), bytes)?, *reads, "{bytes:?}");
     }
     Ok(())
 }
