@@ -2,7 +2,6 @@
 use Rattle.std.proofs.Common.{◌≡◌, ◌∙◌, ℕ, zero, suc, ◌+◌, ◌<◌, List, [], ◌∷◌, ◌++◌, Bool, true, false, ◌||◌}
 use Rattle.std.proofs.Common.{length, map, replicate, get_or, bytes_eq, refl, sym, ap, inl, inr, arith}
 use Rattle.std.proofs.Math.ListN.{set}
-use Rattle.std.specs.List.{AllByRecursion}
 use Rattle.std.specs.List.Sorted.{IsStrictlySortedBy, IsNonDecreasingBy, IsPartitionPoint}
 use Rattle.std.specs.Ordering.{ordering_index, is_lt}
 use Rattle.std.specs.declared.cmp.Ordering.TheVariants.{Less, Equal, Greater}
@@ -57,13 +56,6 @@ others_marked named (n ∷ names) name other =
 
 -- ---- where the search ends
 
--- a name below all others is below each of them
-below_at : (k : List ℕ) (names : List (List ℕ)) (p : ℕ) (d : List ℕ) → AllByRecursion (λ y. cmp k y ≡ Less) names
-    → p < length names → cmp k (get_or names p d) ≡ Less
-below_at k [] p d all l = absurd (omega arith)
-below_at k (n ∷ names) zero d all l = all.0
-below_at k (n ∷ names) (suc p) d all l = below_at k names p d all.1 (omega arith)
-
 -- the comparisons with a name rise
 pub texts_rise : (name : List ℕ) (names : List (List ℕ)) → Rising names
     → IsNonDecreasingBy (λ (n : List ℕ). ordering_index (cmp n name)) names
@@ -82,10 +74,12 @@ mark_found named (n ∷ names) name zero up l here =
     one_more named name n true (same_by n name Equal (here n)) ∙ or_true (is_among named n) in
     let above : (q : ℕ) (d : List ℕ) → q < length names → bytes_eq (get_or names q d) name ≡ false =
     λ q d a. same_by (get_or names q d) name Greater (flipped name (get_or names q d) Less
-    (sym (nat_list_cmp_total.congr n name (get_or names q d) (here n)) ∙ below_at n names q d up.0 a)) in
+    (sym (nat_list_cmp_total.congr n name (get_or names q d) (here n))
+    ∙ Less-from_sorted cmp (n ∷ names) 0 (suc q) d up (omega arith) (omega (arith, a)))) in
     let rest : marks named names ≡ marks (named ++ name ∷ []) names = others_marked named names name above in cc
 mark_found named (n ∷ names) name (suc p) up l here =
-    let before : cmp n name ≡ Less = below_same n (get_or names p n) name (below_at n names p n up.0 (omega arith)) (here n) in
+    let before : cmp n name ≡ Less =
+    below_same n (get_or names p n) name (Less-from_sorted cmp (n ∷ names) 0 (suc p) n up (omega arith) l) (here n) in
     let first : is_among named n ≡ is_among (named ++ name ∷ []) n =
     as_before named name n (same_by n name Less before) in
     let rest : set (marks named names) p true ≡ marks (named ++ name ∷ []) names =
