@@ -1,13 +1,16 @@
 //! Each answer of a create, a delete and a poll once, over a scripted cloud: how many turns are
 //! made, and which entries tell of them. Each call of a book succeeds with ample memory, and so
 //! does each of the steps that it makes.
-use crate::plans::command;
-use crate::seen::{cloud, seen_over, turn_first};
-use book::{Book, Opened, Turn};
+use crate::calls::{count, first_of, is_stopped, turn_first};
+use crate::plans::{command, stack_name};
+use crate::seen::{Case, case_of, opened, run};
+use book::{Book, Turn};
 use core_state::{ShowWhat, What};
 use heat_plan::StackName;
 use hot_registry::Registry;
+use provider::Provider;
 use scripted_cloud::ScriptedCloud;
+use std::alloc::Global;
 use std::test::Fail;
 
 // A name, the commands, the quota, the cloud's answers behind that to its list; how many turns are
@@ -77,16 +80,55 @@ const CASES: &[(&str, &[u8], u32, &[u8], usize, &[u8])] = &[
     ("not yet, failed", b"c", 1, b"010f", 5, b"crmrmrm?m??rmf"),
 ];
 
+// The command of a letter with all turns behind it.
+fn run_letter<P: Provider>(
+    alloc: Global,
+    book: &mut Book<P>,
+    registry: &Registry,
+    letter: u8,
+) -> Option<usize> {
+    let command = command(alloc, letter)?;
+    run(book, registry, command)
+}
+
+// The commands of the letters, with all turns behind each; how many are made.
+fn run_all<P: Provider>(
+    alloc: Global,
+    book: &mut Book<P>,
+    registry: &Registry,
+    letters: &[u8],
+) -> Option<usize> {
+    let mut made = 0_usize;
+    for letter in letters {
+        made = made.saturating_add(run_letter(alloc, book, registry, *letter)?);
+    }
+    Some(made)
+}
+
+// The same with nothing registered.
+fn run_plainly<P: Provider>(alloc: Global, book: &mut Book<P>, letters: &[u8]) -> Option<usize> {
+    let none = Registry::empty(alloc);
+    run_all(alloc, book, &none, letters)
+}
+
+// What is seen of them.
+fn seen_in<P: Provider>(alloc: Global, book: &mut Book<P>, letters: &[u8]) -> Option<Case> {
+    let made = run_plainly(alloc, book, letters)?;
+    case_of(alloc, book, made)
+}
+
+// What is seen of commands over a new book; none where there is no memory.
+fn seen(alloc: Global, commands: &[u8], most: u32, script: &[u8]) -> Option<Case> {
+    let mut book = opened(alloc, most, script, 1)?;
+    let seen = seen_in(alloc, &mut book, commands);
+    let _ = book.give_back();
+    seen
+}
+
 #[test]
 fn each_answer_is_told(rt: HostRuntime) -> Result<(), Fail> {
     for (name, commands, most, script, turns, told) in CASES {
-        let mut all = Vec::new(rt.alloc());
-        for letter in *commands {
-            all.push(command(rt.alloc(), *letter)?)?;
-        }
-        let cloud = cloud(rt.alloc(), *most, script)?;
-        let nothing = Registry::empty(rt.alloc());
-        let seen = seen_over(rt.alloc(), &nothing, cloud, all).ok_or("memory")?;
+        let seen = seen(rt.alloc(), commands, *most, script).ok_or("memory")?;
         assert_eq!(rt; seen.told.as_slice(), *told, "{}", name);
         assert_eq!(rt; seen.turns, *turns, "{}", name);
         assert!(rt; seen.idle, "{}", name);
@@ -94,63 +136,89 @@ fn each_answer_is_told(rt: HostRuntime) -> Result<(), Fail> {
     Ok(())
 }
 
-// Whether a note stands in an empty book, and its number is that of the first stack.
-fn noted(book: Book<ScriptedCloud>, stack: StackName) -> bool {
-    let mut book = book;
-    let first = book.stack_no(&stack).get() == 1;
+// Whether a note of the stack is taken.
+fn noted(book: &mut Book<ScriptedCloud>, stack: StackName) -> bool {
     let noted = book.note(What::Show {
         what: ShowWhat::Resources,
         stack,
     });
-    let stands = book.entries().len() == 1;
+    noted.is_ok()
+}
+
+// Whether one entry stands, and no stack.
+fn stands_alone<P: Provider>(book: &Book<P>) -> bool {
     let empty = book.state().stacks().is_empty() && book.opening().stacks().is_empty();
+    empty && count(book) == 1
+}
+
+// Whether a note stands in an empty book, and its number is that of the first stack.
+fn note_stands(book: &mut Book<ScriptedCloud>, stack: StackName) -> bool {
+    let first = book.stack_no(&stack).get() == 1;
+    let noted = noted(book, stack);
+    first && noted && stands_alone(book)
+}
+
+// The same with the stack's name.
+fn note_of_name(alloc: Global, book: &mut Book<ScriptedCloud>) -> Option<bool> {
+    let name = stack_name(alloc)?;
+    Some(note_stands(book, name))
+}
+
+// The same of a new book; none where there is no memory.
+fn note_seen(alloc: Global) -> Option<bool> {
+    let mut book = opened(alloc, 1, b"", 1)?;
+    let stands = note_of_name(alloc, &mut book);
     let _ = book.give_back();
-    noted.is_ok() && first && stands && empty
+    stands
 }
 
 #[test]
 fn a_note_stands_in_the_history(rt: HostRuntime) -> Result<(), Fail> {
-    let name = StackName::read(rt.alloc(), b"s")?.ok_or("a name")?;
-    let cloud = cloud(rt.alloc(), 1, b"")?;
-    let stands = match Book::recover(rt.alloc(), cloud, 1) {
-        Opened::Book(book) => noted(book, name),
-        Opened::Disagree(_cloud, _token) => false,
-        Opened::CloudFault(_cloud) => false,
-        Opened::Memory(_cloud) => false,
-    };
-    assert!(rt; stands);
+    assert_eq!(rt; note_seen(rt.alloc()), Some(true));
     Ok(())
 }
 
-// Whether the first of two engines is stopped, but not once more, and a third is enlisted.
-fn engines(book: Book<ScriptedCloud>, registry: &Registry) -> bool {
-    let mut book = book;
-    let two = book.live().len() == 2;
-    let e = book.live().first().copied();
-    let stopped = match e {
-        Some(e) => book.stop(e).is_ok() && book.stop(e).is_err(),
+// Whether the first engine is stopped, but not once more.
+fn stops_once<P: Provider>(book: &mut Book<P>) -> bool {
+    match first_of(book) {
+        Some(e) => is_stopped(book, e) && !is_stopped(book, e),
         None => false,
-    };
-    let enlisted = match book.enlist() {
+    }
+}
+
+// Whether a third engine is enlisted.
+fn enlists_third<P: Provider>(book: &mut Book<P>) -> bool {
+    match book.enlist() {
         Ok(third) => third.get() == 3,
         Err(_) => false,
-    };
-    let idle = turn_first(&mut book, registry) == Some(Turn::Idle);
-    let told = book.entries().len() == 2;
+    }
+}
+
+// Whether the first live engine has nothing to do.
+fn idles<P: Provider>(alloc: Global, book: &mut Book<P>) -> bool {
+    let none = Registry::empty(alloc);
+    turn_first(book, &none) == Some(Turn::Idle)
+}
+
+// Whether the first of two engines is stopped, but not once more, and a third is enlisted.
+fn engines<P: Provider>(alloc: Global, book: &mut Book<P>) -> bool {
+    let two = book.live().len() == 2;
+    let stopped = stops_once(book);
+    let enlisted = enlists_third(book);
+    let idle = idles(alloc, book);
+    two && stopped && enlisted && idle && count(book) == 2
+}
+
+// The same of a new book; none where there is no memory.
+fn engines_seen(alloc: Global) -> Option<bool> {
+    let mut book = opened(alloc, 1, b"", 2)?;
+    let done = engines(alloc, &mut book);
     let _ = book.give_back();
-    two && stopped && enlisted && idle && told
+    Some(done)
 }
 
 #[test]
 fn engines_stop_and_are_enlisted(rt: HostRuntime) -> Result<(), Fail> {
-    let cloud = cloud(rt.alloc(), 1, b"")?;
-    let nothing = Registry::empty(rt.alloc());
-    let done = match Book::recover(rt.alloc(), cloud, 2) {
-        Opened::Book(book) => engines(book, &nothing),
-        Opened::Disagree(_cloud, _token) => false,
-        Opened::CloudFault(_cloud) => false,
-        Opened::Memory(_cloud) => false,
-    };
-    assert!(rt; done);
+    assert_eq!(rt; engines_seen(rt.alloc()), Some(true));
     Ok(())
 }

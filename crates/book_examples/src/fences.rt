@@ -1,19 +1,19 @@
 //! What becomes of an older look that others overtake.
 
-use crate::plans::command;
-use crate::takeovers::{is_drawn, opened, turn};
-use book::{Book, Look, StackCommand, Turn, prepare};
+use crate::calls::{count, first_of, is_drawn, is_letter_taken, is_stopped, turn_plainly};
+use crate::takeovers::book_of_two;
+use book::{Book, Look, Turn, Work, prepare};
 use heat_plan::EngineNo;
 use hot_registry::Registry;
 use provider::Provider;
 use std::alloc::Global;
 use std::test::Fail;
 
-// What is done between a look and its commit.
-#[derive(Drop)]
+// What is done between a look and its commit: nothing, the command of a letter, or a stop.
+#[derive(Clone, Copy)]
 enum Between {
     Nothing,
-    Command(StackCommand),
+    Command(u8),
     Stop,
 }
 
@@ -25,56 +25,110 @@ struct Told {
     turn: Turn,
 }
 
-// Makes what is done between; none where it is refused.
-fn overtake<P: Provider>(book: &mut Book<P>, e: EngineNo, between: Between) -> Option<()> {
+// Whether what is done between is taken.
+fn is_overtaken<P: Provider>(
+    alloc: Global,
+    book: &mut Book<P>,
+    e: EngineNo,
+    between: Between,
+) -> bool {
     match between {
-        Between::Nothing => Some(()),
-        Between::Command(command) => match book.command(command) {
-            Ok(_) => Some(()),
-            Err(_) => None,
-        },
-        Between::Stop => book.stop(e).ok(),
+        Between::Nothing => true,
+        Between::Command(letter) => is_letter_taken(alloc, book, letter),
+        Between::Stop => is_stopped(book, e),
     }
 }
 
-// Looks and prepares, lets the others go first, and commits; the answer, and how many entries it adds.
+// Makes what is done between; how many entries stand then, none where it is refused.
+fn overtake<P: Provider>(
+    alloc: Global,
+    book: &mut Book<P>,
+    e: EngineNo,
+    between: Between,
+) -> Option<usize> {
+    if is_overtaken(alloc, book, e, between) {
+        Some(count(book))
+    } else {
+        None
+    }
+}
+
+// The step that an engine looks at, if there is one.
+fn work_of<P: Provider>(book: &Book<P>, e: EngineNo) -> Option<Work> {
+    if !is_drawn(book, e) {
+        return None;
+    }
+    match book.look(e) {
+        Ok(Look::Work(work)) => Some(work),
+        _ => None,
+    }
+}
+
+// Prepares a step, lets the others go first, and commits; the answer, and how many entries stood before.
+fn commit_over<P: Provider>(
+    alloc: Global,
+    registry: &Registry,
+    book: &mut Book<P>,
+    e: EngineNo,
+    work: Work,
+    between: Between,
+) -> Option<(Turn, usize)> {
+    let prepared = prepare(alloc, registry, &work);
+    let before = overtake(alloc, book, e, between);
+    if is_drawn(book, e) {
+        let commit = book.commit(e, work, prepared);
+        Some((commit, before?))
+    } else {
+        None
+    }
+}
+
+// The same of the step that is looked at.
+fn commit_looked<P: Provider>(
+    alloc: Global,
+    registry: &Registry,
+    book: &mut Book<P>,
+    e: EngineNo,
+    between: Between,
+) -> Option<(Turn, usize)> {
+    match work_of(book, e) {
+        Some(work) => commit_over(alloc, registry, book, e, work, between),
+        None => None,
+    }
+}
+
+// The same with nothing registered.
+fn commit_plainly<P: Provider>(
+    alloc: Global,
+    book: &mut Book<P>,
+    e: EngineNo,
+    between: Between,
+) -> Option<(Turn, usize)> {
+    let none = Registry::empty(alloc);
+    commit_looked(alloc, &none, book, e, between)
+}
+
+// The commit's answer, and how many entries it adds.
 fn commit_behind<P: Provider>(
     alloc: Global,
     book: &mut Book<P>,
     e: EngineNo,
     between: Between,
 ) -> Option<(Turn, usize)> {
-    if !is_drawn(book, e) {
-        return None;
-    }
-    let Ok(Look::Work(work)) = book.look(e) else {
-        return None;
-    };
-    let prepared = prepare(alloc, &Registry::empty(alloc), &work);
-    overtake(book, e, between)?;
-    if !is_drawn(book, e) {
-        return None;
-    }
-    let before = book.entries().len();
-    let commit = book.commit(e, work, prepared);
-    Some((commit, book.entries().len().saturating_sub(before)))
+    let (commit, before) = commit_plainly(alloc, book, e, between)?;
+    Some((commit, count(book).saturating_sub(before)))
 }
 
 // A stack is created, the first engine takes its letter, and its begin is committed late; then it has
 // one turn more.
-fn begin_late<P: Provider>(
-    alloc: Global,
-    book: &mut Book<P>,
-    create: StackCommand,
-    between: Between,
-) -> Option<Told> {
-    let e = *book.live().first()?;
-    if book.command(create).is_err() {
+fn begin_late<P: Provider>(alloc: Global, book: &mut Book<P>, between: Between) -> Option<Told> {
+    let e = first_of(book)?;
+    if !is_letter_taken(alloc, book, b'c') {
         return None;
     }
-    turn(alloc, book, e)?;
+    turn_plainly(alloc, book, e)?;
     let (commit, added) = commit_behind(alloc, book, e, between)?;
-    let turn = turn(alloc, book, e)?;
+    let turn = turn_plainly(alloc, book, e)?;
     Some(Told {
         commit,
         added,
@@ -83,25 +137,20 @@ fn begin_late<P: Provider>(
 }
 
 // What a letter says is done between: a command, a stop or nothing.
-fn between_of(alloc: Global, letter: u8) -> Result<Between, Fail> {
+fn between_of(letter: u8) -> Between {
     match letter {
-        b's' => Ok(Between::Stop),
-        b'-' => Ok(Between::Nothing),
-        _ => Ok(Between::Command(command(alloc, letter)?)),
+        b's' => Between::Stop,
+        b'-' => Between::Nothing,
+        _ => Between::Command(letter),
     }
 }
 
 // A late begin with this between; none where there was no memory.
-fn seen(alloc: Global, letter: u8) -> Result<Option<Told>, Fail> {
-    let create = command(alloc, b'c')?;
-    let between = between_of(alloc, letter)?;
-    let Some(book) = opened(alloc)? else {
-        return Ok(None);
-    };
-    let mut book = book;
-    let seen = begin_late(alloc, &mut book, create, between);
+fn seen(alloc: Global, between: Between) -> Option<Told> {
+    let mut book = book_of_two(alloc)?;
+    let seen = begin_late(alloc, &mut book, between);
     let _ = book.give_back();
-    Ok(seen)
+    seen
 }
 
 // A name, the letter, and what the commit and the turn behind it come to.
@@ -120,7 +169,8 @@ fn an_older_look_meets_the_fence(rt: HostRuntime) -> Result<(), Fail> {
             added: *added,
             turn: *turn,
         };
-        assert_eq!(rt; seen(rt.alloc(), *letter)?, Some(told), "{}", name);
+        let between = between_of(*letter);
+        assert_eq!(rt; seen(rt.alloc(), between), Some(told), "{}", name);
     }
     Ok(())
 }
@@ -132,47 +182,49 @@ enum By {
     Calls,
 }
 
-// Twenty steps of the first engine behind a create; how many entries stand then, and whether the book is
-// idle.
-fn run_by<P: Provider>(
-    alloc: Global,
-    book: &mut Book<P>,
-    create: StackCommand,
-    by: By,
-) -> Option<(usize, bool)> {
-    let e = *book.live().first()?;
-    if book.command(create).is_err() {
-        return None;
-    }
-    for _ in 0..20 {
-        match by {
-            By::Turns => {
-                turn(alloc, book, e)?;
-            }
-            By::Calls => {
-                let _ = commit_behind(alloc, book, e, Between::Nothing);
-            }
+// One step of an engine; none where its number wasn't drawn.
+fn step_by<P: Provider>(alloc: Global, book: &mut Book<P>, e: EngineNo, by: By) -> Option<()> {
+    match by {
+        By::Turns => {
+            turn_plainly(alloc, book, e)?;
+        }
+        By::Calls => {
+            let _ = commit_behind(alloc, book, e, Between::Nothing);
         }
     }
-    Some((book.entries().len(), book.is_idle()))
+    Some(())
+}
+
+// Twenty steps of an engine.
+fn steps_by<P: Provider>(alloc: Global, book: &mut Book<P>, e: EngineNo, by: By) -> Option<()> {
+    for _ in 0..20 {
+        step_by(alloc, book, e, by)?;
+    }
+    Some(())
+}
+
+// The first engine's behind a create; how many entries stand then, and whether the book is idle.
+fn run_by<P: Provider>(alloc: Global, book: &mut Book<P>, by: By) -> Option<(usize, bool)> {
+    let e = first_of(book)?;
+    if !is_letter_taken(alloc, book, b'c') {
+        return None;
+    }
+    steps_by(alloc, book, e, by)?;
+    Some((count(book), book.is_idle()))
 }
 
 // The same of a new book; none where there was no memory.
-fn run_seen(alloc: Global, by: By) -> Result<Option<(usize, bool)>, Fail> {
-    let create = command(alloc, b'c')?;
-    let Some(book) = opened(alloc)? else {
-        return Ok(None);
-    };
-    let mut book = book;
-    let seen = run_by(alloc, &mut book, create, by);
+fn run_seen(alloc: Global, by: By) -> Option<(usize, bool)> {
+    let mut book = book_of_two(alloc)?;
+    let seen = run_by(alloc, &mut book, by);
     let _ = book.give_back();
-    Ok(seen)
+    seen
 }
 
 #[test]
 fn the_three_calls_in_a_row_are_a_turn(rt: HostRuntime) -> Result<(), Fail> {
-    let turns = run_seen(rt.alloc(), By::Turns)?;
-    let calls = run_seen(rt.alloc(), By::Calls)?;
+    let turns = run_seen(rt.alloc(), By::Turns);
+    let calls = run_seen(rt.alloc(), By::Calls);
     assert_eq!(rt; calls, turns);
     assert!(rt; matches!(calls, Some((_, true))));
     Ok(())

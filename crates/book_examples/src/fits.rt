@@ -1,6 +1,7 @@
 //! The plain program over the histories of the rows that stand, which the engine writes over the simulated
 //! cloud: no command, one resource at each step to its end, and a second create of its name.
-use book::{Book, Opened, StackCommand, Turn};
+use crate::calls::{is_taken, turn_times};
+use book::{Book, Opened, StackCommand};
 use core_state::{Entry, What};
 use headline_reader::{Living, could, fits, mark_of, newest, stored};
 use heat_plan::{Parameters, Plan, StackName, Status, Token};
@@ -36,16 +37,12 @@ struct Reading {
 }
 
 // So many creates of one stack, then so many turns.
-#[derive(Drop)]
+#[derive(Clone, Copy)]
 struct Case<'a> {
     name: &'a str,
     creates: u8,
     turns: u8,
     reading: Reading,
-}
-
-pub(crate) fn empty_cloud(alloc: Global) -> Result<SimCloud, AllocError> {
-    SimCloud::new(Settings::empty(alloc))
 }
 
 // A plan of nothing.
@@ -60,20 +57,28 @@ fn no_plan(alloc: Global) -> Plan {
     )
 }
 
-// Makes the create that the line says, or notes that it is refused.
-fn create(alloc: Global, book: &mut Book<SimCloud>) {
+// The create that the line says.
+fn create_of(alloc: Global) -> Option<StackCommand> {
     let Ok(Line::Create(name, body)) = Line::read(alloc, CREATE) else {
+        return None;
+    };
+    match plain_plan(alloc, &body) {
+        Ok(plan) => Some(StackCommand::Create(name, plan, false)),
+        Err(_) => None,
+    }
+}
+
+// Makes it, or notes that it is refused.
+fn create(alloc: Global, book: &mut Book<SimCloud>) {
+    let Some(command) = create_of(alloc) else {
         return;
     };
-    let Ok(plan) = plain_plan(alloc, &body) else {
-        return;
-    };
-    let command = StackCommand::Create(name, plan, false);
-    if book.command(command).is_err() {
+    if !is_taken(book, command) {
         refuse(alloc, book, "E10");
     }
 }
 
+// Notes this code.
 fn refuse(alloc: Global, book: &mut Book<SimCloud>, code: &str) {
     if let Ok(code) = Text::from_str(alloc, code) {
         let _ = book.note(What::Note {
@@ -84,24 +89,17 @@ fn refuse(alloc: Global, book: &mut Book<SimCloud>, code: &str) {
     }
 }
 
-// One turn of the live engine.
-pub(crate) fn turn(book: &mut Book<SimCloud>, registry: &Registry) -> Option<Turn> {
-    let e = *book.live().first()?;
-    if e.get() < book.state().next().engine.get() {
-        Some(book.turn(e, registry))
-    } else {
-        None
+// So many creates of the stack.
+fn create_times(alloc: Global, book: &mut Book<SimCloud>, times: u8) {
+    for _ in 0..times {
+        create(alloc, book);
     }
 }
 
-fn drive(alloc: Global, book: &mut Book<SimCloud>, creates: u8, turns: u8) {
-    for _ in 0..creates {
-        create(alloc, book);
-    }
-    let registry = Registry::empty(alloc);
-    for _ in 0..turns {
-        let _ = turn(book, &registry);
-    }
+/// So many turns of the live engine, with nothing registered.
+pub(crate) fn turn_times_plainly(alloc: Global, book: &mut Book<SimCloud>, times: u8) {
+    let none = Registry::empty(alloc);
+    turn_times(book, &none, times);
 }
 
 fn seen_of(states: &[Option<Living>]) -> Seen {
@@ -118,15 +116,19 @@ fn seen_of(states: &[Option<Living>]) -> Seen {
     }
 }
 
-// Whether the stack fits its newest plan, or nothing where it has none.
-fn fits_newest(alloc: Global, entries: &[Entry], token: &Token) -> Result<bool, AllocError> {
-    match newest(entries, &token.stack)? {
-        Some(latest) => match latest.plan {
-            Some(plan) => fits(alloc, entries, &token.stack, &plan),
-            None => fits(alloc, entries, &token.stack, &no_plan(alloc)),
-        },
-        None => fits(alloc, entries, &token.stack, &no_plan(alloc)),
-    }
+// The stack's newest plan, or that of nothing where it has none.
+fn newest_plan(alloc: Global, entries: &[Entry], stack: &StackName) -> Result<Plan, AllocError> {
+    let plan = match newest(entries, stack)? {
+        Some(latest) => latest.plan,
+        None => None,
+    };
+    Ok(plan.unwrap_or(no_plan(alloc)))
+}
+
+// Whether the stack fits it.
+fn fits_newest(alloc: Global, entries: &[Entry], stack: &StackName) -> Result<bool, AllocError> {
+    let plan = newest_plan(alloc, entries, stack)?;
+    fits(alloc, entries, stack, &plan)
 }
 
 // The status that the newest traversal's mark gives.
@@ -137,35 +139,74 @@ fn status_of(entries: &[Entry], stack: &StackName) -> Result<Option<Status>, All
     }
 }
 
-fn read_all(alloc: Global, entries: &[Entry], token: &Token) -> Result<Reading, AllocError> {
-    let newest = match newest(entries, &token.stack)? {
-        Some(latest) => Some(latest.trav().get()),
-        None => None,
-    };
+// The number of the newest traversal.
+fn number_of(entries: &[Entry], stack: &StackName) -> Result<Option<u64>, AllocError> {
+    match newest(entries, stack)? {
+        Some(latest) => Ok(Some(latest.trav().get())),
+        None => Ok(None),
+    }
+}
+
+// In which states the token may be.
+fn seen_in(alloc: Global, entries: &[Entry], token: &Token) -> Result<Seen, AllocError> {
     let states = could(alloc, entries, token)?;
+    Ok(seen_of(states.as_slice()))
+}
+
+// How many rows stand.
+fn rows_of(alloc: Global, entries: &[Entry]) -> Result<usize, AllocError> {
+    let rows = stored(alloc, entries)?;
+    Ok(rows.as_slice().len())
+}
+
+fn read_all(alloc: Global, entries: &[Entry], token: &Token) -> Result<Reading, AllocError> {
     Ok(Reading {
-        newest,
+        newest: number_of(entries, &token.stack)?,
         mark: status_of(entries, &token.stack)?,
-        rows: stored(alloc, entries)?.as_slice().len(),
-        seen: seen_of(states.as_slice()),
-        fits: fits_newest(alloc, entries, token)?,
+        rows: rows_of(alloc, entries)?,
+        seen: seen_in(alloc, entries, token)?,
+        fits: fits_newest(alloc, entries, &token.stack)?,
     })
 }
 
-// What is read behind so many creates and turns; none where there was no memory.
-fn read_after(alloc: Global, creates: u8, turns: u8, token: &Token) -> Option<Reading> {
-    let Ok(cloud) = empty_cloud(alloc) else {
-        return None;
-    };
-    match Book::recover(alloc, cloud, 1) {
-        Opened::Book(mut book) => {
-            drive(alloc, &mut book, creates, turns);
-            let seen = read_all(alloc, book.entries(), token);
-            let _ = book.give_back();
-            seen.ok()
-        }
+// What is read behind so many creates and turns.
+fn read_behind(
+    alloc: Global,
+    book: &mut Book<SimCloud>,
+    creates: u8,
+    turns: u8,
+    token: &Token,
+) -> Option<Reading> {
+    create_times(alloc, book, creates);
+    turn_times_plainly(alloc, book, turns);
+    match read_all(alloc, book.entries(), token) {
+        Ok(reading) => Some(reading),
+        Err(_) => None,
+    }
+}
+
+// The book, if one was opened.
+fn book_of(opened: Opened<SimCloud>) -> Option<Book<SimCloud>> {
+    match opened {
+        Opened::Book(book) => Some(book),
         Opened::Disagree(_, _) | Opened::CloudFault(_) | Opened::Memory(_) => None,
     }
+}
+
+/// A book of one engine over an empty cloud; none where there was no memory.
+pub(crate) fn book_of_one(alloc: Global) -> Option<Book<SimCloud>> {
+    match SimCloud::new(Settings::empty(alloc)) {
+        Ok(cloud) => book_of(Book::recover(alloc, cloud, 1)),
+        Err(_) => None,
+    }
+}
+
+// The same of a new book; none where there was no memory.
+fn read_after(alloc: Global, creates: u8, turns: u8, token: &Token) -> Option<Reading> {
+    let mut book = book_of_one(alloc)?;
+    let seen = read_behind(alloc, &mut book, creates, turns, token);
+    let _ = book.give_back();
+    seen
 }
 
 fn of_first(mark: Status, seen: Seen, fits: bool) -> Reading {

@@ -1,12 +1,13 @@
 //! The plain program over the history of a resource whose properties hold a function: it fits each plan
 //! whose item resolves to what was made, however that is written.
-use crate::fits::{empty_cloud, turn};
-use crate::plans::{item_of, plan_of, properties_of};
-use book::{Book, Opened, StackCommand};
+use crate::calls::is_taken;
+use crate::fits::{book_of_one, turn_times_plainly};
+use crate::plans::{create_with, plan_with, properties_of, stack_name};
+use book::{Book, StackCommand};
+use core_state::Entry;
 use headline_reader::fits;
-use heat_plan::{Plan, StackName};
-use heat_value::{Seq, TryCopy};
-use hot_registry::Registry;
+use heat_plan::Plan;
+use heat_value::Seq;
 use sim_cloud::SimCloud;
 use std::alloc::Global;
 use std::test::Fail;
@@ -21,44 +22,58 @@ const UNLIKE: &str = "{\"size\":{\"list_join\":[\"\",[\"a\",\"b\"]]}}";
 const FAULTY: &str = "{\"size\":{\"list_join\":[]}}";
 
 // The plan of an item with these properties.
-fn plan(alloc: Global, props: &str) -> Result<Plan, Fail> {
+fn plan(alloc: Global, props: &str) -> Option<Plan> {
     let props = properties_of(alloc, props)?;
-    Ok(plan_of(alloc, item_of(alloc, Seq::new(alloc), props)?)?)
+    plan_with(alloc, Seq::new(alloc), props)
 }
 
-// Creates the stack and makes it.
-fn make(alloc: Global, book: &mut Book<SimCloud>, name: StackName, plan: Plan) {
-    let registry = Registry::empty(alloc);
-    let _ = book.command(StackCommand::Create(name, plan, false));
-    for _ in 0..6 {
-        let _ = turn(book, &registry);
+// The create of the stack with the function.
+fn create(alloc: Global) -> Option<StackCommand> {
+    let plan = plan(alloc, JOINED)?;
+    create_with(alloc, plan)
+}
+
+// Creates the stack and makes it; none where it is refused.
+fn make(alloc: Global, book: &mut Book<SimCloud>) -> Option<()> {
+    let create = create(alloc)?;
+    if !is_taken(book, create) {
+        return None;
+    }
+    turn_times_plainly(alloc, book, 6);
+    Some(())
+}
+
+// Whether the stack fits this plan.
+fn fits_plan(alloc: Global, entries: &[Entry], asked: &Plan) -> Option<bool> {
+    let name = stack_name(alloc)?;
+    match fits(alloc, entries, &name, asked) {
+        Ok(is) => Some(is),
+        Err(_) => None,
     }
 }
 
-// Whether the stack fits this plan, once it was made by that one; none where there was no memory.
-fn fits_made(
-    alloc: Global,
-    made: Plan,
-    asked: &Plan,
-    name: &StackName,
-) -> Result<Option<bool>, Fail> {
-    let its = name.copy()?;
-    let cloud = empty_cloud(alloc)?;
-    match Book::recover(alloc, cloud, 1) {
-        Opened::Book(mut book) => {
-            make(alloc, &mut book, its, made);
-            let read = fits(alloc, book.entries(), name, asked);
-            let _ = book.give_back();
-            Ok(read.ok())
-        }
-        Opened::Disagree(_, _) | Opened::CloudFault(_) | Opened::Memory(_) => Ok(None),
-    }
+// Whether the stack fits the plan of these properties.
+fn fits_asked(alloc: Global, entries: &[Entry], props: &str) -> Option<bool> {
+    let asked = plan(alloc, props)?;
+    fits_plan(alloc, entries, &asked)
+}
+
+// The same once it was made by that with the function.
+fn fits_made(alloc: Global, book: &mut Book<SimCloud>, props: &str) -> Option<bool> {
+    make(alloc, book)?;
+    fits_asked(alloc, book.entries(), props)
+}
+
+// The same of a new book; none where there was no memory.
+fn fits_seen(alloc: Global, props: &str) -> Option<bool> {
+    let mut book = book_of_one(alloc)?;
+    let fits = fits_made(alloc, &mut book, props);
+    let _ = book.give_back();
+    fits
 }
 
 #[test]
 fn what_a_function_comes_to_fits(rt: HostRuntime) -> Result<(), Fail> {
-    let alloc = rt.alloc();
-    let name = StackName::read(alloc, b"s")?.ok_or("a name")?;
     let cases = [
         ("as it is written", JOINED, true),
         ("what it comes to", WRITTEN, true),
@@ -66,10 +81,7 @@ fn what_a_function_comes_to_fits(rt: HostRuntime) -> Result<(), Fail> {
         ("a fault", FAULTY, false),
     ];
     for &(case, props, is) in &cases {
-        let made = plan(alloc, JOINED)?;
-        let asked = plan(alloc, props)?;
-        let seen = fits_made(alloc, made, &asked, &name)?;
-        assert_eq!(rt; seen, Some(is), "{}", case);
+        assert_eq!(rt; fits_seen(rt.alloc(), props), Some(is), "{}", case);
     }
     Ok(())
 }

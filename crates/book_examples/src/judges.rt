@@ -2,34 +2,43 @@
 //! judge of the kind has the same or others.
 ghost use Rattle.type_catalog.specs.Changes.{ChangeOf};
 
-use crate::plans::{KIND, item_of, plan_of, properties_of};
-use crate::seen::{Case, cloud, seen_over};
-use book::StackCommand;
-use heat_plan::{Plan, Properties, StackName};
+use crate::plans::{KIND, create_with, plan_with, properties_of, update_with};
+use crate::seen::{Case, case_of, opened, run};
+use book::{Book, StackCommand};
+use heat_plan::{Plan, Properties};
 use heat_value::{Seq, Text};
 use hot_registry::{Change, Judge, KindDef, PropDef, Registry};
+use provider::Provider;
 use std::alloc::{AllocError, Global};
 use std::test::Fail;
 use type_catalog::{Effect, change_of};
 
-// The plan of an item of this size, for which this property changes in place.
-fn plan(alloc: Global, soft: &str, size: &str) -> Result<Plan, Fail> {
-    let props = properties_of(alloc, size)?;
+// The properties that change in place: this one.
+fn softs_of(alloc: Global, soft: &str) -> Result<Seq<Text>, AllocError> {
     let mut softs = Seq::new(alloc);
     softs.push(Text::from_str(alloc, soft)?)?;
-    Ok(plan_of(alloc, item_of(alloc, softs, props)?)?)
+    Ok(softs)
 }
 
-// A create of a resource, and its update to another size.
-fn commands(alloc: Global, soft: &str) -> Result<Vec<StackCommand>, Fail> {
-    let mut all = Vec::new(alloc);
-    let name = StackName::read(alloc, b"s")?.ok_or("a name")?;
-    let first = plan(alloc, soft, "{\"size\":1}")?;
-    all.push(StackCommand::Create(name, first, false))?;
-    let name = StackName::read(alloc, b"s")?.ok_or("a name")?;
-    let second = plan(alloc, soft, "{\"size\":2}")?;
-    all.push(StackCommand::Update(name, second, false))?;
-    Ok(all)
+// The plan of an item of this size, for which this property changes in place.
+fn plan(alloc: Global, soft: &str, size: &str) -> Option<Plan> {
+    let props = properties_of(alloc, size)?;
+    match softs_of(alloc, soft) {
+        Ok(softs) => plan_with(alloc, softs, props),
+        Err(_) => None,
+    }
+}
+
+// A create of a resource.
+fn create(alloc: Global, soft: &str) -> Option<StackCommand> {
+    let plan = plan(alloc, soft, "{\"size\":1}")?;
+    create_with(alloc, plan)
+}
+
+// Its update to another size.
+fn update(alloc: Global, soft: &str) -> Option<StackCommand> {
+    let plan = plan(alloc, soft, "{\"size\":2}")?;
+    update_with(alloc, plan)
 }
 
 // The kind with this one property, which changes in place.
@@ -47,8 +56,60 @@ fn kind_of(alloc: Global, soft: &str) -> Result<KindDef, AllocError> {
     })
 }
 
-// What is seen of the update, where one property changes in place for the plan, and one for the judge.
-fn seen(alloc: Global, own: &str, judged: &str) -> Result<Option<Case>, Fail> {
+// The create with all turns behind it.
+fn run_create<P: Provider>(
+    alloc: Global,
+    book: &mut Book<P>,
+    registry: &Registry,
+    soft: &str,
+) -> Option<usize> {
+    let create = create(alloc, soft)?;
+    run(book, registry, create)
+}
+
+// The update with all turns behind it.
+fn run_update<P: Provider>(
+    alloc: Global,
+    book: &mut Book<P>,
+    registry: &Registry,
+    soft: &str,
+) -> Option<usize> {
+    let update = update(alloc, soft)?;
+    run(book, registry, update)
+}
+
+// What is seen of both, where one property changes in place for the plan.
+fn seen_in<P: Provider>(
+    alloc: Global,
+    book: &mut Book<P>,
+    registry: &Registry,
+    own: &str,
+) -> Option<Case> {
+    let first = run_create(alloc, book, registry, own)?;
+    let second = run_update(alloc, book, registry, own)?;
+    case_of(alloc, book, first.saturating_add(second))
+}
+
+// The same of a new book.
+fn seen_over(alloc: Global, registry: &Registry, own: &str) -> Option<Case> {
+    let mut book = opened(alloc, 2, b"0000000", 1)?;
+    let seen = seen_in(alloc, &mut book, registry, own);
+    let _ = book.give_back();
+    seen
+}
+
+// The same over this judge.
+fn seen_by(alloc: Global, own: &str, judge: Judge) -> Result<Option<Case>, AllocError> {
+    let mut judges = Seq::new(alloc);
+    judges.push(judge)?;
+    match Registry::new(judges, Seq::new(alloc)) {
+        Some(registry) => Ok(seen_over(alloc, &registry, own)),
+        None => Ok(None),
+    }
+}
+
+// The same over the judge for which one property changes in place; none where there was no memory.
+fn seen(alloc: Global, own: &str, judged: &str) -> Result<Option<Case>, AllocError> {
     let kind = kind_of(alloc, judged)?;
     let softs = kind.softs()?;
     let change: Change = Box::new(
@@ -57,15 +118,7 @@ fn seen(alloc: Global, own: &str, judged: &str) -> Result<Option<Case>, Fail> {
             ensures { ∥ ChangeOf softs old.now new.now result ∥₁ }
         { change_of(softs.as_slice(), old, new) },
     )?;
-    let mut judges = Seq::new(alloc);
-    judges.push(Judge::new(kind, change))?;
-    match Registry::new(judges, Seq::new(alloc)) {
-        Some(registry) => {
-            let cloud = cloud(alloc, 2, b"0000000")?;
-            Ok(seen_over(alloc, &registry, cloud, commands(alloc, own)?))
-        }
-        None => Ok(None),
-    }
+    seen_by(alloc, own, Judge::new(kind, change))
 }
 
 // What is told of an update in place, and of a replacement.

@@ -6,6 +6,8 @@
 #[cfg(test)]
 mod books;
 #[cfg(test)]
+mod calls;
+#[cfg(test)]
 mod fences;
 #[cfg(test)]
 mod fits;

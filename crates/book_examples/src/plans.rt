@@ -1,36 +1,51 @@
-//! The plan of one resource, and commands with it.
-ghost use Rattle.std.specs.Prelude.{◌≡◌, [], IfOk};
+//! The plan of one resource, and commands with it; none of them where there is no memory.
+ghost use Rattle.std.specs.Prelude.{◌≡◌, [], IfSome};
 
 use book::StackCommand;
 use heat_plan::{Item, Kind, Needs, Parameters, Plan, Policy, Properties, ResName, StackName};
 use heat_value::{Seq, Text, Value};
 use std::alloc::{AllocError, Global};
-use std::test::Fail;
 
 /// The kind of the one resource.
 pub(crate) const KIND: &str = "Test::Box";
 
 /// The properties of a text.
-pub(crate) fn properties_of(alloc: Global, text: &str) -> Result<Properties, Fail> {
+pub(crate) fn properties_of(alloc: Global, text: &str) -> Option<Properties> {
     match Value::read(alloc, text.as_bytes()) {
-        Ok(Value::Fields(props)) => Ok(Properties::from_props(props).ok_or("shallow")?),
-        _ => Err(Fail::from("no map")),
+        Ok(Value::Fields(props)) => Properties::from_props(props),
+        _ => None,
+    }
+}
+
+// The kind, of which these properties change in place.
+fn kind_of(alloc: Global, soft: Seq<Text>) -> Option<Kind> {
+    match Text::from_str(alloc, KIND) {
+        Ok(name) => Some(Kind {
+            name,
+            attrs: Seq::new(alloc),
+            soft,
+        }),
+        Err(_) => None,
+    }
+}
+
+// The resource's name.
+fn res_name(alloc: Global) -> Option<ResName> {
+    match ResName::read(alloc, b"a") {
+        Ok(name) => name,
+        Err(_) => None,
     }
 }
 
 /// An item that needs nothing, of which these properties change in place.
-pub(crate) fn item_of(alloc: Global, soft: Seq<Text>, props: Properties) -> Result<Item, Fail>
-    ensures { IfOk result (λ i. i.needs ≡ []) }
+pub(crate) fn item_of(alloc: Global, soft: Seq<Text>, props: Properties) -> Option<Item>
+    ensures { IfSome result (λ i. i.needs ≡ []) }
 {
-    let name = ResName::read(alloc, b"a")?.ok_or("a name")?;
-    let kind = Text::from_str(alloc, KIND)?;
-    Ok(Item {
+    let kind = kind_of(alloc, soft)?;
+    let name = res_name(alloc)?;
+    Some(Item {
         name,
-        kind: Kind {
-            name: kind,
-            attrs: Seq::new(alloc),
-            soft,
-        },
+        kind,
         props,
         needs: Needs::new(alloc),
         policy: Policy::Delete,
@@ -53,20 +68,47 @@ pub(crate) fn plan_of(alloc: Global, item: Item) -> Result<Plan, AllocError>
     ))
 }
 
+/// The plan of an item of which these properties change in place.
+pub(crate) fn plan_with(alloc: Global, soft: Seq<Text>, props: Properties) -> Option<Plan> {
+    let item = item_of(alloc, soft, props)?;
+    match plan_of(alloc, item) {
+        Ok(plan) => Some(plan),
+        Err(_) => None,
+    }
+}
+
 // The plan of an item without properties.
-fn bare_plan(alloc: Global) -> Result<Plan, Fail> {
-    let item = item_of(alloc, Seq::new(alloc), Properties::new(alloc))?;
-    Ok(plan_of(alloc, item)?)
+fn bare_plan(alloc: Global) -> Option<Plan> {
+    plan_with(alloc, Seq::new(alloc), Properties::new(alloc))
+}
+
+/// The stack's name.
+pub(crate) fn stack_name(alloc: Global) -> Option<StackName> {
+    match StackName::read(alloc, b"s") {
+        Ok(name) => name,
+        Err(_) => None,
+    }
+}
+
+/// The create of the stack with this plan.
+pub(crate) fn create_with(alloc: Global, plan: Plan) -> Option<StackCommand> {
+    let name = stack_name(alloc)?;
+    Some(StackCommand::Create(name, plan, false))
+}
+
+/// Its update to this plan.
+pub(crate) fn update_with(alloc: Global, plan: Plan) -> Option<StackCommand> {
+    let name = stack_name(alloc)?;
+    Some(StackCommand::Update(name, plan, false))
 }
 
 /// The command of a letter: `c` creates a stack with one resource, `u` updates it to the same, `d`
 /// deletes it, `x` cancels.
-pub(crate) fn command(alloc: Global, letter: u8) -> Result<StackCommand, Fail> {
-    let name = StackName::read(alloc, b"s")?.ok_or("a name")?;
+pub(crate) fn command(alloc: Global, letter: u8) -> Option<StackCommand> {
     match letter {
-        b'c' => Ok(StackCommand::Create(name, bare_plan(alloc)?, false)),
-        b'u' => Ok(StackCommand::Update(name, bare_plan(alloc)?, false)),
-        b'd' => Ok(StackCommand::Delete(name)),
-        _ => Ok(StackCommand::Cancel(name)),
+        b'c' => create_with(alloc, bare_plan(alloc)?),
+        b'u' => update_with(alloc, bare_plan(alloc)?),
+        b'd' => Some(StackCommand::Delete(stack_name(alloc)?)),
+        _ => Some(StackCommand::Cancel(stack_name(alloc)?)),
     }
 }

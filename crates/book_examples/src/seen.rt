@@ -1,4 +1,7 @@
 //! What is seen of commands over a scripted cloud: how many turns are made, and which entries tell of them.
+ghost use Rattle.std.specs.Prelude.{◌≤◌};
+
+use crate::calls::{is_taken, turn_first};
 use crate::plans::KIND;
 use book::{Book, Opened, StackCommand, Turn};
 use core_state::{Entry, What, Why};
@@ -19,8 +22,8 @@ fn scripted(alloc: Global, letter: u8) -> Result<ScriptedAnswer, AllocError> {
     }
 }
 
-/// A cloud that takes at most so many resources of the kind, and answers so.
-pub(crate) fn cloud(alloc: Global, most: u32, letters: &[u8]) -> Result<ScriptedCloud, AllocError> {
+// A cloud that takes at most so many resources of the kind, and answers so.
+fn cloud(alloc: Global, most: u32, letters: &[u8]) -> Result<ScriptedCloud, AllocError> {
     let mut answers = Seq::new(alloc);
     for letter in letters {
         answers.push(scripted(alloc, *letter)?)?;
@@ -31,16 +34,6 @@ pub(crate) fn cloud(alloc: Global, most: u32, letters: &[u8]) -> Result<Scripted
         most,
     })?;
     Ok(ScriptedCloud::new(alloc, quotas, answers))
-}
-
-/// One turn of the first live engine; none where no engine is live.
-pub(crate) fn turn_first<P: Provider>(book: &mut Book<P>, registry: &Registry) -> Option<Turn> {
-    let e = *book.live().first()?;
-    if e.get() < book.state().next().engine.get() {
-        Some(book.turn(e, registry))
-    } else {
-        None
-    }
 }
 
 // How many turns are made until none is.
@@ -98,44 +91,62 @@ pub(crate) struct Case {
     pub(crate) idle: bool,
 }
 
-// What is seen of commands with all turns behind each; none where there is no memory.
-fn seen(
-    alloc: Global,
+/// A command with all turns behind it; how many are made, none where it is refused.
+pub(crate) fn run<P: Provider>(
+    book: &mut Book<P>,
     registry: &Registry,
-    book: Book<ScriptedCloud>,
-    commands: Vec<StackCommand>,
-) -> Option<Case> {
-    let mut book = book;
-    let mut made = 0_usize;
-    let mut all = true;
-    for command in commands {
-        all = all && book.command(command).is_ok();
-        made = made.saturating_add(turns(&mut book, registry));
-    }
-    let idle = book.is_idle();
-    let told = letters(alloc, book.entries());
-    let _ = book.give_back();
-    match told {
-        Ok(told) if all => Some(Case {
-            turns: made,
-            told,
-            idle,
-        }),
-        _ => None,
+    command: StackCommand,
+) -> Option<usize> {
+    if is_taken(book, command) {
+        Some(turns(book, registry))
+    } else {
+        None
     }
 }
 
-/// The same over a cloud.
-pub(crate) fn seen_over(
-    alloc: Global,
-    registry: &Registry,
-    cloud: ScriptedCloud,
-    commands: Vec<StackCommand>,
-) -> Option<Case> {
-    match Book::recover(alloc, cloud, 1) {
-        Opened::Book(book) => seen(alloc, registry, book, commands),
+/// What is seen of a book behind so many turns; none where there is no memory.
+pub(crate) fn case_of<P: Provider>(alloc: Global, book: &Book<P>, turns: usize) -> Option<Case> {
+    match letters(alloc, book.entries()) {
+        Ok(told) => Some(Case {
+            turns,
+            told,
+            idle: book.is_idle(),
+        }),
+        Err(_) => None,
+    }
+}
+
+// The book, if one was opened.
+fn book_of(opened: Opened<ScriptedCloud>) -> Option<Book<ScriptedCloud>> {
+    match opened {
+        Opened::Book(book) => Some(book),
         Opened::Disagree(_cloud, _token) => None,
         Opened::CloudFault(_cloud) => None,
         Opened::Memory(_cloud) => None,
+    }
+}
+
+// A book of so many engines over a cloud.
+fn book_over(alloc: Global, cloud: ScriptedCloud, workers: u8) -> Option<Book<ScriptedCloud>>
+    requires some { 1 ≤ workers }
+    requires few { workers ≤ 64 }
+{
+    book_of(Book::recover(alloc, cloud, workers))
+}
+
+/// A book of so many engines over a cloud that takes at most so many resources, and answers so; none
+/// where there is no memory.
+pub(crate) fn opened(
+    alloc: Global,
+    most: u32,
+    letters: &[u8],
+    workers: u8,
+) -> Option<Book<ScriptedCloud>>
+    requires some { 1 ≤ workers }
+    requires few { workers ≤ 64 }
+{
+    match cloud(alloc, most, letters) {
+        Ok(cloud) => book_over(alloc, cloud, workers),
+        Err(_) => None,
     }
 }

@@ -1,72 +1,55 @@
 //! What becomes of a stopped engine's job.
-ghost use Rattle.std.specs.Prelude.{◌↔◌, ◌<◌, IsTrue};
 
-use crate::plans::command;
-use crate::seen::cloud;
-use book::{Book, Opened, StackCommand, Turn};
+use crate::calls::{first_of, is_letter_taken, is_stopped, turn_plainly};
+use crate::seen::opened;
+use book::{Book, Turn};
 use heat_plan::EngineNo;
-use hot_registry::Registry;
 use provider::Provider;
 use scripted_cloud::ScriptedCloud;
 use std::alloc::Global;
 use std::test::Fail;
 
-/// Whether an engine's number was drawn.
-pub(crate) fn is_drawn<P: Provider>(book: &Book<P>, e: EngineNo) -> bool
-    ensures { IsTrue result ↔ (e < book.now.state.next.engine) }
-{
-    e.get() < book.state().next().engine.get()
-}
-
-/// One turn of an engine, with nothing registered; none where its number wasn't drawn.
-pub(crate) fn turn<P: Provider>(alloc: Global, book: &mut Book<P>, e: EngineNo) -> Option<Turn> {
-    if is_drawn(book, e) {
-        Some(book.turn(e, &Registry::empty(alloc)))
-    } else {
-        None
-    }
-}
-
 /// A book of two engines over a cloud that works.
-pub(crate) fn opened(alloc: Global) -> Result<Option<Book<ScriptedCloud>>, Fail> {
-    let cloud = cloud(alloc, 1, b"0000000000")?;
-    match Book::recover(alloc, cloud, 2) {
-        Opened::Book(book) => Ok(Some(book)),
-        Opened::Disagree(_cloud, _token) => Ok(None),
-        Opened::CloudFault(_cloud) => Ok(None),
-        Opened::Memory(_cloud) => Ok(None),
-    }
+pub(crate) fn book_of_two(alloc: Global) -> Option<Book<ScriptedCloud>> {
+    opened(alloc, 1, b"0000000000", 2)
 }
 
 // How many steps an engine makes until none is made, twenty at most.
 fn steps<P: Provider>(alloc: Global, book: &mut Book<P>, e: EngineNo) -> usize {
     for made in 0..20 {
-        if turn(alloc, book, e) != Some(Turn::Stepped) {
+        if turn_plainly(alloc, book, e) != Some(Turn::Stepped) {
             return made;
         }
     }
     20
 }
 
-// The first engine makes so many turns and is stopped; how many the second then makes, and whether the
-// book is idle behind them.
+// So many turns of an engine; none where its number wasn't drawn.
+fn turns<P: Provider>(alloc: Global, book: &mut Book<P>, e: EngineNo, times: usize) -> Option<()> {
+    for _ in 0..times {
+        turn_plainly(alloc, book, e)?;
+    }
+    Some(())
+}
+
+// A stack is created, the first engine makes so many turns and is stopped.
+fn stop_behind<P: Provider>(alloc: Global, book: &mut Book<P>, first: usize) -> Option<()> {
+    let e = first_of(book)?;
+    if !is_letter_taken(alloc, book, b'c') {
+        return None;
+    }
+    turns(alloc, book, e, first)?;
+    if is_stopped(book, e) { Some(()) } else { None }
+}
+
+// The same; how many turns the second engine then makes, and whether the book is idle behind them.
 fn take_over<P: Provider>(
     alloc: Global,
     book: &mut Book<P>,
-    create: StackCommand,
     first: usize,
 ) -> Option<(usize, bool)> {
-    let e = *book.live().first()?;
     let other = *book.live().get(1)?;
-    if book.command(create).is_err() {
-        return None;
-    }
-    for _ in 0..first {
-        turn(alloc, book, e)?;
-    }
-    if book.stop(e).is_err() {
-        return None;
-    }
+    stop_behind(alloc, book, first)?;
     let made = steps(alloc, book, other);
     Some((made, book.is_idle()))
 }
@@ -76,22 +59,18 @@ fn take_over<P: Provider>(
 const STOPS: &[(usize, usize)] = &[(0, 5), (1, 6), (2, 6), (3, 6), (4, 4), (5, 0)];
 
 // What is seen of one stop; none where there was no memory.
-fn seen(alloc: Global, first: usize) -> Result<Option<(usize, bool)>, Fail> {
-    let create = command(alloc, b'c')?;
-    let Some(book) = opened(alloc)? else {
-        return Ok(None);
-    };
-    let mut book = book;
-    let seen = take_over(alloc, &mut book, create, first);
+fn seen(alloc: Global, first: usize) -> Option<(usize, bool)> {
+    let mut book = book_of_two(alloc)?;
+    let seen = take_over(alloc, &mut book, first);
     let _ = book.give_back();
-    Ok(seen)
+    seen
 }
 
 #[test]
 fn a_stopped_engine_s_job_is_taken_over(rt: HostRuntime) -> Result<(), Fail> {
     for (first, second) in STOPS {
         assert_eq!(rt;
-            seen(rt.alloc(), *first)?,
+            seen(rt.alloc(), *first),
             Some((*second, true)),
             "{}",
             first
