@@ -23,7 +23,7 @@ fn plan_words(alloc: Global, plan: &Plan) -> Result<String, AllocError> {
         words.push_str(param.key.as_str())?;
         words.push_str("! ")?;
     }
-    for file in plan.files() {
+    for file in plan.files().as_slice() {
         words.push_str(file.name.as_str())?;
         words.push_str("@ ")?;
     }

@@ -61,8 +61,8 @@ fn add_plan(alloc: Global, plan: &Plan, words: &mut String) -> Result<(), AllocE
         add_item(item, words)?;
     }
     add_outputs(alloc, plan.outputs(), words)?;
-    add_conds(alloc, plan.conds(), words)?;
-    add_files(alloc, plan.files(), words)?;
+    add_conds(alloc, plan.conds().as_slice(), words)?;
+    add_files(alloc, plan.files().as_slice(), words)?;
     add_absent(plan.absent(), words)
 }
 

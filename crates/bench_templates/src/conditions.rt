@@ -1,5 +1,5 @@
 //! Fifty named conditions: every other one reads a parameter and holds, and each of the others denies the one
-//! before it.
+//! before it. And a chain of conditions, each of which denies the one before it.
 
 use anyhow::Result;
 use std::alloc::Global;
@@ -28,5 +28,15 @@ fn push_condition(alloc: Global, text: &mut String, i: u32) -> Result<()> {
     text.push_str(format!(in alloc;
         "\"c{i:02}\":{{\"equals\":[{{\"get_param\":\"p{read:02}\"}},\"debian-12\"]}}"
     )?.as_str())?;
+    Ok(())
+}
+
+/// Puts a chain of so many conditions behind the text, `c000000` and on.
+pub fn push_chain(alloc: Global, text: &mut String, size: u32) -> Result<()> {
+    text.push_str("\"c000000\":{\"equals\":[1,1]}")?;
+    for i in 1..size {
+        let denied = i - 1;
+        text.push_str(format!(in alloc; ",\"c{i:06}\":{{\"not\":\"c{denied:06}\"}}")?.as_str())?;
+    }
     Ok(())
 }

@@ -1,6 +1,6 @@
 //! Reads and binds a template of so many resources, of about a kilobyte each, for the clock outside. The
-//! words are how far to go (`text`, `value`, `template`, `bind` or `admit`) and how many resources. Prints what
-//! came out, which is the same at each run.
+//! words are how far to go (`text`, `value`, `template`, `bind` or `admit`) and how many resources; or `chain`, for
+//! the plan of a template of a chain of conditions, and how many. Prints what came out, which is the same at each run.
 #![tactic(auto)]
 
 mod conditions;
@@ -16,10 +16,10 @@ fn main(rt: HostRuntime) -> Result<()> {
     let mut words = env::args(&rt)?;
     let _program = words.next();
     let Some(what) = words.next() else {
-        bail!("text, value, template, bind or admit");
+        bail!("text, value, template, bind, admit or chain");
     };
     let Some(size) = words.next() else {
-        bail!("how many resources");
+        bail!("how many");
     };
     let work = work_of(what.as_str())?;
     let size = size.as_str().parse::<u32>()?;
@@ -34,6 +34,7 @@ fn work_of(word: &str) -> Result<Work> {
         "template" => Ok(Work::Template),
         "bind" => Ok(Work::Bind),
         "admit" => Ok(Work::Admit),
-        _ => bail!("text, value, template, bind or admit"),
+        "chain" => Ok(Work::Chain),
+        _ => bail!("text, value, template, bind, admit or chain"),
     }
 }

@@ -5,7 +5,7 @@ ghost use Rattle.heat_value.specs.Meaning.{data_of};
 ghost use Rattle.hot_registry.specs.Names.{is_listed};
 ghost use Rattle.hot_registry.specs.Shipped.{flavor_test as the_flavor_test};
 
-use crate::conditions::push_conditions;
+use crate::conditions::{push_chain, push_conditions};
 use crate::parameters::{given, push_parameters};
 use crate::resources::{KINDS, push_resources};
 use anyhow::{Result, bail};
@@ -18,7 +18,7 @@ use hot_registry::{Ask, Custom, Registry, flavor_test, is_flavor};
 use hot_tree::Template;
 use std::alloc::Global;
 
-/// Each word does what the one before it does, and one thing more.
+/// Each word but the last does what the one before it does, and one thing more.
 #[derive(Clone, Copy, Debug, PartialEq, Eq)]
 pub enum Work {
     /// Makes the text.
@@ -31,11 +31,16 @@ pub enum Work {
     Bind,
     /// Makes the template's plan.
     Admit,
+    /// Makes the plan of a template of a chain of so many conditions, and no resource.
+    Chain,
 }
 
-/// How many bytes, sections, resources, parameters or items came out.
+/// How many bytes, sections, resources, parameters, items or conditions came out.
 pub fn count(alloc: Global, work: Work, size: u32) -> Result<usize> {
-    let text = text_of(alloc, size)?;
+    let text = match work {
+        Work::Chain => chain_of(alloc, size)?,
+        _ => text_of(alloc, size)?,
+    };
     if work == Work::Text {
         return Ok(text.len());
     }
@@ -66,6 +71,17 @@ fn text_of(alloc: Global, size: u32) -> Result<String> {
     Ok(text)
 }
 
+// A template of a chain of conditions and the hundred parameters as text.
+fn chain_of(alloc: Global, size: u32) -> Result<String> {
+    let mut text = String::new(alloc);
+    text.push_str("{\"conditions\":{")?;
+    push_chain(alloc, &mut text, size)?;
+    text.push_str("},\"heat_template_version\":\"2018-08-31\",\"parameters\":{")?;
+    push_parameters(alloc, &mut text)?;
+    text.push_str("}}")?;
+    Ok(text)
+}
+
 fn read(alloc: Global, text: &str) -> Result<Value>
     ensures { IfOk result (λ v. depth (data_of v) ≤ 64) }
 {
@@ -85,7 +101,7 @@ fn taken(alloc: Global, value: &Value) -> Result<Template>
     }
 }
 
-// How many parameters or items came out, where the test nova.flavor is registered, and no kind.
+// How many parameters, items or conditions came out, where the test nova.flavor is registered, and no kind.
 fn bound_on(alloc: Global, work: Work, template: &Template) -> Result<usize>
     requires { members_depth template.now ≤ 64 }
 {
@@ -104,7 +120,11 @@ fn bound_on(alloc: Global, work: Work, template: &Template) -> Result<usize>
     if work == Work::Bind {
         return Ok(bound.params.as_slice().len());
     }
-    Ok(admitted(alloc, template, &bound, &registry)?.items().len())
+    let plan = admitted(alloc, template, &bound, &registry)?;
+    if work == Work::Chain {
+        return Ok(plan.conds().as_slice().len());
+    }
+    Ok(plan.items().len())
 }
 
 // What the parameters are bound to.

@@ -17,4 +17,3 @@ pub mod Beginnings
 pub mod Fences
 pub mod Unhalted
 pub mod LostAlone
-pub mod OneItem

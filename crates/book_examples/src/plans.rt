@@ -2,7 +2,9 @@
 ghost use Rattle.std.specs.Prelude.{◌≡◌, [], IfSome};
 
 use book::StackCommand;
-use heat_plan::{Item, Kind, Needs, Parameters, Plan, Policy, Properties, ResName, StackName};
+use heat_plan::{
+    Conditions, Files, Item, Kind, Needs, Parameters, Plan, Policy, Properties, ResName, StackName,
+};
 use heat_value::{Seq, Text, Value};
 use std::alloc::{AllocError, Global};
 
@@ -62,8 +64,8 @@ pub(crate) fn plan_of(alloc: Global, item: Item) -> Result<Plan, AllocError>
         items,
         Seq::new(alloc),
         Parameters::new(alloc),
-        Seq::new(alloc),
-        Seq::new(alloc),
+        Conditions::new(alloc),
+        Files::new(alloc),
         Seq::new(alloc),
     ))
 }

@@ -163,8 +163,11 @@ const WRITTEN: &[(&str, &str)] = &[
         r#"{"alive":[],"broken":{"a":"y","b":"x"},"delays":{"K":1},"quotas":{"A":0,"K":2}}"#,
     ),
     (
-        r#"{"alive":[{"token":"s/a/2","ready":true,"props":{"b":[1,null],"a":{}},"left":3,"leaving":true,"kind":"K","id":"\u0069","attrs":{"x":"y"}}]}"#,
-        r#"{"alive":[{"attrs":{"x":"y"},"id":"i","kind":"K","leaving":true,"left":3,"props":{"a":{},"b":[1,null]},"ready":true,"token":"s/a/2"}],"broken":{},"delays":{},"quotas":{}}"#,
+        "{\"alive\":[{\"token\":\"s/a/2\",\"ready\":true,\"props\":{\"b\":[1,null],\"a\":{}},\
+        \"left\":3,\"leaving\":true,\"kind\":\"K\",\"id\":\"\\u0069\",\"attrs\":{\"x\":\"y\"}}]}",
+        "{\"alive\":[{\"attrs\":{\"x\":\"y\"},\"id\":\"i\",\"kind\":\"K\",\"leaving\":true,\
+        \"left\":3,\"props\":{\"a\":{},\"b\":[1,null]},\"ready\":true,\"token\":\"s/a/2\"}],\
+        \"broken\":{},\"delays\":{},\"quotas\":{}}",
     ),
 ];
 
@@ -200,7 +203,8 @@ fn update(cloud: &mut SimCloud, token: &Token, kind: &Kind, props: &Properties) 
 
 // A file with one resource, and how it is written once it was asked for this size.
 const HELD: &str =
-    r#"{"alive":[{"attrs":{"size":"of the file"},"id":"i","kind":"Test::Box","leaving":false,"left":0,"props":{"size":1},"ready":true,"token":"s/a/7"}]}"#;
+    "{\"alive\":[{\"attrs\":{\"size\":\"of the file\"},\"id\":\"i\",\"kind\":\"Test::Box\",\
+    \"leaving\":false,\"left\":0,\"props\":{\"size\":1},\"ready\":true,\"token\":\"s/a/7\"}]}";
 
 fn asked(alloc: Global, size: i64) -> Result<Text, Fail> {
     let token = Token::read(alloc, b"s/a/7")?.ok_or("a token")?;
@@ -225,10 +229,14 @@ fn text_behind(
 }
 
 const KEPT: &str =
-    r#"{"alive":[{"attrs":{"size":"of the file"},"id":"i","kind":"Test::Box","leaving":false,"left":0,"props":{"size":1},"ready":true,"token":"s/a/7"}],"broken":{},"delays":{},"quotas":{}}"#;
+    "{\"alive\":[{\"attrs\":{\"size\":\"of the file\"},\"id\":\"i\",\"kind\":\"Test::Box\",\
+    \"leaving\":false,\"left\":0,\"props\":{\"size\":1},\"ready\":true,\"token\":\"s/a/7\"}],\
+    \"broken\":{},\"delays\":{},\"quotas\":{}}";
 
 const ANEW: &str =
-    r#"{"alive":[{"attrs":{"size":2},"id":"i","kind":"Test::Box","leaving":false,"left":0,"props":{"size":2},"ready":false,"token":"s/a/7"}],"broken":{},"delays":{},"quotas":{}}"#;
+    "{\"alive\":[{\"attrs\":{\"size\":2},\"id\":\"i\",\"kind\":\"Test::Box\",\"leaving\":false,\
+    \"left\":0,\"props\":{\"size\":2},\"ready\":false,\"token\":\"s/a/7\"}],\"broken\":{},\
+    \"delays\":{},\"quotas\":{}}";
 
 #[test]
 fn the_files_attributes_stay_until_other_properties(rt: HostRuntime) -> Result<(), Fail> {

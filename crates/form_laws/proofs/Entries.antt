@@ -2,7 +2,7 @@
 use Rattle.std.proofs.Common.{◌≡◌, List, [], ◌∷◌, ℕ, Bool, true, false, Option, Some, None, refl, subst}
 use Rattle.std.proofs.Common.{codes, is_some, not, map, if◌then◌else◌}
 use Rattle.std.specs.List.{AllByRecursion}
-use Rattle.heat_plan.specs.declared.plan.Condition.{Condition}
+use Rattle.heat_plan.specs.declared.conditions.Condition.{Condition}
 use Rattle.heat_plan.specs.declared.plan.Output.{Output}
 use Rattle.heat_value.specs.Data.{Data, null, fields, Members, no_members, member, lookup}
 use Rattle.hot_admit.specs.Conds.{holds}

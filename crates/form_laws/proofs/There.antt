@@ -2,15 +2,15 @@
 use Rattle.std.proofs.Common.{◌≡◌, ◌∙◌, List, [], ◌∷◌, ℕ, Bool, true, false, Option, Some, None, refl, subst, ap}
 use Rattle.std.proofs.Common.{bytes_eq, codes, cond, find, is_some, option_map, option_and_then, if◌then◌else◌}
 use Rattle.std.specs.Option.{option_or}
-use Rattle.heat_plan.specs.declared.plan.Condition.{Condition}
-use Rattle.heat_plan.specs.declared.plan.File.{File}
+use Rattle.heat_plan.specs.declared.conditions.Condition.{Condition}
+use Rattle.heat_plan.specs.declared.files.File.{File}
 use Rattle.heat_value.specs.Data.{Data, Members, no_members, member, lookup, Rises}
 use Rattle.heat_value.specs.declared.path.Step.{Step}
 use Rattle.heat_value.specs.declared.path.Step.TheVariants.{Key}
 use Rattle.hot_admit.specs.Conds.{HaveValues}
 use Rattle.hot_admit.specs.Plans.{files_of}
 use Rattle.hot_admit.specs.Resources.{conditions_in}
-use Rattle.hot_admit.specs.Valuing.{value_among}
+use Rattle.heat_plan.specs.Named.{condition_value}
 use Rattle.hot_admit.proofs.Rounds.{value_is}
 use Rattle.hot_eval.specs.Conditions.{flag_of, values_of, first_unvalued, first_in_section, unless_valued}
 use Rattle.hot_parts.specs.Readings.{text_or, entries}
@@ -43,14 +43,14 @@ module _ (params : Members) (known : List Condition) (name : List ℕ) (d : Data
 -- a text that names a condition names one that has a value
 pub condition_valued : (params template : Members) → HaveValues params template → Rises (conditions_in template)
     → (name : List ℕ) → is_some (lookup name (conditions_in template)) ≡ true
-    → (b : Bool) × (value_among (values_of params (conditions_in template)) name ≡ Some b)
+    → (b : Bool) × (condition_value (values_of params (conditions_in template)) name ≡ Some b)
 condition_valued params template values up name there = by (lookup name (conditions_in template)) refl there
   where
     known : List Condition
     known = values_of params (conditions_in template)
 
     by : (o : Option Data) → lookup name (conditions_in template) ≡ o → is_some o ≡ true
-        → (b : Bool) × (value_among (values_of params (conditions_in template)) name ≡ Some b)
+        → (b : Bool) × (condition_value (values_of params (conditions_in template)) name ≡ Some b)
     by None is there = cc
     by (Some d) is there =
         let flagged = gives_flag params (values_of params (conditions_in template)) name d (conditions_in template)

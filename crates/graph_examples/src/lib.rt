@@ -1,5 +1,5 @@
-//! Small graphs and graphs of traversals, drawn by hand, with their orders, cycles, edges and leaves. There
-//! are tests alone here, of `dep_graph` and `traversal_graph`; nothing stands on this crate.
+//! Small graphs and graphs of traversals, with their orders, cycles, edges and leaves. There are tests alone
+//! here, of `dep_graph` and `traversal_graph`; nothing stands on this crate.
 #![tactic(auto)]
 
 #[cfg(test)]

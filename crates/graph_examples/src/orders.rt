@@ -1,4 +1,4 @@
-//! Small graphs whose orders, cycles and paths were found by hand.
+//! Small graphs with their orders, cycles and paths.
 
 use dep_graph::{Added, Graph, Names, Order};
 use heat_value::Text;

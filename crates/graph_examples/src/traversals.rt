@@ -1,5 +1,4 @@
-//! Graphs that were drawn by hand, the left-out edge of a cyclic clean-up among them. Names are
-//! single letters.
+//! Graphs of traversals, the left-out edge of a cyclic clean-up among them. Names are single letters.
 
 use heat_plan::{Item, Kind, Needs, Policy, Properties, ResName, RowNo, are_in_order, is_rising};
 use heat_value::{Equals, Seq, Text, TryCopy};

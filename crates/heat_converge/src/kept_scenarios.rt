@@ -9,12 +9,14 @@ use std::alloc::{AllocError, Global};
 use std::test::Fail;
 
 // Two boxes.
-const TWO: &str =
-    r#"{"template":{"heat_template_version":"2018-08-31","resources":{"a":{"type":"Test::Box","properties":{}},"b":{"type":"Test::Box","properties":{}}}}}"#;
+const TWO: &str = "{\"template\":{\"heat_template_version\":\"2018-08-31\",\
+    \"resources\":{\"a\":{\"type\":\"Test::Box\",\"properties\":{}},\
+    \"b\":{\"type\":\"Test::Box\",\"properties\":{}}}}}";
 
 // One box of the size 2, and a failure is to be rolled back.
-const SIZE_2_OR_BACK: &str =
-    r#"{"template":{"heat_template_version":"2018-08-31","resources":{"a":{"type":"Test::Box","properties":{"size":2}}}},"disable_rollback":false}"#;
+const SIZE_2_OR_BACK: &str = "{\"template\":{\"heat_template_version\":\"2018-08-31\",\
+    \"resources\":{\"a\":{\"type\":\"Test::Box\",\"properties\":{\"size\":2}}}},\
+    \"disable_rollback\":false}";
 
 // A resource that is there at the opening.
 const STRANGER: &str =

@@ -15,12 +15,14 @@ use std::alloc::{AllocError, Global};
 use std::test::Fail;
 
 // A box that needs another.
-const BOTH: &str =
-    r#"{"template":{"heat_template_version":"2018-08-31","resources":{"a":{"type":"Test::Box","properties":{"size":1}},"b":{"type":"Test::Box","depends_on":"a"}}}}"#;
+const BOTH: &str = "{\"template\":{\"heat_template_version\":\"2018-08-31\",\
+    \"resources\":{\"a\":{\"type\":\"Test::Box\",\"properties\":{\"size\":1}},\
+    \"b\":{\"type\":\"Test::Box\",\"depends_on\":\"a\"}}}}";
 
 // The other way round, with the first replaced.
-const TURNED: &str =
-    r#"{"template":{"heat_template_version":"2018-08-31","resources":{"a":{"type":"Test::Box","properties":{"zone":"y"},"depends_on":"b"},"b":{"type":"Test::Box"}}}}"#;
+const TURNED: &str = "{\"template\":{\"heat_template_version\":\"2018-08-31\",\
+    \"resources\":{\"a\":{\"type\":\"Test::Box\",\"properties\":{\"zone\":\"y\"},\
+    \"depends_on\":\"b\"},\"b\":{\"type\":\"Test::Box\"}}}}";
 
 // Puts what is alive under a token behind what is written.
 fn tell(alloc: Global, text: &mut String, it: &Alive) -> Result<(), AllocError> {

@@ -21,32 +21,40 @@ pub(crate) const NOTHING: &str =
     r#"{"template":{"heat_template_version":"2018-08-31","resources":{}}}"#;
 
 // Two boxes that need each other.
-const NEEDS_EACH_OTHER: &str =
-    r#"{"template":{"heat_template_version":"2018-08-31","resources":{"a":{"type":"Test::Box","depends_on":"b"},"b":{"type":"Test::Box","depends_on":"a"}}}}"#;
+const NEEDS_EACH_OTHER: &str = "{\"template\":{\"heat_template_version\":\"2018-08-31\",\
+    \"resources\":{\"a\":{\"type\":\"Test::Box\",\"depends_on\":\"b\"},\
+    \"b\":{\"type\":\"Test::Box\",\"depends_on\":\"a\"}}}}";
 
 // A box that needs what isn't there.
 const NEEDS_NONE_THERE: &str =
     r#"{"template":{"heat_template_version":"2018-08-31","resources":{"a":{"type":"Test::Box","depends_on":"x"}}}}"#;
 
 // Four boxes in a diamond.
-const DIAMOND: &str =
-    r#"{"template":{"heat_template_version":"2018-08-31","resources":{"a":{"type":"Test::Box"},"b":{"type":"Test::Box","depends_on":"a"},"c":{"type":"Test::Box","depends_on":"a"},"d":{"type":"Test::Box","depends_on":["b","c"]}}}}"#;
+const DIAMOND: &str = "{\"template\":{\"heat_template_version\":\"2018-08-31\",\
+    \"resources\":{\"a\":{\"type\":\"Test::Box\"},\
+    \"b\":{\"type\":\"Test::Box\",\"depends_on\":\"a\"},\
+    \"c\":{\"type\":\"Test::Box\",\"depends_on\":\"a\"},\
+    \"d\":{\"type\":\"Test::Box\",\"depends_on\":[\"b\",\"c\"]}}}}";
 
 // A box in the zone x that needs another.
-const A_NEEDS_B: &str =
-    r#"{"template":{"heat_template_version":"2018-08-31","resources":{"a":{"type":"Test::Box","properties":{"zone":"x"},"depends_on":"b"},"b":{"type":"Test::Box"}}}}"#;
+const A_NEEDS_B: &str = "{\"template\":{\"heat_template_version\":\"2018-08-31\",\
+    \"resources\":{\"a\":{\"type\":\"Test::Box\",\"properties\":{\"zone\":\"x\"},\
+    \"depends_on\":\"b\"},\"b\":{\"type\":\"Test::Box\"}}}}";
 
 // The other needs it, in the zone y.
-const B_NEEDS_A: &str =
-    r#"{"template":{"heat_template_version":"2018-08-31","resources":{"a":{"type":"Test::Box","properties":{"zone":"y"}},"b":{"type":"Test::Box","depends_on":["a"]}}}}"#;
+const B_NEEDS_A: &str = "{\"template\":{\"heat_template_version\":\"2018-08-31\",\
+    \"resources\":{\"a\":{\"type\":\"Test::Box\",\"properties\":{\"zone\":\"y\"}},\
+    \"b\":{\"type\":\"Test::Box\",\"depends_on\":[\"a\"]}}}}";
 
 // One box that is retained.
-const RETAINED: &str =
-    r#"{"template":{"heat_template_version":"2018-08-31","resources":{"a":{"type":"Test::Box","properties":{"size":1},"deletion_policy":"Retain"}}}}"#;
+const RETAINED: &str = "{\"template\":{\"heat_template_version\":\"2018-08-31\",\
+    \"resources\":{\"a\":{\"type\":\"Test::Box\",\"properties\":{\"size\":1},\
+    \"deletion_policy\":\"Retain\"}}}}";
 
 // One box that is deleted, as it says.
-const DELETED: &str =
-    r#"{"template":{"heat_template_version":"2018-08-31","resources":{"a":{"type":"Test::Box","properties":{"size":1},"deletion_policy":"Delete"}}}}"#;
+const DELETED: &str = "{\"template\":{\"heat_template_version\":\"2018-08-31\",\
+    \"resources\":{\"a\":{\"type\":\"Test::Box\",\"properties\":{\"size\":1},\
+    \"deletion_policy\":\"Delete\"}}}}";
 
 /// A name, the words, the script, and what is written.
 pub(crate) const SCENARIOS: &[(&str, &[&str], &[&str], &[&str])] = &[

@@ -1,16 +1,23 @@
 //! Scripts of templates with functions, parameters and outputs, with what is written, as examples/ has them.
 
 // Of four boxes in a diamond each takes what those before it tell.
-const DIAMOND: &str =
-    r#"{"template":{"heat_template_version":"2018-08-31","resources":{"a":{"type":"Test::Box","properties":{"size":1}},"b":{"type":"Test::Box","properties":{"size":{"get_attr":["a","size"]}}},"c":{"type":"Test::Box","properties":{"link":{"get_resource":"a"}}},"d":{"type":"Test::Box","properties":{"link":[{"get_attr":["b","addr"]},{"get_resource":"c"}]}}},"outputs":{"o":{"value":{"get_attr":["d","link"]}}}}}"#;
+const DIAMOND: &str = "{\"template\":{\"heat_template_version\":\"2018-08-31\",\
+    \"resources\":{\"a\":{\"type\":\"Test::Box\",\"properties\":{\"size\":1}},\
+    \"b\":{\"type\":\"Test::Box\",\"properties\":{\"size\":{\"get_attr\":[\"a\",\"size\"]}}},\
+    \"c\":{\"type\":\"Test::Box\",\"properties\":{\"link\":{\"get_resource\":\"a\"}}},\
+    \"d\":{\"type\":\"Test::Box\",\"properties\":{\"link\":[{\"get_attr\":[\"b\",\"addr\"]},\
+    {\"get_resource\":\"c\"}]}}},\"outputs\":{\"o\":{\"value\":{\"get_attr\":[\"d\",\"link\"]}}}}}";
 
 // A property that has no value when its resource is begun.
-const FAULTY: &str =
-    r#"{"template":{"heat_template_version":"2018-08-31","resources":{"a":{"type":"Test::Box","properties":{"size":1}},"b":{"type":"Test::Box","properties":{"size":{"str_split":[",",{"get_attr":["a","addr"]},5]}}}}}}"#;
+const FAULTY: &str = "{\"template\":{\"heat_template_version\":\"2018-08-31\",\
+    \"resources\":{\"a\":{\"type\":\"Test::Box\",\"properties\":{\"size\":1}},\
+    \"b\":{\"type\":\"Test::Box\",\"properties\":{\"size\":{\"str_split\":[\",\",\
+    {\"get_attr\":[\"a\",\"addr\"]},5]}}}}}}";
 
 // A text that isn't a flavor.
-const HUGE: &str =
-    r#"{"template":{"heat_template_version":"2018-08-31","parameters":{"f":{"type":"string","constraints":[{"custom_constraint":"nova.flavor"}]}}},"parameters":{"f":"huge"}}"#;
+const HUGE: &str = "{\"template\":{\"heat_template_version\":\"2018-08-31\",\
+    \"parameters\":{\"f\":{\"type\":\"string\",\
+    \"constraints\":[{\"custom_constraint\":\"nova.flavor\"}]}}},\"parameters\":{\"f\":\"huge\"}}";
 
 // A disk whose label may change, and its kind.
 const DISK: &str =

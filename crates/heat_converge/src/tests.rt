@@ -13,8 +13,8 @@ use std::alloc::{AllocError, Global};
 use std::test::Fail;
 
 /// A create of the stack `s` with one resource.
-pub(crate) const CREATE: &str =
-    "create s {\"template\":{\"heat_template_version\":\"2018-08-31\",\"resources\":{\"a\":{\"type\":\"Test::Box\",\"properties\":{\"size\":1}}}}}\n";
+pub(crate) const CREATE: &str = "create s {\"template\":{\"heat_template_version\":\"2018-08-31\",\
+    \"resources\":{\"a\":{\"type\":\"Test::Box\",\"properties\":{\"size\":1}}}}}\n";
 
 /// What it adds, and what its run adds.
 pub(crate) const CREATED: &str = "stack s 1 CREATE_IN_PROGRESS\n";
@@ -26,8 +26,9 @@ pub(crate) const COMPLETED: &str = "resource s a 1 CREATE_COMPLETE\nstack s 1 CR
 const LISTED: &str = "row 1 a Test::Box CREATE_COMPLETE id sim-1 replaces - replaced_by -\n";
 
 // Creates of three resources out of order, of another stack, and of an empty one.
-const THREE: &str =
-    "create s {\"template\":{\"heat_template_version\":\"pike\",\"resources\":{\"c\":{\"type\":\"Test::Box\"},\"a\":{\"type\":\"Test::Box\"},\"b\":{\"type\":\"Test::Box\"}}}}\n";
+const THREE: &str = "create s {\"template\":{\"heat_template_version\":\"pike\",\
+    \"resources\":{\"c\":{\"type\":\"Test::Box\"},\"a\":{\"type\":\"Test::Box\"},\
+    \"b\":{\"type\":\"Test::Box\"}}}}\n";
 
 const OTHER: &str =
     "create t {\"template\":{\"heat_template_version\":\"pike\",\"resources\":{\"a\":{\"type\":\"Test::Box\"}}}}\n";
@@ -41,8 +42,13 @@ const OTHER_CREATED: &str = "stack t 2 CREATE_IN_PROGRESS\n";
 const OTHER_COMPLETED: &str =
     "resource t a 2 CREATE_IN_PROGRESS\nresource t a 2 CREATE_COMPLETE\nstack t 2 CREATE_COMPLETE\n";
 
-const ALL_THREE: &str =
-    "resource s a 1 CREATE_IN_PROGRESS\nresource s a 1 CREATE_COMPLETE\nresource s b 2 CREATE_IN_PROGRESS\nresource s b 2 CREATE_COMPLETE\nresource s c 3 CREATE_IN_PROGRESS\nresource s c 3 CREATE_COMPLETE\nstack s 1 CREATE_COMPLETE\n";
+const ALL_THREE: &str = "resource s a 1 CREATE_IN_PROGRESS\n\
+    resource s a 1 CREATE_COMPLETE\n\
+    resource s b 2 CREATE_IN_PROGRESS\n\
+    resource s b 2 CREATE_COMPLETE\n\
+    resource s c 3 CREATE_IN_PROGRESS\n\
+    resource s c 3 CREATE_COMPLETE\n\
+    stack s 1 CREATE_COMPLETE\n";
 
 /// The words as texts.
 pub(crate) fn texts(alloc: Global, words: &[&str]) -> Result<Vec<Text>, AllocError> {

@@ -3,3 +3,4 @@ pub mod NamesLemmas
 pub mod Parts
 pub mod OrderLemmas
 pub mod OneItem
+pub mod Searched

@@ -4,8 +4,8 @@ use Rattle.heat_value.specs.Data.{Members}
 use Rattle.heat_plan.specs.Order.{Rising}
 use Rattle.heat_plan.specs.declared.item.Item.{Item}
 use Rattle.heat_plan.specs.declared.plan.Output.{Output}
-use Rattle.heat_plan.specs.declared.plan.Condition.{Condition}
-use Rattle.heat_plan.specs.declared.plan.File.{File}
+use Rattle.heat_plan.specs.declared.conditions.Condition.{Condition}
+use Rattle.heat_plan.specs.declared.files.File.{File}
 
 -- the names of items, in their order
 abbrev pub names_of : List Item → List (List ℕ)

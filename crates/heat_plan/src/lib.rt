@@ -3,7 +3,9 @@
 #![tactic(auto)]
 
 mod calls;
+mod conditions;
 mod facts;
+mod files;
 mod item;
 mod kind;
 mod names;
@@ -18,7 +20,9 @@ mod refusal;
 mod token;
 
 pub use calls::{Answered, Request};
+pub use conditions::{Condition, Conditions};
 pub use facts::{Facts, Known, KnownFacts};
+pub use files::{File, Files};
 pub use item::{Item, Policy};
 pub use kind::Kind;
 pub use names::{ResName, StackName};
@@ -27,7 +31,7 @@ pub use numbers::{EngineNo, LetterNo, RowNo, StackNo, TravNo, WORN};
 pub use order::are_in_order;
 pub use parameters::Parameters;
 pub use phase::{Act, Status};
-pub use plan::{Condition, File, Output, Plan};
+pub use plan::{Output, Plan};
 pub use properties::{Expression, Properties};
 pub use refusal::Refusal;
 pub use token::Token;

@@ -1,7 +1,7 @@
 //! A plan: what a template asks for, once it is admitted.
 ghost use Rattle.std.specs.Prelude.{◌≡◌, List, ℕ};
 
-use crate::{Expression, Item, Parameters, ResName};
+use crate::{Conditions, Expression, Files, Item, Parameters, ResName};
 use heat_value::{Equals, Seq, Text, TryCopy};
 use std::alloc::AllocError;
 use std::marker::Model;
@@ -13,20 +13,6 @@ pub struct Output {
     pub value: Expression,
 }
 
-/// A named condition and its value.
-#[derive(Debug, Drop)]
-pub struct Condition {
-    pub name: Text,
-    pub value: bool,
-}
-
-/// A file that a template reads, with its text.
-#[derive(Debug, Drop)]
-pub struct File {
-    pub name: Text,
-    pub content: Text,
-}
-
 /// Items in byte order of their names, each name once, whose needs are names of items and have no
 /// cycle; outputs; bound parameters; conditions; files; and the names of resources whose condition
 /// is false, none of which is an item's.
@@ -35,8 +21,8 @@ pub struct Plan {
     items: Seq<Item>,
     outputs: Seq<Output>,
     params: Parameters,
-    conds: Seq<Condition>,
-    files: Seq<File>,
+    conds: Conditions,
+    files: Files,
     absent: Seq<ResName>,
 }
 
@@ -69,8 +55,8 @@ impl Plan {
         items: Seq<Item>,
         outputs: Seq<Output>,
         params: Parameters,
-        conds: Seq<Condition>,
-        files: Seq<File>,
+        conds: Conditions,
+        files: Files,
         absent: Seq<ResName>,
     ) -> Plan
         requires { IsPlan items absent }
@@ -116,17 +102,17 @@ impl Plan {
     }
 
     /// The conditions and their values.
-    pub fn conds(&self) -> &[Condition]
+    pub fn conds(&self) -> &Conditions
         ensures { result.now ≡ self.now.conds }
     {
-        self.conds.as_slice()
+        &self.conds
     }
 
     /// The files.
-    pub fn files(&self) -> &[File]
+    pub fn files(&self) -> &Files
         ensures { result.now ≡ self.now.files }
     {
-        self.files.as_slice()
+        &self.files
     }
 
     /// The resources whose condition is false.
@@ -142,24 +128,6 @@ impl TryCopy for Output {
         Ok(Output {
             name: self.name.copy()?,
             value: self.value.copy()?,
-        })
-    }
-}
-
-impl TryCopy for Condition {
-    fn copy(&self) -> Result<Condition, AllocError> {
-        Ok(Condition {
-            name: self.name.copy()?,
-            value: self.value,
-        })
-    }
-}
-
-impl TryCopy for File {
-    fn copy(&self) -> Result<File, AllocError> {
-        Ok(File {
-            name: self.name.copy()?,
-            content: self.content.copy()?,
         })
     }
 }
@@ -180,18 +148,6 @@ impl TryCopy for Plan {
 impl Equals for Output {
     fn equals(&self, other: &Output) -> bool {
         self.name.equals(&other.name) && self.value.equals(&other.value)
-    }
-}
-
-impl Equals for Condition {
-    fn equals(&self, other: &Condition) -> bool {
-        self.name.equals(&other.name) && self.value == other.value
-    }
-}
-
-impl Equals for File {
-    fn equals(&self, other: &File) -> bool {
-        self.name.equals(&other.name) && self.content.equals(&other.content)
     }
 }
 

@@ -1,37 +1,31 @@
 -- Condition after condition, as far as the order goes, is a round.
-use Rattle.std.proofs.Common.{◌≡◌, ◌↔◌, ◌∙◌, ◌<◌, ◌++◌, ℕ, suc, List, ◌∷◌, Bool, true, false, Option, Some, None}
+use Rattle.std.proofs.Common.{◌≡◌, ◌↔◌, ◌∙◌, ◌<◌, ℕ, suc, List, ◌∷◌, Bool, true, false, Option, Some, None}
 use Rattle.std.proofs.Common.{Contains, length, get_or, slice_get, refl, sym, ap, subst, arith}
-use Rattle.std.proofs.Common.{◌+◌, ◌≤◌, bytes_eq, cond, append_assoc, below_more}
+use Rattle.std.proofs.Common.{◌+◌, ◌≤◌, bytes_eq, cond, below_more}
 use Rattle.std.specs.Prelude.{option_and_then}
 use Rattle.std.proofs.lemmas.List.{get_or_default}
 use Rattle.std.proofs.lemmas.Option.{slice_get_within}
 use Rattle.std.proofs.lemmas.Slice.Eq.{bytes_eq-Decides}
-use Rattle.heat_plan.specs.declared.plan.Condition.{Condition}
+use Rattle.heat_plan.specs.Named.{condition_value}
 use Rattle.heat_value.specs.Data.{Data, Members, no_members, member, keys_of, lookup, Rises}
 use Rattle.hot_eval.specs.Conditions.{flag_of}
-use Rattle.hot_admit.specs.Valuing.{value_among, AreFound, Grows, IsFoundAt, AddsRound}
-use Rattle.hot_admit.proofs.Rounds.{flag_stays, valued_at}
-use Rattle.hot_admit.proofs.Finding.{grown_within}
+use Rattle.hot_eval.specs.Values.{named_values}
+use Rattle.hot_admit.specs.Valuing.{AreFound, Grows, IsFoundAt, AddsRound}
+use Rattle.hot_admit.proofs.Rounds.{flag_stays, valued_at, within_both}
 
 -- ---- one condition after another
 
-pub found_after : (params conds : Members) (first known new : List Condition) (i : ℕ) → Grows first known
-    → IsFoundAt params conds known new i → IsFoundAt params conds first new i
-found_after params conds first known new i grows found = record {
+pub found_after : (params conds : Members) (first values new : List (Option Bool)) (i : ℕ) → Grows conds first values
+    → IsFoundAt params conds values new i → IsFoundAt params conds first new i
+found_after params conds first values new i grows found = record {
   value = λ name d b at is flag. found.value name d b at is
-      (flag_stays params first known (grown_within first known grows) d b flag);
+      (flag_stays params (named_values conds first) (named_values conds values) grows d b flag);
 }
 
-pub found_still : (params conds : Members) (first known new : List Condition) (i : ℕ) → Grows known new
-    → IsFoundAt params conds first known i → IsFoundAt params conds first new i
-found_still params conds first known new i grows found = record {
-  value = λ name d b at is flag. (grown_within known new grows).kept name b (found.value name d b at is flag);
-}
-
-pub grows_on : (a b c : List Condition) → Grows a b → Grows b c → Grows a c
-grows_on a b c h g = record {
-  more = h.more ++ g.more;
-  new_is = g.new_is ∙ ap (λ (xs : List Condition). xs ++ g.more) h.new_is ∙ append_assoc a h.more g.more;
+pub found_still : (params conds : Members) (first values new : List (Option Bool)) (i : ℕ) → Grows conds values new
+    → IsFoundAt params conds first values i → IsFoundAt params conds first new i
+found_still params conds first values new i grows found = record {
+  value = λ name d b at is flag. grows.kept name b (found.value name d b at is flag);
 }
 
 -- ---- a round
@@ -48,17 +42,19 @@ place_under (member l e ms) k d is = by (bytes_eq l k) refl (place_under ms k d)
     by false other rest has = let there = rest has in (suc there.0, there.1)
 
 -- where the condition at each place was found, one round is added
-pub round_added : (params conds : Members) (old new : List Condition) → Rises conds → Grows old new
+pub round_added : (params conds : Members) (old new : List (Option Bool)) → Rises conds → Grows conds old new
     → ((i : ℕ) → i < length (keys_of conds) → IsFoundAt params conds old new i) → AddsRound params conds old new
 round_added params conds old new up grows each = record {
   grows = grows;
   all = record {
-    kept = λ name b has. by name b (lookup name conds) refl (sym (valued_at params old conds name up) ∙ has);
+    kept = λ name b has. by name b (lookup name conds) refl
+        (sym (valued_at params (named_values conds old) conds name up) ∙ has);
   };
 }
   where
     by : (name : List ℕ) (b : Bool) (o : Option Data) → lookup name conds ≡ o
-        → option_and_then (flag_of params old) o ≡ Some b → value_among new name ≡ Some b
+        → option_and_then (flag_of params (named_values conds old)) o ≡ Some b
+        → condition_value (named_values conds new) name ≡ Some b
     by name b None is flag = cc
     by name b (Some d) is flag =
         let there = place_under conds name d is in
@@ -74,30 +70,29 @@ at_each order size Found all each p below =
 -- ---- along the order
 
 -- the conditions at the first places of the order were found
-pub record AreFoundTo (params conds : Members) (order : List ℕ) (first : List Condition) (i : ℕ)
-    (values : List (Option Bool)) (known : List Condition) : Type 0 where
-  pub found : AreFound params conds values known
-  pub grows : Grows first known
-  pub each : (j : ℕ) → j < i → IsFoundAt params conds first known (get_or order j 0)
+pub record AreFoundTo (params conds : Members) (order : List ℕ) (first : List (Option Bool)) (i : ℕ)
+    (values : List (Option Bool)) : Type 0 where
+  pub found : AreFound params conds values
+  pub grows : Grows conds first values
+  pub each : (j : ℕ) → j < i → IsFoundAt params conds first values (get_or order j 0)
 
-pub one_further : (params conds : Members) (order : List ℕ) (first : List Condition) (i p : ℕ)
-    (values more : List (Option Bool)) (known new : List Condition)
-    → AreFoundTo params conds order first i values known → get_or order i 0 ≡ p → AreFound params conds more new
-    → Grows known new → IsFoundAt params conds known new p → AreFoundTo params conds order first (i + 1) more new
-one_further params conds order first i p values more known new to at found grows here = record {
+pub one_further : (params conds : Members) (order : List ℕ) (first : List (Option Bool)) (i p : ℕ)
+    (values new : List (Option Bool)) → AreFoundTo params conds order first i values → get_or order i 0 ≡ p
+    → AreFound params conds new → Grows conds values new → IsFoundAt params conds values new p
+    → AreFoundTo params conds order first (i + 1) new
+one_further params conds order first i p values new to at found grows here = record {
   found = found;
-  grows = grows_on first known new to.grows grows;
+  grows = within_both _ _ _ to.grows grows;
   each = below_more (λ j. IsFoundAt params conds first new (get_or order j 0)) i
-      (λ j below. found_still params conds first known new (get_or order j 0) grows (to.each j below))
+      (λ j below. found_still params conds first values new (get_or order j 0) grows (to.each j below))
       (subst (IsFoundAt params conds first new) (sym at)
-      (found_after params conds first known new p to.grows here));
+      (found_after params conds first values new p to.grows here));
 }
 
-pub all_found : (params conds : Members) (order : List ℕ) (first : List Condition) (i : ℕ)
-    (values : List (Option Bool)) (known : List Condition) → Rises conds
-    → ((p : ℕ) → Contains order p ↔ (p < length (keys_of conds))) → length order ≤ i
-    → AreFoundTo params conds order first i values known → AddsRound params conds first known
-all_found params conds order first i values known up all end to =
-    round_added params conds first known up to.grows
-    (at_each order (length (keys_of conds)) (IsFoundAt params conds first known) all
+pub all_found : (params conds : Members) (order : List ℕ) (first : List (Option Bool)) (i : ℕ)
+    (values : List (Option Bool)) → Rises conds → ((p : ℕ) → Contains order p ↔ (p < length (keys_of conds)))
+    → length order ≤ i → AreFoundTo params conds order first i values → AddsRound params conds first values
+all_found params conds order first i values up all end to =
+    round_added params conds first values up to.grows
+    (at_each order (length (keys_of conds)) (IsFoundAt params conds first values) all
     (λ j below. to.each j (omega (arith, below, end))))

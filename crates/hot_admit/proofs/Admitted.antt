@@ -7,7 +7,7 @@ use Rattle.std.proofs.lemmas.List.Filters.{length-filter_both}
 use Rattle.heat_plan.specs.Order.{Rising}
 use Rattle.heat_plan.specs.Plans.{IsPlan, names_of as item_names}
 use Rattle.heat_plan.specs.declared.item.Item.{Item}
-use Rattle.heat_plan.specs.declared.plan.Condition.{Condition}
+use Rattle.heat_plan.specs.declared.conditions.Condition.{Condition}
 use Rattle.heat_value.specs.Data.{Members}
 use Rattle.hot_admit.specs.Basis.{BasisData}
 use Rattle.hot_admit.specs.Conds.{resource_wanted}

@@ -7,24 +7,28 @@ use Rattle.std.specs.List.Sorted.{IsStrictlySortedBy}
 use Rattle.std.specs.Prelude.{option_and_then}
 use Rattle.std.proofs.lemmas.List.{drop_all}
 use Rattle.std.proofs.lemmas.Slice.Eq.{bytes_eq-Decides}
-use Rattle.heat_plan.specs.declared.plan.Condition.{Condition}
+use Rattle.heat_plan.specs.Named.{AreConditions, condition_value}
+use Rattle.heat_plan.specs.declared.conditions.Condition.{Condition}
 use Rattle.heat_value.specs.Data.{Data, Members, no_members, member, keys_of, lookup, Rises}
 use Rattle.heat_value.specs.Meaning.{data_of, members_of}
 use Rattle.heat_value.specs.declared.value.Member.{Member}
-use Rattle.hot_eval.specs.Conditions.{flag_of, values_of, valued, valued_after, count_of, with_value, first_unvalued}
+use Rattle.hot_eval.specs.Conditions.{flag_of, values_of, valued, valued_after, count_of, first_unvalued}
+use Rattle.hot_eval.specs.Values.{with_value, named_values}
 use Rattle.hot_eval.specs.Conditions.{unless_valued}
 use Rattle.hot_admit.specs.Conds.{flags_of, condition_path}
-use Rattle.hot_admit.specs.Valuing.{value_among, IsWithin, AreFound, AddsRound}
-use Rattle.hot_admit.proofs.Rounds.{value_is, values_again, within_both, within_itself, round_within, none_behind}
+use Rattle.hot_admit.proofs.Chosen.{Behind}
+use Rattle.hot_admit.specs.Valuing.{IsWithin, AreFound, AddsRound}
+use Rattle.hot_admit.proofs.Rounds.{value_is, values_again, within_both, nothing_within, round_within, none_behind}
+use Rattle.hot_admit.proofs.Finding.{values_by_name}
 
 -- ---- all rounds
 
 -- as many rounds as there are conditions, or one that adds nothing, give each its value
 same_value : (a b : List Condition) (name : List ℕ) → IsWithin a b → IsWithin b a
-    → value_among a name ≡ value_among b name
-same_value a b name there back = by (value_among a name) (value_among b name) refl refl
+    → condition_value a name ≡ condition_value b name
+same_value a b name there back = by (condition_value a name) (condition_value b name) refl refl
   where
-    by : (o p : Option Bool) → value_among a name ≡ o → value_among b name ≡ p → o ≡ p
+    by : (o p : Option Bool) → condition_value a name ≡ o → condition_value b name ≡ p → o ≡ p
     by None None is has = refl
     by None (Some c) is has = let known = back.kept name c has in cc
     by (Some c) p is has = sym (there.kept name c is) ∙ has
@@ -51,35 +55,34 @@ flags_by_name params last f (member k d ms) up each =
     flags_by_name params last f ms up.1 (λ l e is. each l e (later_key l k e d ms up is)) in
     cc
 
-pub flags_found : (params conds : Members) (values : List (Option Bool)) (known : List Condition) → Rises conds
-    → AreFound params conds values known → IsWithin (values_of params conds) known
+pub flags_found : (params conds : Members) (values : List (Option Bool)) → Rises conds → AreFound params conds values
+    → IsWithin (values_of params conds) (named_values conds values)
     → values ≡ flags_of params (values_of params conds) conds
-flags_found params conds values known up found all =
-    found.by_name ∙ flags_by_name params (values_of params conds) (value_among known) conds up (λ k d is.
-    same_value known (values_of params conds) k found.right all
+flags_found params conds values up found all =
+    values_by_name conds values up found.count
+    ∙ flags_by_name params (values_of params conds) (condition_value (named_values conds values)) conds up (λ k d is.
+    same_value (named_values conds values) (values_of params conds) k found.right all
     ∙ value_is params conds k up ∙ ap (option_and_then (flag_of params (values_of params conds))) is)
 
 -- nothing was added
-pub none_added : (params conds : Members) (old new : List Condition) → AddsRound params conds old new
-    → length new ≡ length old → IsWithin (valued params new conds) new
+pub none_added : (params conds : Members) (old new : List (Option Bool)) → AddsRound params conds old new → new ≡ old
+    → IsWithin (valued params (named_values conds new) conds) (named_values conds new)
 none_added params conds old new adds same =
-    subst (λ (xs : List Condition). IsWithin (valued params xs conds) new)
-    (sym (by adds.grows.more adds.grows.new_is)) adds.all
-  where
-    by : (more : List Condition) → new ≡ old ++ more → new ≡ old
-    by [] is = is ∙ append-nil old
-    by (c ∷ more) is = absurd (omega (arith, same, ap length is, length-append old (c ∷ more)))
+    subst (λ (vs : List (Option Bool)). IsWithin (valued params (named_values conds vs) conds) (named_values conds new))
+    (sym same) adds.all
 
 -- ---- from round to round
 
-pub first_round : (params conds : Members) → IsWithin (valued_after 0 params conds) []
-first_round params conds = within_itself []
+pub first_round : (params conds : Members) (values : List (Option Bool))
+    → IsWithin (valued_after 0 params conds) (named_values conds values)
+first_round params conds values = nothing_within (named_values conds values)
 
-pub next_round : (params conds : Members) (n : ℕ) (old new : List Condition) → Rises conds
-    → IsWithin (valued_after n params conds) old → AddsRound params conds old new
-    → IsWithin (valued_after (n + 1) params conds) new
+pub next_round : (params conds : Members) (n : ℕ) (old new : List (Option Bool)) → Rises conds
+    → IsWithin (valued_after n params conds) (named_values conds old) → AddsRound params conds old new
+    → IsWithin (valued_after (n + 1) params conds) (named_values conds new)
 next_round params conds n old new up within adds =
-    rw add-one (within_both _ (valued params old conds) new (round_within params conds _ old up within) adds.all)
+    rw add-one (within_both _ (valued params (named_values conds old) conds) (named_values conds new)
+    (round_within params conds _ (named_values conds old) up within) adds.all)
 
 counted : (ms : List Member) → count_of (members_of ms) ≡ length ms
 counted [] = refl
@@ -166,3 +169,30 @@ values_end params last ms i known far past = (
   where
     none : drop i ms ≡ []
     none = drop_all i ms past
+
+-- ---- the values come in byte order of the names
+
+valued_behind : (n : List ℕ) (params : Members) (known : List Condition) (conds : Members) → Behind n (keys_of conds)
+    → Behind n (map (λ (c : Condition). c.name) (valued params known conds))
+valued_behind n params known no_members all = tt
+valued_behind n params known (member k d ms) all = by (flag_of params known d) (valued_behind n params known ms all.1)
+  where
+    by : (o : Option Bool) → Behind n (map (λ (c : Condition). c.name) (valued params known ms))
+        → Behind n (map (λ (c : Condition). c.name) (with_value k o (valued params known ms)))
+    by None rest = rest
+    by (Some b) rest = (all.0, rest)
+
+valued_rise : (params : Members) (known : List Condition) (conds : Members) → Rises conds
+    → AreConditions (valued params known conds)
+unfolding IsStrictlySortedBy
+valued_rise params known no_members up = tt
+valued_rise params known (member k d ms) up = by (flag_of params known d) (valued_rise params known ms up.1)
+  where
+    by : (o : Option Bool) → AreConditions (valued params known ms)
+        → AreConditions (with_value k o (valued params known ms))
+    by None rest = rest
+    by (Some b) rest = (valued_behind k params known ms up.0, rest)
+
+pub values_rise : (params conds : Members) → Rises conds → AreConditions (values_of params conds)
+values_rise params conds up =
+    subst AreConditions (sym (values_again params conds up)) (valued_rise params (values_of params conds) conds up)

@@ -6,7 +6,7 @@ use Rattle.heat_plan.specs.Order.{Rising}
 use Rattle.heat_plan.specs.Names.{IsResName}
 use Rattle.heat_plan.specs.Plans.{IsPlan, PlanData, names_of as item_names}
 use Rattle.heat_plan.specs.declared.item.Item.{Item}
-use Rattle.heat_plan.specs.declared.plan.Condition.{Condition}
+use Rattle.heat_plan.specs.declared.conditions.Condition.{Condition}
 use Rattle.heat_plan.specs.declared.plan.Output.{Output}
 use Rattle.heat_value.specs.Data.{Members, Rises, members_depth}
 use Rattle.heat_value.specs.declared.path.Step.{Step}

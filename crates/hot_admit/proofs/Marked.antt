@@ -4,7 +4,7 @@ use Rattle.std.proofs.Common.{if◌then◌else◌}
 use Rattle.std.specs.Bool.{beq}
 use Rattle.std.specs.List.{filter}
 use Rattle.heat_plan.specs.declared.item.Item.{Item}
-use Rattle.heat_plan.specs.declared.plan.Condition.{Condition}
+use Rattle.heat_plan.specs.declared.conditions.Condition.{Condition}
 use Rattle.heat_plan.specs.declared.plan.Output.{Output}
 use Rattle.heat_value.specs.Data.{Members}
 use Rattle.hot_admit.specs.Basis.{BasisData, kind_at}

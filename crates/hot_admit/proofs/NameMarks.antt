@@ -13,7 +13,7 @@ use Rattle.std.proofs.lemmas.Map.Keys.{Less-from_sorted}
 use Rattle.heat_value.proofs.Searches.{flipped}
 use Rattle.heat_plan.specs.Order.{Rising}
 use Rattle.hot_forms.specs.Checks.{is_among}
-use Rattle.hot_admit.proofs.Searched.{cmp, same_by, below_same}
+use Rattle.heat_plan.proofs.Searched.{cmp, same_by, below_same}
 
 abbrev marks : List (List ℕ) → List (List ℕ) → List Bool
 marks named names = map (is_among named) names

@@ -6,15 +6,17 @@ use Rattle.std.specs.Prelude.{option_and_then, is_some, unwrap_or}
 use Rattle.std.specs.List.Sorted.{IsStrictlySortedBy}
 use Rattle.std.specs.declared.cmp.Ordering.TheVariants.{Less}
 use Rattle.std.proofs.lemmas.Slice.Eq.{bytes_eq-Decides}
-use Rattle.heat_plan.specs.declared.plan.Condition.{Condition}
+use Rattle.heat_plan.specs.Named.{condition_value}
+use Rattle.heat_plan.specs.declared.conditions.Condition.{Condition}
 use Rattle.heat_value.proofs.Searches.{equal_by}
 use Rattle.heat_value.specs.Data.{Data, flag, words, Members, no_members, member, lookup, keys_of, Rises}
-use Rattle.hot_eval.specs.Conditions.{flag_of, flag_made, with_value, valued, valued_after, count_of, values_of}
+use Rattle.hot_eval.specs.Conditions.{flag_of, flag_made, valued, valued_after, count_of, values_of}
 use Rattle.hot_eval.specs.Conditions.{in_conditions}
+use Rattle.hot_eval.specs.Values.{with_value}
 use Rattle.hot_eval.specs.Evaluation.{evaluation, evaluation_within, condition_outcome}
 use Rattle.hot_eval.specs.Lookups.{named_condition}
 use Rattle.hot_eval.specs.Outcomes.{Outcome, Gives, Faults, cost_limit}
-use Rattle.hot_admit.specs.Valuing.{value_among, IsWithin}
+use Rattle.hot_admit.specs.Valuing.{IsWithin}
 use Rattle.hot_admit.proofs.Chosen.{Behind}
 use Rattle.hot_admit.proofs.Outcomes.{StaysIf}
 use Rattle.hot_admit.proofs.Fitting.{HasFlag}
@@ -27,9 +29,9 @@ made_stays (Gives d n) p v stays is = ap flag_made (stays (ap is_some is)) ∙ i
 made_stays (Faults c q) p v stays is = cc
 
 names_stay : (params : Members) (a b : List Condition) → IsWithin a b → NamesStay params a b
-names_stay params a b within s = by (value_among a s) refl
+names_stay params a b within s = by (condition_value a s) refl
   where
-    by : (o : Option Bool) → value_among a s ≡ o → HasFlag (unwrap_or (option_map flag o) (words s))
+    by : (o : Option Bool) → condition_value a s ≡ o → HasFlag (unwrap_or (option_map flag o) (words s))
         → named_condition (in_conditions params b) s ≡ unwrap_or (option_map flag o) (words s)
     by None is has = cc
     by (Some v) is has = ap (λ o. unwrap_or (option_map flag o) (words s)) (within.kept s v is)
@@ -62,7 +64,7 @@ none_behind k l d ms up same =
         ap (λ (b : Bool). cond b (Some e) (lookup n ns)) (equal_by n m Less all.0) ∙ nothing_behind n ns all.1
 
 pub valued_at : (params : Members) (known : List Condition) (ms : Members) (k : List ℕ) → Rises ms
-    → value_among (valued params known ms) k ≡ option_and_then (flag_of params known) (lookup k ms)
+    → condition_value (valued params known ms) k ≡ option_and_then (flag_of params known) (lookup k ms)
 unfolding IsStrictlySortedBy
 valued_at params known no_members k up = refl
 valued_at params known (member l d ms) k up =
@@ -72,8 +74,8 @@ valued_at params known (member l d ms) k up =
     rest_found = find (λ (x : Condition). bytes_eq x.name k) (valued params known ms)
 
     by : (c : Bool) → bytes_eq l k ≡ c → (o : Option Bool) → flag_of params known d ≡ o
-        → value_among (valued params known ms) k ≡ option_and_then (flag_of params known) (lookup k ms)
-        → value_among (with_value l o (valued params known ms)) k
+        → condition_value (valued params known ms) k ≡ option_and_then (flag_of params known) (lookup k ms)
+        → condition_value (with_value l o (valued params known ms)) k
         ≡ option_and_then (flag_of params known) (cond c (Some d) (lookup k ms))
     by true same None gives rest =
         rest ∙ ap (option_and_then (flag_of params known)) (none_behind k l d ms up same) ∙ sym gives
@@ -87,7 +89,7 @@ valued_at params known (member l d ms) k up =
 
 -- ---- a round on
 
-nothing_within : (known : List Condition) → IsWithin [] known
+pub nothing_within : (known : List Condition) → IsWithin [] known
 nothing_within known = record { kept = λ name b is. cc }
 
 pub within_itself : (known : List Condition) → IsWithin known known
@@ -189,10 +191,10 @@ values_again params conds up = by (last_or_more params conds up (count_of conds)
 
 -- the value of a condition is the flag that it gives where all have theirs
 pub value_is : (params conds : Members) (k : List ℕ) → Rises conds
-    → value_among (values_of params conds) k
+    → condition_value (values_of params conds) k
     ≡ option_and_then (flag_of params (values_of params conds)) (lookup k conds)
 value_is params conds k up =
-    ap (λ known. value_among known k) (values_again params conds up)
+    ap (λ known. condition_value known k) (values_again params conds up)
     ∙ valued_at params (values_of params conds) conds k up
 
 -- ---- the least values

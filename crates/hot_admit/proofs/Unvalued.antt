@@ -1,7 +1,7 @@
 -- The first expression without a value, section by section; and where each has one, what conditions give.
 use Rattle.std.proofs.Common.{◌≡◌, ◌∙◌, ℕ, List, Option, Some, None, map, refl, sym, ap, subst, codes}
 use Rattle.std.specs.Option.{option_or}
-use Rattle.heat_plan.specs.declared.plan.Condition.{Condition}
+use Rattle.heat_plan.specs.declared.conditions.Condition.{Condition}
 use Rattle.heat_value.specs.Data.{Data, null, flag, whole, words, items, fields, Members, no_members, member, lookup}
 use Rattle.heat_value.specs.Data.{Rises}
 use Rattle.heat_value.specs.Meaning.{members_of}

@@ -1,7 +1,7 @@
 -- The values of a template's conditions, and which of its resources and outputs are wanted; or why there are none.
 use Rattle.std.specs.Prelude.{◌≡◌, ℕ, List, [], ◌∷◌, Bool, true, false, Option, Some, None, map, unwrap_or, codes, ⊤}
 use Rattle.std.specs.Option.{option_or}
-use Rattle.heat_plan.specs.declared.plan.Condition.{Condition}
+use Rattle.heat_plan.specs.declared.conditions.Condition.{Condition}
 use Rattle.heat_value.specs.Data.{Data, Members, no_members, member}
 use Rattle.heat_value.specs.declared.path.Step.{Step}
 use Rattle.heat_value.specs.declared.path.Step.TheVariants.{Key}

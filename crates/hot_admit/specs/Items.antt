@@ -6,7 +6,7 @@ use Rattle.heat_plan.specs.Names.{IsResName}
 use Rattle.heat_plan.specs.declared.item.Item.{Item}
 use Rattle.heat_plan.specs.declared.item.Policy.{Policy}
 use Rattle.heat_plan.specs.declared.item.Policy.TheVariants.{Delete, Retain}
-use Rattle.heat_plan.specs.declared.plan.Condition.{Condition}
+use Rattle.heat_plan.specs.declared.conditions.Condition.{Condition}
 use Rattle.heat_value.specs.Data.{Data, null, flag, whole, words, items, fields, Nodes, no_nodes, node, Members}
 use Rattle.heat_value.specs.Data.{depth}
 use Rattle.hot_admit.specs.Basis.{BasisData, kind_at}

@@ -2,8 +2,8 @@
 use Rattle.std.specs.Prelude.{◌≤◌, List, [], ◌∷◌, Some, All, map, if◌then◌else◌}
 use Rattle.heat_plan.specs.Plans.{PlanData}
 use Rattle.heat_plan.specs.declared.item.Item.{Item}
-use Rattle.heat_plan.specs.declared.plan.Condition.{Condition}
-use Rattle.heat_plan.specs.declared.plan.File.{File}
+use Rattle.heat_plan.specs.declared.conditions.Condition.{Condition}
+use Rattle.heat_plan.specs.declared.files.File.{File}
 use Rattle.heat_plan.specs.declared.plan.Output.{Output}
 use Rattle.heat_value.specs.Data.{null, Members, no_members, member, depth}
 use Rattle.hot_admit.specs.Basis.{BasisData}

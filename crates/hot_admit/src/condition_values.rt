@@ -1,5 +1,5 @@
 //! The conditions of a template: their values, or the first fault.
-ghost use Rattle.std.specs.Prelude.{◌≡◌, ◌<◌, [], None, IfOk, IfErr, OnOk, Some, length, map, option_map, replicate};
+ghost use Rattle.std.specs.Prelude.{◌≡◌, ◌<◌, None, IfOk, IfErr, OnOk, Some, false, length, map, option_map, replicate};
 ghost use Rattle.heat_value.specs.Data.{Rises};
 ghost use Rattle.heat_value.specs.Meaning.{data_of, members_of};
 ghost use Rattle.hot_admit.specs.Conds.{AreCondsOf, IsCondFaultOf, IsCyclicFault, IsUnvaluedFault, held, flags_of};
@@ -14,9 +14,9 @@ use crate::conds::{Conds, Wanted};
 use crate::fault::CondFault;
 use crate::names::{least_on_cycle, names_graph};
 use dep_graph::Order;
-use heat_plan::Condition;
+use heat_plan::{Condition, Conditions};
 use heat_value::{Member, Path, Props, Seq, Step, Text, TryCopy, Value};
-use hot_eval::flag_of;
+use hot_eval::{Known, flag_of};
 use hot_params::Bound;
 use hot_parts::{Out, Res};
 use hot_tree::Template;
@@ -33,9 +33,8 @@ pub fn conditions(alloc: Global, template: &Template, bound: &Bound) -> Result<C
     let members = parts.conds.as_slice();
     let order = order_of(alloc, members)?;
     let conds = values_in(alloc, &bound.params, members, order.as_slice())?;
-    let known = conds.as_slice();
-    let resources = wanted_resources(alloc, &bound.params, known, parts.resources.as_slice())?;
-    let outputs = wanted_outputs(alloc, &bound.params, known, parts.outputs.as_slice())?;
+    let resources = wanted_resources(alloc, &bound.params, &conds, parts.resources.as_slice())?;
+    let outputs = wanted_outputs(alloc, &bound.params, &conds, parts.outputs.as_slice())?;
     Ok(Conds {
         conds,
         resources,
@@ -76,7 +75,7 @@ fn values_in(
     params: &Props,
     conds: &[Member],
     order: &[u32],
-) -> Result<Seq<Condition>, CondFault>
+) -> Result<Conditions, CondFault>
     requires rising { Rises (members_of conds.now) }
     requires order { IsNamingOrder (members_of conds.now) order.now }
     ensures ok { IfOk result (λ known. known ≡ values_of params.now (members_of conds.now)) }
@@ -93,7 +92,7 @@ fn values_in(
             None => return Err(CondFault::C02(condition_path(alloc, &cond.key)?)),
         }
     }
-    Ok(known)
+    Ok(Conditions::from_rising(known))
 }
 
 fn named(name: &Text, value: bool) -> Result<Condition, AllocError>
@@ -118,89 +117,83 @@ fn evaluated(
     ensures { IfOk result (λ values. values.items ≡ flags_of params.now
         (values_of params.now (members_of conds.now)) (members_of conds.now)) }
 {
-    let mut found = nothing_found(alloc, conds.len())?;
+    let mut values = no_values(alloc, conds.len())?;
     for _round in 0..conds.len() {
-        let count = found.known.len();
-        find_more(alloc, params, conds, order, &mut found)?;
-        if found.known.len() == count {
-            return Ok(found.values);
+        if !find_more(alloc, params, conds, order, &mut values)? {
+            return Ok(values);
         }
     }
-    Ok(found.values)
+    Ok(values)
 }
 
-// The values that were found, by the places of the conditions and by their names.
-#[derive(Debug, Drop)]
-struct Found {
-    values: Vec<Option<bool>>,
-    known: Seq<Condition>,
-}
-
-fn nothing_found(alloc: Global, count: usize) -> Result<Found, AllocError>
-    ensures values { IfOk result (λ f. f.values.items ≡ replicate count None) }
-    ensures known { IfOk result (λ f. f.known ≡ []) }
+fn no_values(alloc: Global, count: usize) -> Result<Vec<Option<bool>>, AllocError>
+    ensures { IfOk result (λ values. values.items ≡ replicate count None) }
 {
-    Ok(Found {
-        values: vec![in alloc; None; count]?,
-        known: Seq::with_capacity(alloc, count)?,
-    })
+    vec![in alloc; None; count]
 }
 
-// Finds the values of those that have one where these are known, and of more on the way.
+// Finds the values of those that have one where these are known, and of more on the way; whether any was
+// found.
 fn find_more(
     alloc: Global,
     params: &Props,
     conds: &[Member],
     order: &[u32],
-    found: &mut Found,
-) -> Result<(), AllocError>
+    values: &mut Vec<Option<bool>>,
+) -> Result<bool, AllocError>
     requires rising { Rises (members_of conds.now) }
     requires order { IsNamingOrder (members_of conds.now) order.now }
-    requires found { AreFound params.now (members_of conds.now) found.old.values.items found.old.known }
-    ensures found { OnOk result
-        (AreFound params.now (members_of conds.now) found.new.values.items found.new.known) }
+    requires found { AreFound params.now (members_of conds.now) values.old.items }
+    ensures found { OnOk result (AreFound params.now (members_of conds.now) values.new.items) }
     ensures round { OnOk result
-        (AddsRound params.now (members_of conds.now) found.old.known found.new.known) }
+        (AddsRound params.now (members_of conds.now) values.old.items values.new.items) }
+    ensures still { IfOk result (λ any. any ≡ false → values.new.items ≡ values.old.items) }
 {
+    let mut any = false;
     for place in order {
-        find_at(alloc, params, conds, *place as usize, found)?;
+        if find_at(alloc, params, conds, *place as usize, values)? {
+            any = true;
+        }
     }
-    Ok(())
+    Ok(any)
 }
 
-// Finds the value of the condition at a place, if it has one where these are known.
+// Finds the value of the condition at a place, if it has one where these are known; whether it was found.
 fn find_at(
     alloc: Global,
     params: &Props,
     conds: &[Member],
     place: usize,
-    found: &mut Found,
-) -> Result<(), AllocError>
+    values: &mut Vec<Option<bool>>,
+) -> Result<bool, AllocError>
     requires rising { Rises (members_of conds.now) }
     requires place { place < length conds.now }
-    requires found { AreFound params.now (members_of conds.now) found.old.values.items found.old.known }
-    ensures found { OnOk result
-        (AreFound params.now (members_of conds.now) found.new.values.items found.new.known) }
-    ensures grows { OnOk result (Grows found.old.known found.new.known) }
+    requires found { AreFound params.now (members_of conds.now) values.old.items }
+    ensures found { OnOk result (AreFound params.now (members_of conds.now) values.new.items) }
+    ensures grows { OnOk result (Grows (members_of conds.now) values.old.items values.new.items) }
     ensures here { OnOk result
-        (IsFoundAt params.now (members_of conds.now) found.old.known found.new.known place) }
+        (IsFoundAt params.now (members_of conds.now) values.old.items values.new.items place) }
+    ensures still { IfOk result (λ any. any ≡ false → values.new.items ≡ values.old.items) }
 {
     let cond = &conds[place];
-    if found.values[place].is_some() {
-        return Ok(());
+    if values[place].is_some() {
+        return Ok(false);
     }
-    if let Some(value) = flag_of(alloc, &cond.value, params, found.known.as_slice())? {
-        found.known.push(named(&cond.key, value)?)?;
-        found.values[place] = Some(value);
+    let known = Known::so_far(conds, values);
+    match flag_of(alloc, &cond.value, params, known)? {
+        Some(value) => {
+            values[place] = Some(value);
+            Ok(true)
+        }
+        None => Ok(false),
     }
-    Ok(())
 }
 
 // Which resources are wanted; C02 of the first whose condition has no value.
 fn wanted_resources(
     alloc: Global,
     params: &Props,
-    known: &[Condition],
+    known: &Conditions,
     resources: &[Res],
 ) -> Result<Seq<Wanted>, CondFault>
     ensures ok { IfOk result (λ ws. ws
@@ -227,7 +220,7 @@ fn wanted_resources(
 fn wanted_outputs(
     alloc: Global,
     params: &Props,
-    known: &[Condition],
+    known: &Conditions,
     outputs: &[Out],
 ) -> Result<Seq<Wanted>, CondFault>
     ensures ok { IfOk result (λ ws. ws
@@ -253,14 +246,14 @@ fn wanted_outputs(
 fn holds(
     alloc: Global,
     params: &Props,
-    known: &[Condition],
+    known: &Conditions,
     condition: Option<&Value>,
 ) -> Result<Option<bool>, AllocError>
     ensures { IfOk result (λ o. o ≡ held params.now known.now
         (option_map (λ v. data_of v.now) condition.entry)) }
 {
     match condition {
-        Some(condition) => flag_of(alloc, condition, params, known),
+        Some(condition) => flag_of(alloc, condition, params, Known::All(known)),
         None => Ok(Some(true)),
     }
 }

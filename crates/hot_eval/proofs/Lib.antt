@@ -18,5 +18,5 @@ pub mod Kept
 pub mod Steps
 pub mod Made
 pub mod Calls
-pub mod NoItems
 pub mod Flags
+pub mod Placed

@@ -7,12 +7,13 @@ use Rattle.heat_value.specs.Data.{Members, no_members, member, lookup}
 use Rattle.heat_value.specs.declared.path.Step.{Step}
 use Rattle.heat_value.specs.declared.path.Step.TheVariants.{Key}
 use Rattle.heat_plan.specs.Order.{Rising}
-use Rattle.heat_plan.specs.declared.plan.Condition.{Condition}
+use Rattle.heat_plan.specs.declared.conditions.Condition.{Condition}
 use Rattle.hot_functions.specs.Forms.{lone}
 use Rattle.hot_functions.specs.Places.{item_place, member_place}
 use Rattle.hot_functions.specs.declared.place.Place.{Place}
 use Rattle.hot_functions.specs.declared.place.Place.TheVariants as place
 use Rattle.hot_eval.specs.Evaluation.{evaluation, condition_outcome}
+use Rattle.hot_eval.specs.Values.{with_value}
 use Rattle.hot_eval.specs.Outcomes.{Outcome, Gives, Faults}
 use Rattle.hot_eval.specs.Scenes.{SceneData}
 use Rattle.hot_eval.specs.Sorts.{flag_in}
@@ -78,10 +79,6 @@ flag_made (Faults c p) = None
 abbrev pub flag_of : Members → List Condition → Data → Option Bool
 flag_of params known d =
     flag_made (condition_outcome (evaluation (in_conditions params known)) (in_conditions params known) d 0)
-
-abbrev pub with_value : List ℕ → Option Bool → List Condition → List Condition
-with_value name None rest = rest
-with_value name (Some b) rest = record { name = name; value = b } ∷ rest
 
 -- the conditions that get a value where these have one
 abbrev pub valued : Members → List Condition → Members → List Condition

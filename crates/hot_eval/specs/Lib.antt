@@ -1,6 +1,8 @@
 pub mod Codes
 pub mod Faults
 pub mod Outcomes
+pub mod Values
+pub mod Known
 pub mod Scenes
 pub mod Sameness
 pub mod Sorts

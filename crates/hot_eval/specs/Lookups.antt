@@ -6,8 +6,8 @@ use Rattle.heat_value.specs.Data.{Data, null, flag, whole, words, items, fields,
 use Rattle.heat_value.specs.Data.{lookup}
 use Rattle.heat_plan.specs.declared.facts.Facts.{Facts}
 use Rattle.heat_plan.specs.declared.facts.KnownFacts.{KnownFacts}
-use Rattle.heat_plan.specs.declared.plan.Condition.{Condition}
-use Rattle.heat_plan.specs.declared.plan.File.{File}
+use Rattle.heat_plan.specs.declared.conditions.Condition.{Condition}
+use Rattle.heat_plan.specs.declared.files.File.{File}
 use Rattle.hot_eval.specs.Scenes.{SceneData}
 use Rattle.hot_eval.specs.Sorts.{wanted, text_in, first_and_rest, listed, parts}
 use Rattle.hot_eval.specs.declared.code.FaultCode.{FaultCode}

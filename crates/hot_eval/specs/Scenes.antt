@@ -1,12 +1,13 @@
 -- What evaluation reads beside the value itself.
-use Rattle.std.specs.Prelude.{ℕ, List, Bool, not, bytes_eq, Option, option_map, find}
+use Rattle.std.specs.Prelude.{ℕ, List, [], Bool, not, bytes_eq, Option, option_map, unwrap_or, find}
 use Rattle.std.specs.List.{filter, list_any}
 use Rattle.heat_value.specs.Data.{Members}
 use Rattle.heat_plan.specs.Plans.{PlanData}
 use Rattle.heat_plan.specs.declared.facts.Facts.{Facts}
 use Rattle.heat_plan.specs.declared.facts.KnownFacts.{KnownFacts}
-use Rattle.heat_plan.specs.declared.plan.Condition.{Condition}
-use Rattle.heat_plan.specs.declared.plan.File.{File}
+use Rattle.heat_plan.specs.declared.conditions.Condition.{Condition}
+use Rattle.heat_plan.specs.declared.files.File.{File}
+use Rattle.hot_eval.specs.Known.{known_data}
 use Rattle.hot_eval.specs.declared.scene.Scene.{Scene}
 
 -- parameters and their values, the conditions that have a value, files, and the facts of resources
@@ -32,8 +33,8 @@ present absent known = filter (λ (k : KnownFacts). not (is_one_of absent k.name
 abbrev pub scene_data : Scene → SceneData
 scene_data s = record {
   params = s.params.now;
-  conds = s.conds.now;
-  files = s.files.now;
+  conds = known_data s.conds;
+  files = unwrap_or (option_map (λ f. f.now) s.files) [];
   facts = present s.absent.now s.facts.now;
 }
 

@@ -4,16 +4,17 @@ ghost use Rattle.hot_eval.specs.Lookups.{facts_of as the_facts_of, file_named as
 ghost use Rattle.hot_eval.specs.Lookups.{condition_named as the_condition_named};
 ghost use Rattle.hot_eval.specs.Scenes.{scene_data, scene_of, is_one_of, facts_told};
 
-use heat_plan::{Condition, Facts, File, KnownFacts, Plan, ResName};
+use crate::Known;
+use heat_plan::{Facts, Files, KnownFacts, Plan, ResName};
 use heat_value::{Props, Text};
 
-/// Parameters and their values, the conditions that have a value, files, the facts of resources, and
-/// the names of absent ones, of which no facts count.
+/// Parameters and their values, the conditions that have a value, files where there are any, the facts
+/// of resources, and the names of absent ones, of which no facts count.
 #[derive(Clone, Copy)]
 pub struct Scene<'a> {
     pub params: &'a Props,
-    pub conds: &'a [Condition],
-    pub files: &'a [File],
+    pub conds: Known<'a>,
+    pub files: Option<&'a Files>,
     pub facts: &'a [KnownFacts],
     pub absent: &'a [ResName],
 }
@@ -25,8 +26,8 @@ impl<'a> Scene<'a> {
     {
         Scene {
             params: plan.params().as_props(),
-            conds: plan.conds(),
-            files: plan.files(),
+            conds: Known::All(plan.conds()),
+            files: Some(plan.files()),
             facts: known,
             absent: plan.absent(),
         }
@@ -46,24 +47,17 @@ impl<'a> Scene<'a> {
     pub fn file_named(&self, name: &Text) -> Option<&'a Text>
         ensures { option_map (λ t. t.now) result ≡ the_file_named (scene_data self.now) name.now }
     {
-        for file in self.files {
-            if file.name == *name {
-                return Some(&file.content);
-            }
+        match self.files {
+            Some(files) => files.content_of(name),
+            None => None,
         }
-        None
     }
 
     /// The value of a condition.
     pub fn condition_named(&self, name: &Text) -> Option<bool>
         ensures { result ≡ the_condition_named (scene_data self.now) name.now }
     {
-        for condition in self.conds {
-            if condition.name == *name {
-                return Some(condition.value);
-            }
-        }
-        None
+        self.conds.value_of(name)
     }
 }
 

@@ -1,5 +1,7 @@
 //! Jobs, each found by its engine and by its row and stack.
-ghost use Rattle.std.specs.Prelude.{◌≡◌, ◌<◌, ◌≤◌, ◌+◌, ◌++◌, ◌∷◌, [], false, Some, IsOk, IfOk, OnOk, All, nat_eq, option_map, length, remove, slice_get, slice_set};
+ghost use Rattle.std.specs.Prelude.{◌≡◌, ◌<◌, ◌≤◌, ◌+◌, ◌++◌, ◌∷◌, []};
+ghost use Rattle.std.specs.Prelude.{false, Some, IsOk, IfOk, OnOk, All, nat_eq, option_map};
+ghost use Rattle.std.specs.Prelude.{length, remove, slice_get, slice_set};
 ghost use Rattle.mail_table.specs.declared.mail.Job.{Job};
 ghost use Rattle.mail_table.specs.Mails.{job_at, job_key, put_job, cut_job};
 ghost use Rattle.indexed_mail.specs.Holders.{IsHolder};

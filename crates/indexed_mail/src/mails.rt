@@ -2,7 +2,8 @@
 ghost use Rattle.std.specs.Prelude.{◌≡◌, ◌<◌, ◌≤◌, ◌^◌, ◌⊎◌, ◌↔◌, IsOk, IfOk, IfErr, OnOk, OnErr, Err, option_map};
 ghost use Rattle.heat_plan.specs.declared.refusal.Refusal.TheVariants.{Worn, Memory};
 ghost use Rattle.mail_table.specs.Mails.{letter_at, job_at};
-ghost use Rattle.indexed_mail.specs.Mail.{Mailbox, with_letter, without_letter, with_job, without_job, with_sent, with_taken, IsNext, KeepsRoom};
+ghost use Rattle.indexed_mail.specs.Mail.{Mailbox, with_letter, without_letter, with_job, without_job};
+ghost use Rattle.indexed_mail.specs.Mail.{with_sent, with_taken, IsNext, KeepsRoom};
 ghost use Rattle.indexed_mail.specs.Holders.{IsFirst, IsHolder};
 
 use heat_plan::{EngineNo, LetterNo, Refusal, RowNo, StackName, TravNo};

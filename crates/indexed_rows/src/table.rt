@@ -1,5 +1,7 @@
 //! The indexed form of the table of rows.
-ghost use Rattle.std.specs.Prelude.{◌≡◌, ◌<◌, ◌≤◌, ◌+◌, ◌++◌, ◌∷◌, [], false, Some, All, IfOk, nat_eq, option_map, length, remove, slice_get, slice_set};
+ghost use Rattle.std.specs.Prelude.{◌≡◌, ◌<◌, ◌≤◌, ◌+◌, ◌++◌, ◌∷◌, []};
+ghost use Rattle.std.specs.Prelude.{false, Some, All, IfOk, nat_eq, option_map};
+ghost use Rattle.std.specs.Prelude.{length, remove, slice_get, slice_set};
 ghost use Rattle.row_table.specs.declared.row.Row.{Row};
 ghost use Rattle.row_table.specs.Rows.{row_at, row_key, put_row, cut_row};
 ghost use Rattle.indexed_rows.specs.Locks.{IsLockable, held};

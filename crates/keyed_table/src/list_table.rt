@@ -1,5 +1,6 @@
 //! The plain form of a table: a list that is read from the first record to the last.
-ghost use Rattle.std.specs.Prelude.{◌≡◌, ◌<◌, ◌≤◌, ◌+◌, ◌++◌, ◌∷◌, [], OnOk, IsOk, IfOk, IfSome, Some, option_map, length, slice_get, remove};
+ghost use Rattle.std.specs.Prelude.{◌≡◌, ◌<◌, ◌≤◌, ◌+◌, ◌++◌, ◌∷◌, []};
+ghost use Rattle.std.specs.Prelude.{OnOk, IsOk, IfOk, IfSome, Some, option_map, length, slice_get, remove};
 ghost use Rattle.std.specs.List.{position_from};
 ghost use Rattle.heat_plan.specs.Tables.{at, put, cut};
 

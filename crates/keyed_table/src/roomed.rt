@@ -1,5 +1,7 @@
 //! A list that knows how much more it can take without memory.
-ghost use Rattle.std.specs.Prelude.{◌≡◌, ◌<◌, ◌≤◌, ◌+◌, ◌++◌, ◌∷◌, [], IsOk, OnOk, OnErr, IfOk, Some, length, slice_get, slice_set, remove, insert};
+ghost use Rattle.std.specs.Prelude.{◌≡◌, ◌<◌, ◌≤◌, ◌+◌, ◌++◌, ◌∷◌, []};
+ghost use Rattle.std.specs.Prelude.{IsOk, OnOk, OnErr, IfOk, Some};
+ghost use Rattle.std.specs.Prelude.{length, slice_get, slice_set, remove, insert};
 ghost use Rattle.keyed_table.specs.Rooms.{Roomy};
 
 use crate::rewrite::Rewrite;

@@ -1,5 +1,7 @@
 //! Tables of records, each found by its key through an index.
-ghost use Rattle.std.specs.Prelude.{ℕ, ◌≡◌, ◌≢◌, ◌<◌, ◌≤◌, ◌+◌, ◌++◌, ◌∷◌, [], false, Some, IsNone, IsOk, OnOk, IfOk, IfSome, All, option_map, length, map, remove, slice_get, slice_set, slice_index_or};
+ghost use Rattle.std.specs.Prelude.{ℕ, ◌≡◌, ◌≢◌, ◌<◌, ◌≤◌, ◌+◌, ◌++◌, ◌∷◌, []};
+ghost use Rattle.std.specs.Prelude.{false, Some, IsNone, IsOk, OnOk, IfOk, IfSome, All, option_map, length};
+ghost use Rattle.std.specs.Prelude.{map, remove, slice_get, slice_set, slice_index_or};
 ghost use Rattle.std.specs.List.{position_from};
 ghost use Rattle.heat_plan.specs.Tables.{at, put, cut};
 ghost use Rattle.keyed_table.specs.Orders.{AreApart, IsOrder, IsStart, passes_at};

@@ -1,6 +1,10 @@
 //! A plan, and what is known of its resources: what a value comes to with them.
+ghost use Rattle.std.specs.Prelude.{◌≡◌, IfOk};
+
 use crate::cases::{Teller, fault_words, value_of, value_words};
-use heat_plan::{Condition, Facts, File, KnownFacts, Parameters, Plan, Properties, ResName};
+use heat_plan::{
+    Condition, Conditions, Facts, File, Files, KnownFacts, Parameters, Plan, Properties, ResName,
+};
 use heat_value::{Props, Seq, Text, Value};
 use hot_eval::{EvalFault, eval};
 use std::alloc::{AllocError, Global};
@@ -33,26 +37,28 @@ fn params_of(alloc: Global) -> Result<Parameters, AllocError> {
     Parameters::from_props(props_of(alloc, PARAMS)?).ok_or(AllocError)
 }
 
-fn condition_of(alloc: Global, name: &str, value: bool) -> Result<Condition, AllocError> {
+fn condition_of(alloc: Global, name: &str, value: bool) -> Result<Condition, AllocError>
+    ensures { IfOk result (λ c. c.name ≡ name.now) }
+{
     let name = Text::from_str(alloc, name)?;
     Ok(Condition { name, value })
 }
 
-// The conditions on and off.
-fn conds_of(alloc: Global) -> Result<Seq<Condition>, AllocError> {
+// The conditions off and on.
+fn conds_of(alloc: Global) -> Result<Conditions, AllocError> {
     let mut conds = Seq::new(alloc);
-    conds.push(condition_of(alloc, "on", true)?)?;
     conds.push(condition_of(alloc, "off", false)?)?;
-    Ok(conds)
+    conds.push(condition_of(alloc, "on", true)?)?;
+    Ok(Conditions::from_rising(conds))
 }
 
 // The file f.
-fn files_of(alloc: Global) -> Result<Seq<File>, AllocError> {
+fn files_of(alloc: Global) -> Result<Files, AllocError> {
     let name = Text::from_str(alloc, "f")?;
     let content = Text::from_str(alloc, "text")?;
     let mut files = Seq::new(alloc);
     files.push(File { name, content })?;
-    Ok(files)
+    Ok(Files::from_rising(files))
 }
 
 // The absent resource.

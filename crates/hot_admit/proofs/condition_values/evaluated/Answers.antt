@@ -1,5 +1,5 @@
 -- Each turn is a round; one that adds nothing was one too many.
-use Rattle.std.proofs.Common.{◌∙◌, sym, arith}
+use Rattle.std.proofs.Common.{arith}
 use Rattle.heat_value.specs.Meaning.{members_of}
 use Rattle.hot_admit.proofs.Finding.{none_found}
 use Rattle.hot_admit.proofs.Found.{first_round, next_round, last_round, flags_found, none_added}
@@ -8,27 +8,26 @@ use Rattle.hot_admit.proofs.condition_values.evaluated.Goals as goal
 
 pub loop-round-init : goal.loop-round-init
 loop-round-init c =
-    rw (c.in_ok-found.ensures.values, c.in_ok-found.ensures.known)
-    (none_found c.args.params.now c.args.conds.now, first_round c.args.params.now (members_of c.args.conds.now))
+    rw c.in_ok-values.ensures
+    (none_found c.args.params.now c.args.conds.now, first_round c.args.params.now (members_of c.args.conds.now) _)
 
 pub loop-round-preserved : goal.loop-round-preserved
 loop-round-preserved c = (
   c.in_ok-find_more.ensures.found,
-  next_round c.args.params.now (members_of c.args.conds.now) c.loop-round._round c.loop-round.found.known
-      c.find_more.new.found.known c.requires.rising c.loop-round.invariant.1 c.in_ok-find_more.ensures.round,
+  next_round c.args.params.now (members_of c.args.conds.now) c.loop-round._round c.loop-round.values.items
+      c.find_more.new.values.items c.requires.rising c.loop-round.invariant.1 c.in_ok-find_more.ensures.round,
 )
 
-pub returns-then-len-count : goal.returns-then-len-count
-returns-then-len-count c =
-    flags_found c.args.params.now (members_of c.args.conds.now) c.find_more.new.found.values.items
-    c.find_more.new.found.known c.requires.rising c.in_ok-find_more.ensures.found
-    (reached c.args.params.now (members_of c.args.conds.now) c.find_more.new.found.known c.requires.rising
-    (none_added c.args.params.now (members_of c.args.conds.now) c.loop-round.found.known c.find_more.new.found.known
-    c.in_ok-find_more.ensures.round (sym c.len.ensures ∙ c.if-len-count.true ∙ c.len-count.ensures)))
+pub returns-then-not-branch : goal.returns-then-not-branch
+returns-then-not-branch c =
+    flags_found c.args.params.now (members_of c.args.conds.now) c.find_more.new.values.items c.requires.rising
+    c.in_ok-find_more.ensures.found
+    (reached c.args.params.now (members_of c.args.conds.now) _ c.requires.rising
+    (none_added c.args.params.now (members_of c.args.conds.now) c.loop-round.values.items c.find_more.new.values.items
+    c.in_ok-find_more.ensures.round (c.in_ok-find_more.ensures.still c.if-not-branch.true)))
 
 pub returns : goal.returns
 returns c =
-    flags_found c.args.params.now (members_of c.args.conds.now) c.loop-round.found.values.items c.loop-round.found.known
-    c.requires.rising c.loop-round.invariant.0
-    (last_round c.args.params.now c.args.conds.now c.loop-round._round c.loop-round.found.known (omega arith)
-    c.loop-round.invariant.1)
+    flags_found c.args.params.now (members_of c.args.conds.now) c.loop-round.values.items c.requires.rising
+    c.loop-round.invariant.0
+    (last_round c.args.params.now c.args.conds.now c.loop-round._round _ (omega arith) c.loop-round.invariant.1)

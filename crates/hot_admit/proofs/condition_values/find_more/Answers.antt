@@ -1,9 +1,10 @@
 -- Each turn finds the value of one condition more, where it has one.
-use Rattle.std.proofs.Common.{refl, arith}
+use Rattle.std.proofs.Common.{◌≡◌, ◌∙◌, refl, sym, arith, true, false}
 use Rattle.std.proofs.lemmas.List.Elements.{Contains-get_or}
 use Rattle.hot_admit.proofs.Adding.{one_further, all_found}
 use Rattle.hot_admit.proofs.Keyed.{keys_count}
 use Rattle.hot_admit.proofs.condition_values.find_more.Goals as goal
+use Rattle.hot_admit.proofs.condition_values.find_more.Goals.{then-branch, else-branch}
 
 pub find_at-requires-clause-place : goal.find_at-requires-clause-place
 find_at-requires-clause-place c =
@@ -15,12 +16,17 @@ find_at-requires-clause-place c =
     )
 
 pub loop-place-preserved : goal.loop-place-preserved
-loop-place-preserved c =
-    one_further _ _ c.args.order.now _ c.loop-place.place-index _ c.loop-place.found.values.items _
-    c.loop-place.found.known _ c.loop-place.invariant refl c.in_ok-find_at.ensures.found c.in_ok-find_at.ensures.grows
-    c.in_ok-find_at.ensures.here
+loop-place-preserved c = (
+  one_further _ _ c.args.order.now _ c.loop-place.place-index _ c.loop-place.values.items _ c.loop-place.invariant.0
+      refl c.in_ok-find_at.ensures.found c.in_ok-find_at.ensures.grows c.in_ok-find_at.ensures.here,
+  elim c.if-branch.branch [
+    | then-branch w ↦ λ none. let never : true ≡ false = sym w.any-is ∙ none in cc
+    | else-branch w ↦ λ none. c.in_ok-find_at.ensures.still w.if-branch.false
+        ∙ c.loop-place.invariant.1 (sym w.any-is ∙ none)
+  ],
+)
 
 pub returns-clause-round : goal.returns-clause-round
 returns-clause-round c =
-    all_found _ _ c.args.order.now _ c.loop-place.place-index _ _ c.requires.rising c.requires.order.listed.all
-    c.loop-place-test.false c.loop-place.invariant
+    all_found _ _ c.args.order.now _ c.loop-place.place-index _ c.requires.rising c.requires.order.listed.all
+    c.loop-place-test.false c.loop-place.invariant.0

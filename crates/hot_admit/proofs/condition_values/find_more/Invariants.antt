@@ -1,9 +1,10 @@
+use Rattle.std.proofs.Common.{◌≡◌, false}
 use Rattle.heat_value.specs.Meaning.{members_of}
 use Rattle.hot_admit.proofs.Adding.{AreFoundTo}
 use Rattle.hot_admit.proofs.condition_values.find_more.Given as goal
 
--- the conditions at the places so far were found
+-- the conditions at the places so far were found, and without any find the values are as they were
 abbrev pub invariant-loop-place : goal.invariant-loop-place
 invariant-loop-place l =
-    AreFoundTo l.params (members_of l.conds) l.order l.initial.found.known l.place-index
-    l.found.values.items l.found.known
+    AreFoundTo l.params (members_of l.conds) l.order l.initial.values.items l.place-index l.values.items
+    × (l.any ≡ false → l.values.items ≡ l.initial.values.items)
