@@ -1,16 +1,17 @@
 -- The walk back from the least node left, and the cycle that it meets.
-use Rattle.std.proofs.Common.{◌≡◌, ℕ, ◌+◌, ◌<◌, ◌≤◌, Bool, eqb, List, [], ◌∷◌, ◌++◌, length, get_or, take, drop, ◌⊎◌, inl, inr, sym, ap, ◌∙◌, append_assoc, arith}
-use Rattle.std.specs.Prelude.{All}
+use Rattle.std.proofs.Common.{◌≡◌, ◌↔◌, ℕ, ◌+◌, ◌<◌, ◌≤◌, Bool, true, false, eqb, List, [], ◌∷◌, ◌++◌, length, get_or, set, replicate, take, drop, ◌⊎◌, inl, inr, sym, ap, ◌∙◌, append_assoc, arith}
+use Rattle.std.specs.Prelude.{All, Contains}
 use Rattle.std.specs.List.{IsDistinct}
-use Rattle.std.proofs.lemmas.Bool.{cases_lt}
-use Rattle.std.proofs.lemmas.List.{drop_more, take-append-drop, length_push}
+use Rattle.std.proofs.lemmas.Bool.{cases_lt, cases_eq}
+use Rattle.std.proofs.lemmas.List.{drop_more, take-append-drop, length_push, get_or-set_same, get_or-set_other, get_or-replicate, length-replicate}
+use Rattle.std.proofs.lemmas.List.Elements.{Contains-push, Contains-push_cases, Contains-append_left}
 use Rattle.dep_graph.specs.Lists.{IsLeast}
 use Rattle.dep_graph.specs.Paths.{IsPath, IsCycle, Against}
 use Rattle.dep_graph.specs.Edges.{Links, HasEdge, JoinsNodes}
 use Rattle.dep_graph.specs.Marks.{IsMarked, MarksAll}
 use Rattle.dep_graph.specs.Orders.{IsLeft, GoesBack, FindsCycle}
 use Rattle.dep_graph.proofs.PathLemmas.{IsPath-from, Leads-weaker, closed_against}
-use Rattle.dep_graph.proofs.MarkLemmas.{IsMarked-within}
+use Rattle.dep_graph.proofs.MarkLemmas.{IsMarked-within, unmarked}
 use Rattle.dep_graph.proofs.ClosingLemmas.{length-le_distinct}
 
 -- the least predecessor with a mark is the least that is left
@@ -41,6 +42,23 @@ start_left graph marks start same left joins least = record {
 pub walk_short : (walk : List ℕ) (at n : ℕ) → IsDistinct eqb (walk ++ at ∷ []) → All (λ x. x < n) (walk ++ at ∷ [])
     → length walk < n
 walk_short walk at n once below = omega (arith, length-le_distinct (walk ++ at ∷ []) n once below, length_push walk at)
+
+-- the marks are on the walk's nodes
+pub met_none : (n : ℕ) (x : ℕ) → IsMarked (replicate n false) x ↔ Contains [] x
+met_none n x = ((λ m. absurd (none m)), (λ c. absurd (omega (arith, c.1))))
+  where
+    none : IsMarked (replicate n false) x → ⊥
+    none m = unmarked (replicate n false) x (get_or-replicate n x false false (rw length-replicate at (IsMarked-within (replicate n false) x m))) m
+
+pub met_more : (met : List Bool) (walk : List ℕ) (at : ℕ) → at < length met
+    → ((x : ℕ) → IsMarked met x ↔ Contains walk x) → (x : ℕ) → IsMarked (set met at true) x ↔ Contains (walk ++ at ∷ []) x
+met_more met walk at lt h x = elim (cases_eq x at) [
+  | inl e ↦ rw e ((λ _. Contains-push walk at), (λ _. get_or-set_same met at true false lt))
+  | inr ne ↦ rw (get_or-set_other met at x true false ne) (
+    (λ m. Contains-append_left walk (at ∷ []) x ((h x).0 m)),
+    (λ c. elim (Contains-push_cases walk at x c) [ inl k ↦ (h x).1 k | inr e ↦ absurd (ne (sym e)) ]),
+  )
+]
 
 pub FindsCycle-walk : (E : ℕ → ℕ → Type 0) (walk cycle : List ℕ) (start at place : ℕ) → IsLeast (IsLeft E) start
     → IsPath (GoesBack E) start at (walk ++ at ∷ []) → IsDistinct eqb walk → place < length walk

@@ -7,3 +7,5 @@ pub mod SearchLemmas
 pub mod ClosingLemmas
 pub mod CycleLemmas
 pub mod NameLemmas
+pub mod ReadyLemmas
+pub mod CountLemmas

@@ -45,7 +45,7 @@ TakesLeast-push E n l x old least front y back e = elim (last_of back) [
     before mid a = old front y mid a
 
 -- what holds of no node and stays with each node taken holds of all
-takes_all : (E : ℕ → ℕ → Type 0) (n : ℕ) (order : List ℕ) (P : List ℕ → Type 0) → TakesLeast E n order → P []
+pub takes_all : (E : ℕ → ℕ → Type 0) (n : ℕ) (order : List ℕ) (P : List ℕ → Type 0) → TakesLeast E n order → P []
     → ((front : List ℕ) (x : ℕ) → IsReady E n front x → P front → P (front ++ x ∷ [])) → P order
 takes_all E n order P taken none step = go [] order refl none
   where

@@ -1,7 +1,8 @@
 //! A graph: each node's predecessors and successors, both rising.
 
-ghost use Rattle.std.specs.Prelude.{◌≡◌, ◌<◌, [], length, replicate, IfOk, OnOk, OnErr};
-ghost use Rattle.dep_graph.specs.Lists.{ListsAll};
+ghost use Rattle.std.specs.Prelude.{◌≡◌, ◌<◌, ℕ, [], length, map, replicate, IfOk, OnOk, OnErr};
+ghost use Rattle.std.specs.Prelude.{slice_index_or};
+ghost use Rattle.dep_graph.specs.Lists.{IsRising, ListsAll};
 ghost use Rattle.dep_graph.specs.Paths.{IsAcyclic};
 ghost use Rattle.dep_graph.specs.Edges.{HasEdge, JoinsNodes, IsBare, AddsEdge};
 
@@ -68,6 +69,18 @@ impl Graph {
         ensures joins { JoinsNodes self.now }
     {
         self.succs[node as usize].as_slice()
+    }
+
+    // How many predecessors each node has.
+    pub(crate) fn pred_counts(&self) -> Result<Vec<usize>, AllocError>
+        ensures counts { IfOk result (λ counts. counts.items ≡ map length self.now) }
+        ensures rising { (node : ℕ) → IsRising (slice_index_or self.now node []) }
+    {
+        let mut counts = Vec::with_capacity(self.allocator(), self.preds.len())?;
+        for preds in &self.preds {
+            counts.push(preds.len())?;
+        }
+        Ok(counts)
     }
 
     /// Adds an edge, unless it is there.

@@ -8,8 +8,10 @@ mod edges;
 mod listing;
 mod marks;
 mod numbering;
+mod ready;
 mod rising;
 mod searching;
+mod taking;
 
 pub use closing::Added;
 pub use edges::Graph;

@@ -1,19 +1,19 @@
 //! The order of a graph's nodes, or the cycle in its way: nodes are taken away, the least that is
 //! ready first; where some are left, a walk back from the least of them meets itself.
 
-ghost use Rattle.std.specs.Prelude.{◌≡◌, ◌<◌, ◌↔◌, ℕ, IfOk, OnOk, MatchOption, Contains};
-ghost use Rattle.std.specs.Prelude.{length, replicate, slice_index, true};
-ghost use Rattle.std.specs.Bool.{OnTrue, OnFalse};
+ghost use Rattle.std.specs.Prelude.{◌≡◌, ◌<◌, ℕ, IfOk, MatchOption, Contains};
+ghost use Rattle.std.specs.Prelude.{length, drop, slice_index};
 ghost use Rattle.dep_graph.specs.Lists.{IsLeast};
 ghost use Rattle.dep_graph.specs.Edges.{HasEdge, JoinsNodes};
-ghost use Rattle.dep_graph.specs.Marks.{IsMarked, MarksAll, Leaves, IsUnheld, IsHeld, IsStuck};
-ghost use Rattle.dep_graph.specs.Orders.{TakesLeast, IsLeft, FindsCycle};
+ghost use Rattle.dep_graph.specs.Marks.{IsMarked, MarksAll, IsStuck};
+ghost use Rattle.dep_graph.specs.Orders.{IsLeft, FindsCycle};
 ghost use Rattle.dep_graph.specs.Answers.{IsOrderAnswer};
 
 use crate::Graph;
 use crate::marks::{Marks, first_marked, least_marked};
+use crate::taking::take_away;
 use heat_value::Seq;
-use std::alloc::AllocError;
+use std::alloc::{AllocError, Global};
 
 /// How a graph's nodes are listed.
 #[derive(Debug, Drop)]
@@ -38,48 +38,6 @@ impl Graph {
     }
 }
 
-// Takes away nodes while one is ready, the least first, and lists them.
-fn take_away(graph: &Graph, left: &mut Marks) -> Result<Seq<u32>, AllocError>
-    requires all { left.old ≡ replicate (length graph.now) true }
-    requires joins { JoinsNodes graph.now }
-    ensures size { length left.new ≡ length graph.now }
-    ensures taken { IfOk result (TakesLeast (HasEdge graph.now) (length graph.now)) }
-    ensures left { IfOk result (λ taken. Leaves taken left.new) }
-    ensures stuck { OnOk result (IsStuck (HasEdge graph.now) left.new) }
-{
-    let mut taken = Seq::new(graph.allocator());
-    while let Some(node) = least_ready(graph, left.as_slice()) {
-        taken.push(node)?;
-        left.put(node, false);
-    }
-    Ok(taken)
-}
-
-// The least node left that has no predecessor left.
-fn least_ready(graph: &Graph, left: &[bool]) -> Option<u32>
-    requires { length left.now ≡ length graph.now }
-    ensures { MatchOption result
-        (IsStuck (HasEdge graph.now) left.now)
-        (λ node. IsLeast (IsUnheld (HasEdge graph.now) left.now) node) }
-{
-    for node in 0..graph.size() {
-        if is_ready(graph, left, node) {
-            return Some(node);
-        }
-    }
-    None
-}
-
-// Whether a node is left and none of its predecessors is.
-fn is_ready(graph: &Graph, left: &[bool], node: u32) -> bool
-    requires size { length left.now ≡ length graph.now }
-    requires node { node < length graph.now }
-    ensures ready { OnTrue result (IsUnheld (HasEdge graph.now) left.now node) }
-    ensures held { OnFalse result (IsHeld (HasEdge graph.now) left.now node) }
-{
-    left[node as usize] && least_left_pred(graph, left, node).is_none()
-}
-
 // The least predecessor of a node that is left.
 fn least_left_pred(graph: &Graph, left: &[bool], node: u32) -> Option<u32>
     requires size { length left.now ≡ length graph.now }
@@ -100,16 +58,15 @@ fn walked_cycle(graph: &Graph, left: &[bool], least: u32) -> Result<Seq<u32>, Al
     requires stuck { IsStuck (HasEdge graph.now) left.now }
     ensures { IfOk result (FindsCycle (HasEdge graph.now)) }
 {
+    let mut met = Marks::new(graph.allocator(), graph.size(), false)?;
     let mut walk = Seq::new(graph.allocator());
     let mut at = least;
-    loop {
-        if let Some(place) = place_of(walk.as_slice(), at) {
-            let cycle = Vec::from_slice(graph.allocator(), &walk.as_slice()[place..])?;
-            return Ok(Seq::from_vec(cycle));
-        }
+    while !met.has(at) {
+        met.put(at, true);
         walk.push(at)?;
         at = step_back(graph, left, at);
     }
+    from_node(walk.as_slice(), at, graph.allocator())
 }
 
 // The least predecessor left of a node that has one.
@@ -121,6 +78,18 @@ fn step_back(graph: &Graph, left: &[bool], node: u32) -> u32
 {
     match least_left_pred(graph, left, node) {
         Some(pred) => pred,
+        None => unreachable!(),
+    }
+}
+
+// What stands in a list from a node on.
+fn from_node(nodes: &[u32], node: u32, alloc: Global) -> Result<Seq<u32>, AllocError>
+    requires { Contains nodes.now node }
+    ensures { IfOk result (λ rest. (place : ℕ) × (place < length nodes.now)
+        × (slice_index nodes.now place ≡ node) × (rest ≡ drop place nodes.now)) }
+{
+    match place_of(nodes, node) {
+        Some(place) => Ok(Seq::from_vec(Vec::from_slice(alloc, &nodes[place..])?)),
         None => unreachable!(),
     }
 }

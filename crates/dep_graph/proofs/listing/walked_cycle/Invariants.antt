@@ -1,5 +1,5 @@
-use Rattle.std.proofs.Common.{◌<◌, ◌-◌, ◌++◌, ◌∷◌, [], eqb, length}
-use Rattle.std.specs.Prelude.{All}
+use Rattle.std.proofs.Common.{◌≡◌, ◌↔◌, ℕ, ◌<◌, ◌-◌, ◌++◌, ◌∷◌, [], eqb, length}
+use Rattle.std.specs.Prelude.{All, Contains}
 use Rattle.std.specs.List.{IsDistinct}
 use Rattle.dep_graph.specs.Paths.{IsPath}
 use Rattle.dep_graph.specs.Edges.{HasEdge}
@@ -7,13 +7,15 @@ use Rattle.dep_graph.specs.Marks.{IsMarked}
 use Rattle.dep_graph.specs.Orders.{GoesBack}
 use Rattle.dep_graph.proofs.listing.walked_cycle.Given as goal
 
-abbrev pub invariant-loop-place : goal.invariant-loop-place
-invariant-loop-place l = record {
+abbrev pub invariant-loop-met : goal.invariant-loop-met
+invariant-loop-met l = record {
   walk : IsPath (GoesBack (HasEdge l.graph)) l.least l.at (l.walk ++ l.at ∷ []);
   marked : IsMarked l.left l.at;
   below : All (λ node. node < length l.graph) l.walk;
   once : IsDistinct eqb l.walk;
+  size : length l.met ≡ length l.graph;
+  met : (node : ℕ) → IsMarked l.met node ↔ Contains l.walk node;
 }
 
-abbrev pub decreases-loop-place : goal.decreases-loop-place
-decreases-loop-place l = length l.graph - length l.walk
+abbrev pub decreases-loop-met : goal.decreases-loop-met
+decreases-loop-met l = length l.graph - length l.walk
