@@ -1,8 +1,9 @@
 -- The two lists of each node when an edge is added.
-use Rattle.std.proofs.Common.{◌≡◌, ◌≢◌, ◌⊎◌, ◌↔◌, ℕ, ◌<◌, ◌≤◌, ◌^◌, List, [], length, get_or, set, replicate, refl, sym, ap, ◌∙◌, inl, inr, arith}
+use Rattle.std.proofs.Common.{◌≡◌, ◌≢◌, ◌⊎◌, ◌↔◌, ℕ, zero, suc, ◌<◌, ◌≤◌, ◌^◌, List, [], ◌∷◌, length, get_or, set, replicate, refl, sym, ap, ◌∙◌, inl, inr, arith}
 use Rattle.std.specs.Prelude.{Contains}
+use Rattle.std.specs.List.{insert, remove}
 use Rattle.std.proofs.lemmas.Bool.{cases_eq, cases_lt}
-use Rattle.std.proofs.lemmas.List.{get_or-set_same, get_or-set_other, get_or_past, get_or_default, get_or_read, length-set, get_or-replicate, length-replicate}
+use Rattle.std.proofs.lemmas.List.{get_or-set_same, get_or-set_other, get_or_past, get_or_default, get_or_read, length-set, get_or-replicate, length-replicate, set-set, set-get_or}
 use Rattle.dep_graph.specs.Lists.{IsRising, PutsIn, ListsAll}
 use Rattle.dep_graph.specs.Edges.{Links, HasEdge, JoinsNodes, IsBare, AddsEdge, IsTwofold}
 
@@ -80,6 +81,33 @@ IsTwofold-set preds succs before after ps ss old b a in_preds in_succs = record 
         turn (inl k) = inl ((old.both x y).1 k)
         turn (inr (e, f)) = inr (f, e)
 
+-- an edge that is there
+pub AddsEdge-there : (graph : Links) (before after : ℕ) → HasEdge graph before after → AddsEdge before after graph graph
+AddsEdge-there graph before after edge = record {
+  same = refl;
+  edges = λ x y. ((λ h. inl h), there x y);
+}
+  where
+    there : (x y : ℕ) → HasEdge graph x y ⊎ ((x ≡ before) × (y ≡ after)) → HasEdge graph x y
+    there x y (inl h) = h
+    there x y (inr (e, f)) = rw (e, f) edge
+
+-- what was put in at a place and is taken out there again
+remove-insert : (xs : List ℕ) (i y : ℕ) → i ≤ length xs → remove (insert xs i y) i ≡ xs
+remove-insert xs zero y le = refl
+remove-insert [] (suc i) y le = absurd (omega arith)
+remove-insert (x ∷ xs) (suc i) y le = ap (λ (l : List ℕ). x ∷ l) (remove-insert xs i y (omega arith))
+
+pub put_back : (lists newer newest : Links) (at place node : ℕ) → at < length lists → place ≤ length (get_or lists at [])
+    → newer ≡ set lists at (insert (get_or lists at []) place node)
+    → newest ≡ set newer at (remove (get_or newer at []) place) → newest ≡ lists
+put_back lists newer newest at place node lt le put out = out
+    ∙ ap (λ (ls : Links). set ls at (remove (get_or ls at []) place)) put
+    ∙ set-set lists at _ _
+    ∙ ap (λ (l : List ℕ). set lists at (remove l place)) (get_or-set_same lists at (insert (get_or lists at []) place node) [] lt)
+    ∙ ap (λ (l : List ℕ). set lists at l) (remove-insert (get_or lists at []) place node le)
+    ∙ set-get_or lists at []
+
 -- a node of no list has no edge
 no_edge : (n : ℕ) (x y : ℕ) → HasEdge (replicate n []) x y → ⊥
 no_edge n x y (k, lt, _) = absurd (nothing (cases_lt y n))
@@ -132,15 +160,27 @@ pub rising_read : (lists : Links) (node : ℕ) (item : List ℕ) → ((i : ℕ) 
     → node < length lists → item ≡ get_or lists node item → IsRising item
 rising_read lists node item up lt found = rw (get_or_read lists node item lt found []) (up node)
 
--- an edge that the two lists with it make
-pub edge_made : (preds succs graph : Links) (before after : ℕ) (p s ps ss : List ℕ) → IsTwofold preds succs
-    → preds ≡ graph → before < length graph → after < length graph
-    → p ≡ get_or preds after p → s ≡ get_or succs before s → PutsIn p before ps → PutsIn s after ss
-    → AddsEdge before after graph (set preds after ps) × IsTwofold (set preds after ps) (set succs before ss)
-edge_made preds succs graph before after p s ps ss two e b a found found' in_preds in_succs =
+-- an edge that was put into the two lists
+pub edge_put : (preds succs newer news graph : Links) (before after place : ℕ) (p : List ℕ) → IsTwofold preds succs
+    → preds ≡ graph → before < length graph → after < length graph → p ≡ get_or preds after p
+    → PutsIn p before (insert p place before)
+    → newer ≡ set preds after (insert (get_or preds after []) place before)
+    → (list : List ℕ) × PutsIn (get_or succs before []) after list × (news ≡ set succs before list)
+    → AddsEdge before after graph newer × IsTwofold newer news
+edge_put preds succs newer news graph before after place p two e b a found puts put (list, in_succs, put') =
     let a' : after < length preds = rw e a in
     let b' : before < length preds = rw e b in
-    let b'' : before < length succs = rw two.same b' in
-    let q = rw (get_or_read preds after p a' found []) at in_preds in
-    let r = rw (get_or_read succs before s b'' found' []) at in_succs in
-    (rw (← e) (AddsEdge-set preds before after ps a' q), IsTwofold-set preds succs before after ps ss two b' a' q r)
+    let q = rw (get_or_read preds after p a' found []) at puts in
+    (rw (← e, put) (AddsEdge-set preds before after (insert (get_or preds after []) place before) a' q),
+    rw (put, put') (IsTwofold-set preds succs before after (insert (get_or preds after []) place before) list two b' a' q in_succs))
+
+-- an edge that was put into the one list and taken out again
+pub edge_refused : (preds succs newer newest news : Links) (before after place : ℕ) (p : List ℕ) → IsTwofold preds succs
+    → after < length preds → p ≡ get_or preds after p → place ≤ length p
+    → newer ≡ set preds after (insert (get_or preds after []) place before)
+    → newest ≡ set newer after (remove (get_or newer after []) place) → news ≡ succs
+    → IsTwofold newest news × (newest ≡ preds)
+edge_refused preds succs newer newest news before after place p two lt found le put out kept =
+    let le' = rw (get_or_read preds after p lt found []) at le in
+    let back = put_back preds newer newest after place before lt le' put out in
+    (rw (back, kept) two, back)

@@ -1,12 +1,12 @@
 //! A graph: each node's predecessors and successors, both rising.
 
-ghost use Rattle.std.specs.Prelude.{◌≡◌, ◌<◌, ℕ, [], length, map, replicate, IfOk, OnOk, OnErr};
-ghost use Rattle.std.specs.Prelude.{slice_index_or};
-ghost use Rattle.dep_graph.specs.Lists.{IsRising, ListsAll};
+ghost use Rattle.std.specs.Prelude.{◌≡◌, ◌<◌, ◌≤◌, ℕ, List, [], length, map, replicate, IfOk, OnOk};
+ghost use Rattle.std.specs.Prelude.{OnErr, MatchOption, Contains, insert, remove, slice_set, slice_index_or};
+ghost use Rattle.dep_graph.specs.Lists.{IsRising, ListsAll, PutsIn};
 ghost use Rattle.dep_graph.specs.Paths.{IsAcyclic};
 ghost use Rattle.dep_graph.specs.Edges.{HasEdge, JoinsNodes, IsBare, AddsEdge};
 
-use crate::with_node;
+use crate::put_in;
 use heat_value::Seq;
 use std::alloc::{AllocError, Global};
 use std::marker::Model;
@@ -90,13 +90,67 @@ impl Graph {
         ensures ok { OnOk result (AddsEdge before after self.old self.new) }
         ensures err { OnErr result (self.new ≡ self.old) }
     {
-        // Both lists are made before either is stored, so that want of memory changes nothing.
-        let preds = with_node(&self.preds[after as usize], before)?;
-        let succs = with_node(&self.succs[before as usize], after)?;
-        self.preds[after as usize] = preds;
-        self.succs[before as usize] = succs;
+        let Some(place) = place_for(&self.preds[after as usize], before) else {
+            return Ok(());
+        };
+        put_at(&mut self.preds, after, place, before)?;
+        if let Err(failed) = put_node(&mut self.succs, before, after) {
+            // Want of memory changes nothing, so the first list gives the node back.
+            take_out(&mut self.preds, after, place);
+            return Err(failed);
+        }
         Ok(())
     }
+}
+
+// Where a node goes into a rising list that doesn't have it.
+fn place_for(list: &Seq<u32>, node: u32) -> Option<usize>
+    requires { IsRising list.now }
+    ensures { MatchOption result
+        (Contains list.now node)
+        (λ place. (place ≤ length list.now) × PutsIn list.now node (insert list.now place node)) }
+{
+    match list.as_slice().binary_search(&node) {
+        Ok(_) => None,
+        Err(place) => Some(place),
+    }
+}
+
+// Puts a node into one of the lists, before the one at this place.
+fn put_at(
+    lists: &mut Vec<Seq<u32>>,
+    at: u32,
+    place: usize,
+    node: u32,
+) -> Result<(), AllocError>
+    requires at { at < length lists.old.items }
+    requires place { place ≤ length (slice_index_or lists.old.items at []) }
+    ensures ok { OnOk result (lists.new.items
+        ≡ slice_set lists.old.items at (insert (slice_index_or lists.old.items at []) place node)) }
+    ensures err { OnErr result (lists.new.items ≡ lists.old.items) }
+{
+    lists[at as usize].insert(place, node)
+}
+
+// Puts a node into one of the lists at its place, unless it is there.
+fn put_node(lists: &mut Vec<Seq<u32>>, at: u32, node: u32) -> Result<(), AllocError>
+    requires at { at < length lists.old.items }
+    requires rising { IsRising (slice_index_or lists.old.items at []) }
+    ensures ok { OnOk result ((list : List ℕ) × PutsIn (slice_index_or lists.old.items at []) node list
+        × (lists.new.items ≡ slice_set lists.old.items at list)) }
+    ensures err { OnErr result (lists.new.items ≡ lists.old.items) }
+{
+    put_in(&mut lists[at as usize], node)
+}
+
+// Takes the node at this place out of one of the lists.
+fn take_out(lists: &mut Vec<Seq<u32>>, at: u32, place: usize)
+    requires at { at < length lists.old.items }
+    requires place { place < length (slice_index_or lists.old.items at []) }
+    ensures { lists.new.items
+        ≡ slice_set lists.old.items at (remove (slice_index_or lists.old.items at []) place) }
+{
+    let _node = lists[at as usize].remove(place);
 }
 
 // So many lists without nodes.
