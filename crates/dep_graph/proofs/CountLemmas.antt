@@ -50,8 +50,11 @@ pub all_counted : (marks : List Bool) (nodes : List ℕ) → ((x : ℕ) → Cont
     → marked_count marks nodes ≡ length nodes
 all_counted marks [] h = refl
 all_counted marks (y ∷ nodes) h =
-    omega (arith, count_yes (λ x. get_or marks x false) y nodes (h y (Contains-head nodes y y refl)),
-    all_counted marks nodes (λ x k. h x (Contains-tail nodes y x k)))
+    omega (
+      arith,
+      count_yes (λ x. get_or marks x false) y nodes (h y (Contains-head nodes y y refl)),
+      all_counted marks nodes (λ x k. h x (Contains-tail nodes y x k)),
+    )
 
 -- where the count isn't none, one node has its mark
 pub counted_one : (marks : List Bool) (nodes : List ℕ) → (marked_count marks nodes ≡ 0 → ⊥)
@@ -278,8 +281,13 @@ pub IsCounting-more : (nodes : List ℕ) (i : ℕ) (old new newer : List ℕ) �
     → CountsDown (get_or nodes i 0 ∷ []) new newer → IsCounting nodes (i + 1) old newer
 IsCounting-more nodes i old new newer h lt down = record {
   same = down.same ∙ h.same;
-  each = λ x. omega (arith, h.each x, down.each x, sum_by-drop_more (λ (z : ℕ). cond (eqb z x) 1 0) nodes i 0 lt,
-      sum_by-cons (λ (z : ℕ). cond (eqb z x) 1 0) (get_or nodes i 0) []);
+  each = λ x. omega (
+    arith,
+    h.each x,
+    down.each x,
+    sum_by-drop_more (λ (z : ℕ). cond (eqb z x) 1 0) nodes i 0 lt,
+    sum_by-cons (λ (z : ℕ). cond (eqb z x) 1 0) (get_or nodes i 0) [],
+  );
 }
 
 pub CountsDown-all : (nodes : List ℕ) (i : ℕ) (old new : List ℕ) → IsCounting nodes i old new → length nodes ≤ i
@@ -301,8 +309,13 @@ pub CountsLeft-step : (graph : Links) (left : List Bool) (counts new : List ℕ)
     → ListsAll (λ s. HasEdge graph node s) succs → CountsDown succs counts new → CountsLeft graph (set left node false) new
 CountsLeft-step graph left counts new node succs up old m lists down = record {
   same = down.same ∙ old.same;
-  each = λ x. omega (arith, down.each x, old.each x, count-clear left node (get_or graph x []) m,
-      same_occurrences graph node succs up lists x);
+  each = λ x. omega (
+    arith,
+    down.each x,
+    old.each x,
+    count-clear left node (get_or graph x []) m,
+    same_occurrences graph node succs up lists x,
+  );
 }
 
 pub counted_enough : (graph : Links) (left : List Bool) (counts : List ℕ) (node : ℕ) (succs : List ℕ)
@@ -353,8 +366,10 @@ least_unheld graph left counts node rest counted ready up = record {
     marked = here.0;
     unheld = unmarked_from_none left (get_or graph node []) (sym (counted.each node) ∙ here.1);
   };
-  least = λ other h. le other (Contains-cons_cases rest node other ((ready other).1 (h.marked,
-      counted.each other ∙ none_counted left (get_or graph other []) h.unheld)));
+  least = λ other h. le other (Contains-cons_cases rest node other ((ready other).1 (
+    h.marked,
+    counted.each other ∙ none_counted left (get_or graph other []) h.unheld,
+  )));
 }
   where
     here : IsMarked left node × (get_or counts node 0 ≡ 0)

@@ -170,9 +170,10 @@ pub edge_put : (preds succs newer news graph : Links) (before after place : ℕ)
 edge_put preds succs newer news graph before after place p two e b a found puts put (list, in_succs, put') =
     let a' : after < length preds = rw e a in
     let b' : before < length preds = rw e b in
-    let q = rw (get_or_read preds after p a' found []) at puts in
-    (rw (← e, put) (AddsEdge-set preds before after (insert (get_or preds after []) place before) a' q),
-    rw (put, put') (IsTwofold-set preds succs before after (insert (get_or preds after []) place before) list two b' a' q in_succs))
+    let q = rw (get_or_read preds after p a' found []) at puts in (
+      rw (← e, put) (AddsEdge-set preds before after (insert (get_or preds after []) place before) a' q),
+      rw (put, put') (IsTwofold-set preds succs before after (insert (get_or preds after []) place before) list two b' a' q in_succs),
+    )
 
 -- an edge that was put into the one list and taken out again
 pub edge_refused : (preds succs newer newest news : Links) (before after place : ℕ) (p : List ℕ) → IsTwofold preds succs

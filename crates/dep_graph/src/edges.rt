@@ -117,12 +117,7 @@ fn place_for(list: &Seq<u32>, node: u32) -> Option<usize>
 }
 
 // Puts a node into one of the lists, before the one at this place.
-fn put_at(
-    lists: &mut Vec<Seq<u32>>,
-    at: u32,
-    place: usize,
-    node: u32,
-) -> Result<(), AllocError>
+fn put_at(lists: &mut Vec<Seq<u32>>, at: u32, place: usize, node: u32) -> Result<(), AllocError>
     requires at { at < length lists.old.items }
     requires place { place ≤ length (slice_index_or lists.old.items at []) }
     ensures ok { OnOk result (lists.new.items
