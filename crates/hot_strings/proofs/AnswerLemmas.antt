@@ -1,6 +1,6 @@
 -- The relations of the text functions have the answers that are read from left to right.
-use Rattle.std.proofs.Common.{◌≡◌, ◌≢◌, ◌+◌, ◌<◌, ◌≤◌, ℕ, zero, suc, pred, List, [], ◌∷◌, ◌++◌, length, ◌⊎◌, inl, inr, Bool, true, false, cond, ◌&&◌, ◌==◌, ◌*◌, ◌/◌, ◌%◌, Option, Some, None, refl, ap, sym, ◌∙◌, subst, arith, append_assoc}
-use lib.Utf8.{scalar, scalars, encode, next}
+use Rattle.std.proofs.Common.{◌≡◌, ◌≢◌, ◌+◌, ◌<◌, ◌≤◌, ℕ, zero, suc, List, [], ◌∷◌, ◌++◌, length, ◌⊎◌, inl, inr, Bool, true, false, cond, ◌&&◌, ◌==◌, ◌/◌, Some, None, refl, ap, sym, ◌∙◌, subst, arith}
+use lib.Utf8.{scalars, encode, next}
 use lib.Dec.{T, ltb, lt→ltb, ltb→lt}
 use Rattle.std.proofs.lemmas.Bool.{cases_lt, leb-true, le-leb}
 use Rattle.std.proofs.lemmas.Bool.Decides.{Decides-eqb}
@@ -8,9 +8,9 @@ use Rattle.std.proofs.lemmas.List.Elements.{All-contains}
 use Rattle.std.specs.Bool.{nat_le}
 use Rattle.std.specs.Char.{encode_utf8}
 use Rattle.std.specs.List.{All, Contains}
-use Rattle.std.specs.Prelude.{codes, if◌then◌else◌, ⊤}
+use Rattle.std.specs.Prelude.{if◌then◌else◌, ⊤}
 use Rattle.std.specs.Str.{IsUtf8, encode_utf8_all}
-use Rattle.hot_strings.specs.Answers.{begins, cut_behind, cuts, onto_first, key_length, longest_at, put_behind, with_values, digest_of}
+use Rattle.hot_strings.specs.Answers.{begins, cut_behind, cuts, key_length, longest_at, put_behind, with_values, digest_of}
 use Rattle.hot_strings.specs.Digest.{IsDigestName, IsDigest}
 use Rattle.hot_strings.specs.Pieces.{Params, Piece, key, character, ArePieces, IsLongestKey, NoKeyBegins, AreDistinct, HasNoEmptyKey, replaced}
 use Rattle.hot_strings.specs.Places.{Begins, Lacks, StandsFirst}

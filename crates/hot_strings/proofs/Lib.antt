@@ -6,6 +6,7 @@ pub mod Passed
 pub mod Characters
 pub mod KeyLemmas
 pub mod PieceLemmas
+pub mod Indexing
 pub mod Listings
 pub mod Weights
 pub mod AnswerLemmas

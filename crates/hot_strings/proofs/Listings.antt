@@ -1,11 +1,12 @@
 -- The longest key among those at listed places.
-use Rattle.std.proofs.Common.{◌≡◌, ◌≢◌, ◌+◌, ◌<◌, ◌≤◌, ℕ, zero, suc, List, [], ◌∷◌, ◌++◌, length, take, get_or, Option, Some, None, ◌⊎◌, inl, inr, refl, ap, sym, ◌∙◌, subst, arith, length-append}
+use Rattle.std.proofs.Common.{◌≡◌, ◌≢◌, ◌+◌, ◌<◌, ◌≤◌, ℕ, zero, suc, List, [], ◌∷◌, ◌++◌, length, take, get_or, Some, refl, ap, sym, ◌∙◌, subst, arith}
 use Rattle.std.specs.List.{All, Contains, slice_get, slice_index_or}
 use Rattle.std.proofs.lemmas.List.Elements.{All-weaker, All-contains}
-use Rattle.hot_strings.specs.Indexes.{HasFirst, AreAt}
+use Rattle.hot_strings.specs.Indexes.{HasFirst, AreAt, keys_in}
 use Rattle.hot_strings.specs.Places.{Begins}
 use Rattle.hot_strings.specs.Pieces.{Params, HasNoEmptyKey}
 use Rattle.hot_strings.proofs.KeyLemmas.{IsBest, All-step}
+use Rattle.hot_strings.proofs.Indexing.{key_there}
 
 -- the key at the place, where it stands at the front, is no longer
 abbrev pub IsNoLonger : Params → List ℕ → ℕ → ℕ → Type 0
@@ -57,30 +58,10 @@ HasFirst-key (x ∷ k) [] rest b some e first = absurd first
 HasFirst-key (x ∷ k) (y ∷ s) rest b some e first = let head : y ≡ x = cc in sym head ∙ first
 
 -- where the listed ones are no longer, none is
-pub none_longer : (params : Params) (s places : List ℕ) (b longest : ℕ) → HasNoEmptyKey params → HasFirst s b → AreAt params b places → All (IsNoLonger params s longest) places
+pub none_longer : (params : Params) (s places : List ℕ) (b longest : ℕ) → HasNoEmptyKey params → HasFirst s b → AreAt (keys_in params) b places → All (IsNoLonger params s longest) places
     → All (λ p. Begins p.0 s → length p.0 ≤ longest) params
 none_longer params s places b longest some first at all i d l begins =
     let p = slice_index_or params i d in
     let there : slice_get params i ≡ Some p = got_there params i d l in
-    let listed : Contains places i = at.complete i p.0 p.1 there (HasFirst-key p.0 s begins.0 b (some i d l) begins.1 first) in
+    let listed : Contains places i = at.complete i p.0 (key_there params i p there) (HasFirst-key p.0 s begins.0 b (some i d l) begins.1 first) in
     All-contains (IsNoLonger params s longest) places i all listed p there begins
-
--- what stands in a list with one more
-got_last : (xs : List (List ℕ)) (x : List ℕ) (b : ℕ) (y : List ℕ) → slice_get (xs ++ x ∷ []) b ≡ Some y → (slice_get xs b ≡ Some y) ⊎ ((b ≡ length xs) × (x ≡ y))
-got_last [] x zero y e = let same : x ≡ y = cc in inr (refl, same)
-got_last [] x (suc b) y e = cc
-got_last (w ∷ xs) x zero y e = inl e
-got_last (w ∷ xs) x (suc b) y e = go (got_last xs x b y e)
-  where
-    go : (slice_get xs b ≡ Some y) ⊎ ((b ≡ length xs) × (x ≡ y)) → (slice_get xs b ≡ Some y) ⊎ ((suc b ≡ suc (length xs)) × (x ≡ y))
-    go (inl h) = inl h
-    go (inr (h, same)) = inr (ap suc h, same)
-
--- a list more for the next byte
-pub index_more : (params : Params) (lists : List (List ℕ)) (byte : ℕ) (x : List ℕ) → length lists ≡ byte → ((b : ℕ) (places : List ℕ) → slice_get lists b ≡ Some places → AreAt params b places)
-    → AreAt params byte x → (length (lists ++ x ∷ []) ≡ byte + 1) × ((b : ℕ) (places : List ℕ) → slice_get (lists ++ x ∷ []) b ≡ Some places → AreAt params b places)
-index_more params lists byte x count each at = (omega (arith, length-append lists (x ∷ [])), λ b places e. go b places (got_last lists x b places e))
-  where
-    go : (b : ℕ) (places : List ℕ) → (slice_get lists b ≡ Some places) ⊎ ((b ≡ length lists) × (x ≡ places)) → AreAt params b places
-    go b places (inl h) = each b places h
-    go b places (inr (h, same)) = rw (h, count, ← same) at

@@ -1,6 +1,13 @@
--- The places of keys, listed by the keys' first bytes.
-use Rattle.std.specs.Prelude.{◌≡◌, ◌<◌, ℕ, List, [], ◌∷◌, length, All, Contains, Some, slice_get}
+-- What is found out of keys once: whether one is empty, and their places by their first bytes.
+use Rattle.std.specs.Prelude.{◌≡◌, ◌≢◌, ◌<◌, ℕ, List, [], ◌∷◌, length, map, All, Any, Contains, MatchBool}
+use Rattle.std.specs.Prelude.{Some, IfSome, slice_get}
+use Rattle.std.specs.Str.{IsUtf8}
 use Rattle.hot_strings.specs.Pieces.{Params}
+use Rattle.hot_strings.specs.declared.index.KeyIndex.{KeyIndex}
+
+-- the keys, whatever is put in their place
+abbrev pub keys_in : Params → List (List ℕ)
+keys_in params = map (λ p. p.0) params
 
 -- the text begins with the byte
 abbrev pub HasFirst : List ℕ → ℕ → Type 0
@@ -8,11 +15,16 @@ HasFirst [] b = ⊥
 HasFirst (x ∷ s) b = x ≡ b
 
 -- these are places of keys, and those of all keys that begin with the byte are among them
-pub record AreAt (params : Params) (b : ℕ) (places : List ℕ) : Type 0 where
-  pub within : All (λ i. i < length params) places
-  pub complete : (i : ℕ) (k v : List ℕ) → slice_get params i ≡ Some (k, v) → HasFirst k b → Contains places i
+pub record AreAt (keys : List (List ℕ)) (b : ℕ) (places : List ℕ) : Type 0 where
+  pub within : All (λ i. i < length keys) places
+  pub complete : (i : ℕ) (k : List ℕ) → slice_get keys i ≡ Some k → HasFirst k b → Contains places i
 
 -- for each byte a list of such places
-pub record IsIndex (params : Params) (lists : List (List ℕ)) : Type 0 where
+pub record IsIndex (keys : List (List ℕ)) (lists : List (List ℕ)) : Type 0 where
   pub all : length lists ≡ 256
-  pub each : (b : ℕ) (places : List ℕ) → slice_get lists b ≡ Some places → AreAt params b places
+  pub each : (b : ℕ) (places : List ℕ) → slice_get lists b ≡ Some places → AreAt keys b places
+
+-- it says whether a key is empty, and the places that it lists are those of these keys
+pub record IsIndexOf (keys : List (List ℕ)) (x : KeyIndex) : Type 0 where
+  pub empty : MatchBool x.empty (Any (λ k. k ≡ []) keys) (All (λ k. k ≢ []) keys × All IsUtf8 keys)
+  pub lists : IfSome x.lists (IsIndex keys)

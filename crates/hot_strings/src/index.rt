@@ -1,63 +1,101 @@
-//! The places of keys by their first byte, for finding the longest key in a long list.
-ghost use Rattle.std.specs.Prelude.{◌≡◌, ◌↔◌, ◌<◌, ℕ, List, IsTrue, IfOk, All};
-ghost use Rattle.std.specs.Prelude.{MatchOption, IfSome, Some, slice_get, length};
-ghost use Rattle.hot_strings.specs.Indexes.{IsIndex, AreAt, HasFirst};
-ghost use Rattle.hot_strings.specs.Pieces.{IsLongestKey, NoKeyBegins, HasNoEmptyKey};
+//! What is found out of keys once, for replacing them in many texts.
+ghost use Rattle.std.specs.Prelude.{◌≡◌, ◌↔◌, ◌<◌, ◌++◌, ◌∷◌, [], ℕ, List, IsTrue, IfOk, OnOk, All};
+ghost use Rattle.std.specs.Prelude.{MatchOption, MatchBool, IfSome, Some, slice_get, slice_set, length};
+ghost use Rattle.std.specs.Str.{IsUtf8};
+ghost use Rattle.hot_strings.specs.Indexes.{keys_in, IsIndexOf, IsIndex, AreAt, HasFirst};
+ghost use Rattle.hot_strings.specs.Pieces.{IsLongestKey, NoKeyBegins, HasEmptyKey, HasNoEmptyKey};
 
-use crate::pieces::begins;
+use crate::keys::has_empty_key;
+use crate::pieces::{begins, longest_key};
 use heat_value::{Seq, Text};
 use std::alloc::{AllocError, Global};
 
 // For fewer keys all are looked at.
 const FEW: usize = 32;
 
-/// For each byte the places of the keys that begin with it.
+/// Whether some key is empty and, for a long list of keys, for each byte the places of those that begin with it.
 #[derive(Drop)]
-pub struct Index {
-    pub lists: Seq<Seq<usize>>,
+pub struct KeyIndex {
+    empty: bool,
+    lists: Option<Seq<Seq<usize>>>,
 }
 
-/// The index of a long list of keys; none for a short one.
-pub fn index_of(alloc: Global, params: &[(Text, Text)]) -> Result<Option<Index>, AllocError>
-    ensures { IfOk result (λ o. IfSome o (λ x. IsIndex params.now x.lists)) }
+impl KeyIndex {
+    /// The index of these keys. What is put in their place doesn't count.
+    pub fn new(alloc: Global, params: &[(Text, Text)]) -> Result<KeyIndex, AllocError>
+        ensures { IfOk result (IsIndexOf (keys_in params.now)) }
+    {
+        let empty = has_empty_key(params);
+        let lists = lists_of(alloc, params)?;
+        Ok(KeyIndex { empty, lists })
+    }
+
+    // Whether some key is empty.
+    pub(crate) fn has_empty_key(&self) -> bool
+        ensures { result ≡ self.now.empty }
+    {
+        self.empty
+    }
+}
+
+// The places of a long list of keys by their first bytes; none for a short one.
+fn lists_of(alloc: Global, params: &[(Text, Text)]) -> Result<Option<Seq<Seq<usize>>>, AllocError>
+    ensures { IfOk result (λ o. IfSome o (IsIndex (keys_in params.now))) }
 {
     if params.len() < FEW {
         return Ok(None);
     }
-    let mut lists = Seq::new(alloc);
-    for byte in 0..256usize {
-        lists.push(places_of(alloc, params, byte)?)?;
-    }
-    Ok(Some(Index { lists }))
-}
-
-// The places of the keys that begin with a byte.
-fn places_of(alloc: Global, params: &[(Text, Text)], byte: usize) -> Result<Seq<usize>, AllocError>
-    ensures { IfOk result (AreAt params.now byte) }
-{
-    let mut places = Seq::new(alloc);
+    let mut lists = empty_lists(alloc)?;
     for i in 0..params.len() {
-        if has_first(params[i].0.as_str(), byte) {
-            places.push(i)?;
-        }
+        list_place(&mut lists, params[i].0.as_str(), i)?;
     }
-    Ok(places)
+    Ok(Some(lists))
 }
 
-// Whether a text begins with a byte.
-fn has_first(text: &str, byte: usize) -> bool
-    ensures { IsTrue result ↔ HasFirst text.now byte }
+// For each byte no place.
+fn empty_lists(alloc: Global) -> Result<Seq<Seq<usize>>, AllocError>
+    ensures count { IfOk result (λ ls. length ls ≡ 256) }
+    ensures empty { IfOk result (λ ls. All (λ places. places ≡ []) ls) }
 {
-    match text.as_bytes() {
-        [] => false,
-        [first, ..] => usize::from(*first) == byte,
+    let mut lists = Seq::new(alloc);
+    for _ in 0..256usize {
+        lists.push(Seq::new(alloc))?;
+    }
+    Ok(lists)
+}
+
+// Lists a key's place under the key's first byte; that of an empty key nowhere.
+fn list_place(lists: &mut Seq<Seq<usize>>, key: &str, place: usize) -> Result<(), AllocError>
+    requires { length lists.old ≡ 256 }
+    ensures none { OnOk result (key.now ≡ [] → lists.new ≡ lists.old) }
+    ensures one { OnOk result ((b : ℕ) → HasFirst key.now b → (places : List ℕ)
+        × (slice_get lists.old b ≡ Some places)
+        × (lists.new ≡ slice_set lists.old b (places ++ place ∷ []))) }
+{
+    match key.as_bytes() {
+        [] => Ok(()),
+        [first, ..] => lists.item_mut(usize::from(*first)).push(place),
     }
 }
 
-/// The place of the longest key that stands at the front of a text, found by the text's first byte.
-pub fn longest_listed(params: &[(Text, Text)], index: &Index, text: &str) -> Option<usize>
+/// The place of the longest key that stands at the front of a text.
+pub fn longest(params: &[(Text, Text)], index: &KeyIndex, text: &str) -> Option<usize>
     requires keys { HasNoEmptyKey params.now }
-    requires index { IsIndex params.now index.now.lists }
+    requires index { IsIndexOf (keys_in params.now) index.now }
+    ensures { MatchOption result (NoKeyBegins params.now text.now) (λ i.
+        (k : List ℕ) × (v : List ℕ) × (slice_get params.now i ≡ Some (k, v))
+        × IsLongestKey params.now text.now k v) }
+{
+    match &index.lists {
+        Some(lists) => longest_listed(params, lists, text),
+        None => longest_key(params, text),
+    }
+}
+
+// The same, found by the text's first byte.
+fn longest_listed(params: &[(Text, Text)], lists: &Seq<Seq<usize>>, text: &str) -> Option<usize>
+    requires keys { HasNoEmptyKey params.now }
+    requires index { IsIndex (keys_in params.now) lists.now }
     ensures { MatchOption result (NoKeyBegins params.now text.now) (λ i.
         (k : List ℕ) × (v : List ℕ) × (slice_get params.now i ≡ Some (k, v))
         × IsLongestKey params.now text.now k v) }
@@ -66,7 +104,7 @@ pub fn longest_listed(params: &[(Text, Text)], index: &Index, text: &str) -> Opt
         [] => None,
         [first, ..] => longest_among(
             params,
-            index.lists.as_slice()[usize::from(*first)].as_slice(),
+            lists.as_slice()[usize::from(*first)].as_slice(),
             text,
         ),
     }
@@ -75,7 +113,7 @@ pub fn longest_listed(params: &[(Text, Text)], index: &Index, text: &str) -> Opt
 // The longest of the keys at some places, which are all that begin with the text's first byte.
 fn longest_among(params: &[(Text, Text)], places: &[usize], text: &str) -> Option<usize>
     requires keys { HasNoEmptyKey params.now }
-    requires first { (b : ℕ) × HasFirst text.now b × AreAt params.now b places.now }
+    requires first { (b : ℕ) × HasFirst text.now b × AreAt (keys_in params.now) b places.now }
     ensures { MatchOption result (NoKeyBegins params.now text.now) (λ i.
         (k : List ℕ) × (v : List ℕ) × (slice_get params.now i ≡ Some (k, v))
         × IsLongestKey params.now text.now k v) }
@@ -97,7 +135,7 @@ fn longest_among(params: &[(Text, Text)], places: &[usize], text: &str) -> Optio
 // The place that is listed there.
 fn place_at(params: &[(Text, Text)], places: &[usize], j: usize) -> usize
     requires listed { j < length places.now }
-    requires within { All (λ i. i < length params.now) places.now }
+    requires within { All (λ i. i < length (keys_in params.now)) places.now }
     ensures place { slice_get places.now j ≡ Some result }
     ensures within { result < length params.now }
 {

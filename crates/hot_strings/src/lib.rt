@@ -21,6 +21,7 @@ mod whole;
 pub use digesting::{digest, is_digest_name};
 pub use fault::StringFault;
 pub use fitting::{fits, map_fits, value_size};
+pub use index::KeyIndex;
 pub use joining::join;
 pub use keys::are_distinct;
 pub use replacing::{replace, replace_within};

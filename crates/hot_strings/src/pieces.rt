@@ -1,24 +1,24 @@
 //! The pieces of a template, one after another.
 ghost use Rattle.std.specs.Prelude.{◌≡◌, ◌≢◌, ◌<◌, ◌++◌, [], List, ℕ, MatchBool};
-ghost use Rattle.std.specs.Prelude.{MatchOption, IfSome, Some, slice_get, encode_utf8};
+ghost use Rattle.std.specs.Prelude.{MatchOption, Some, slice_get, encode_utf8};
 ghost use Rattle.std.specs.Char.{IsScalar};
 ghost use Rattle.std.specs.Str.{IsUtf8};
-ghost use Rattle.hot_strings.specs.Indexes.{IsIndex};
+ghost use Rattle.hot_strings.specs.Indexes.{keys_in, IsIndexOf};
 ghost use Rattle.hot_strings.specs.Places.{Begins};
 ghost use Rattle.hot_strings.specs.Pieces.{Piece, source, target, IsFirstPiece, IsLongestKey};
 ghost use Rattle.hot_strings.specs.Pieces.{NoKeyBegins, HasNoEmptyKey};
 
-use crate::index::{Index, longest_listed};
+use crate::index::{KeyIndex, longest};
 use heat_value::Text;
 
 /// What stands in place of a text's first piece, and the text behind that piece.
 pub fn first_piece<'a>(
     params: &'a [(Text, Text)],
-    index: &Option<Index>,
+    index: &KeyIndex,
     text: &'a str,
 ) -> (&'a str, &'a str)
     requires keys { HasNoEmptyKey params.now }
-    requires index { IfSome index.now (λ x. IsIndex params.now x.lists) }
+    requires index { IsIndexOf (keys_in params.now) index.now }
     requires some { text.now ≢ [] }
     ensures piece { (p : Piece) × (text.now ≡ source p ++ result.1.now)
         × IsFirstPiece params.now text.now p × (result.0.now ≡ target p) }
@@ -33,22 +33,8 @@ pub fn first_piece<'a>(
     }
 }
 
-// The place of the longest key that stands at the front of a text.
-fn longest(params: &[(Text, Text)], index: &Option<Index>, text: &str) -> Option<usize>
-    requires keys { HasNoEmptyKey params.now }
-    requires index { IfSome index.now (λ x. IsIndex params.now x.lists) }
-    ensures { MatchOption result (NoKeyBegins params.now text.now) (λ i.
-        (k : List ℕ) × (v : List ℕ) × (slice_get params.now i ≡ Some (k, v))
-        × IsLongestKey params.now text.now k v) }
-{
-    match index {
-        Some(index) => longest_listed(params, index, text),
-        None => longest_key(params, text),
-    }
-}
-
-// The same, found among all keys.
-fn longest_key(params: &[(Text, Text)], text: &str) -> Option<usize>
+/// The place of the longest key that stands at the front of a text, found among all keys.
+pub fn longest_key(params: &[(Text, Text)], text: &str) -> Option<usize>
     requires { HasNoEmptyKey params.now }
     ensures { MatchOption result (NoKeyBegins params.now text.now) (λ i.
         (k : List ℕ) × (v : List ℕ) × (slice_get params.now i ≡ Some (k, v))

@@ -1,9 +1,9 @@
 //! Replacing keys in a template, in one pass.
-ghost use Rattle.std.specs.Prelude.{◌≤◌, IsTrue, IfOk, IfErr, IfSome, OnOk, MatchBool, All};
+ghost use Rattle.std.specs.Prelude.{◌≤◌, IsTrue, IfOk, IfErr, OnOk, MatchBool, All};
 ghost use Rattle.std.specs.Str.{IsUtf8};
 ghost use Rattle.heat_value.specs.Data.{words};
 ghost use Rattle.hot_strings.specs.Answers.{HasAnswer};
-ghost use Rattle.hot_strings.specs.Indexes.{IsIndex};
+ghost use Rattle.hot_strings.specs.Indexes.{keys_in, IsIndexOf};
 ghost use Rattle.hot_strings.specs.Only.{HoldsOfOne};
 ghost use Rattle.hot_strings.specs.Places.{IsPart, Lacks};
 ghost use Rattle.hot_strings.specs.Size.{Fits, FitsWithin};
@@ -12,7 +12,8 @@ ghost use Rattle.hot_strings.specs.Pieces.{HasNoEmptyKey, LacksSomeKey, HasEvery
 
 use crate::StringFault;
 use crate::draft::Draft;
-use crate::index::{Index, index_of};
+use crate::index::KeyIndex;
+use crate::keys::has_empty_key;
 use crate::pieces::first_piece;
 use crate::size::MAX_SIZE;
 use heat_value::Text;
@@ -50,15 +51,18 @@ pub fn replace(
     filled(alloc, template.as_str(), params, MAX_SIZE)
 }
 
-/// The same where the text is no function's result, with a limit of its own in bytes of JSON: F03 for
-/// an empty key, F06 for a text that takes more.
+/// The same where the text is no function's result, with a limit of its own in bytes of JSON and an
+/// index of the keys, which is made once for many texts: F03 for an empty key, F06 for a text that
+/// takes more.
 pub fn replace_within(
     alloc: Global,
     template: &Text,
     params: &[(Text, Text)],
+    index: &KeyIndex,
     limit: usize,
 ) -> Result<Text, StringFault>
     requires distinct { AreDistinct params.now }
+    requires index { IsIndexOf (keys_in params.now) index.now }
     requires some { 2 ≤ limit }
     ensures ok { IfOk result (IsReplaced params.now template.now) }
     ensures fits { IfOk result (λ t. FitsWithin limit (words t)) }
@@ -66,23 +70,10 @@ pub fn replace_within(
     ensures err { IfErr result (λ e. IsWithinFault e limit params.now template.now) }
     ensures answer { HasNoEmptyKey params.now → HasAnswer params.now template.now }
 {
-    if has_empty_key(params) {
+    if index.has_empty_key() {
         return Err(StringFault::F03);
     }
-    filled(alloc, template.as_str(), params, limit)
-}
-
-// Whether some key is empty; if not, each key is known as text.
-fn has_empty_key(params: &[(Text, Text)]) -> bool
-    ensures { MatchBool result (HasEmptyKey params.now)
-        (HasNoEmptyKey params.now × All (λ p. IsUtf8 p.0) params.now) }
-{
-    for param in params {
-        if param.0.as_str().is_empty() {
-            return true;
-        }
-    }
-    false
+    filled_by(alloc, template.as_str(), params, index, limit)
 }
 
 // Whether some key stands nowhere in the template, where that counts.
@@ -127,7 +118,7 @@ fn filled(
     ensures fits { IfOk result (λ t. FitsWithin limit (words t)) }
     ensures err { IfErr result (λ e. IsOfReplaced e limit params.now template.now) }
 {
-    let index = index_of(alloc, params)?;
+    let index = KeyIndex::new(alloc, params)?;
     filled_by(alloc, template, params, &index, limit)
 }
 
@@ -136,12 +127,12 @@ fn filled_by(
     alloc: Global,
     template: &str,
     params: &[(Text, Text)],
-    index: &Option<Index>,
+    index: &KeyIndex,
     limit: usize,
 ) -> Result<Text, StringFault>
     requires keys { HasNoEmptyKey params.now }
     requires texts { All (λ p. IsUtf8 p.0) params.now }
-    requires index { IfSome index.now (λ x. IsIndex params.now x.lists) }
+    requires index { IsIndexOf (keys_in params.now) index.now }
     requires some { 2 ≤ limit }
     ensures ok { IfOk result (IsReplaced params.now template.now) }
     ensures fits { IfOk result (λ t. FitsWithin limit (words t)) }

@@ -3,7 +3,8 @@
 use crate::cases::{Case, Teller, wrong_among};
 use heat_value::{Text, Value, ValueFault};
 use hot_strings::{
-    StringFault, are_distinct, digest, is_digest_name, join, replace, replace_within, split,
+    KeyIndex, StringFault, are_distinct, digest, is_digest_name, join, replace, replace_within,
+    split,
 };
 use std::alloc::{AllocError, Global};
 use std::test::Fail;
@@ -129,9 +130,10 @@ impl Teller for ReplacedWithin {
         if self.0 < 2 || !are_distinct(params.as_slice()) {
             return String::from_str(alloc, "off its condition");
         }
+        let index = KeyIndex::new(alloc, params.as_slice())?;
         words_of(
             alloc,
-            replace_within(alloc, &template, params.as_slice(), self.0),
+            replace_within(alloc, &template, params.as_slice(), &index, self.0),
         )
     }
 }

@@ -1,7 +1,7 @@
 use Rattle.std.proofs.Common.{◌≢◌, ◌<◌, [], length, arith, subst}
 use Rattle.std.specs.Str.{IsUtf8}
 use Rattle.hot_strings.proofs.KeyLemmas.{All-step, All-end, not_empty}
-use Rattle.hot_strings.proofs.replacing.has_empty_key.Goals as goal
+use Rattle.hot_strings.proofs.keys.has_empty_key.Goals as goal
 
 pub loop-param-preserved : goal.loop-param-preserved
 loop-param-preserved c =

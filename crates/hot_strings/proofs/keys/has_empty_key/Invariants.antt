@@ -2,7 +2,7 @@ use Rattle.std.proofs.Common.{take}
 use Rattle.std.specs.List.{All}
 use Rattle.std.specs.Str.{IsUtf8}
 use Rattle.hot_strings.specs.Pieces.{HasNoEmptyKey}
-use Rattle.hot_strings.proofs.replacing.has_empty_key.Given as goal
+use Rattle.hot_strings.proofs.keys.has_empty_key.Given as goal
 
 -- of the keys so far none is empty, and each is a text
 abbrev pub invariant-loop-param : goal.invariant-loop-param
