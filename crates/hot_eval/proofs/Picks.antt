@@ -1,7 +1,7 @@
 -- Keys with their lists, and choices made key by key.
 use Rattle.std.proofs.Common.{◌≡◌, ◌≢◌, ◌∙◌, ◌<◌, ◌≤◌, ◌+◌, ◌||◌, ℕ, suc, List, [], ◌∷◌, ◌++◌, Bool, true, false}
 use Rattle.std.proofs.Common.{Option, Some, None, option_map, option_and_then, length, get_or, drop, refl, ap, sym}
-use Rattle.std.proofs.Common.{subst, arith, append_assoc}
+use Rattle.std.proofs.Common.{subst, arith, append_assoc, find, zero}
 use Rattle.std.proofs.lemmas.List.{map-append, append-nil, length-append, length-map, drop_all, drop_more}
 use Rattle.std.proofs.lemmas.List.Elements.{All-nil, All-cons}
 use Rattle.std.proofs.lemmas.Map.Text.{is_eq-slice_cmp}
@@ -12,12 +12,15 @@ use Rattle.std.specs.List.Sorted.{IsStrictlySortedBy}
 use Rattle.std.specs.Ordering.{nat_cmp, is_eq}
 use Rattle.std.specs.Prelude.{unwrap_or, if◌then◌else◌}
 use Rattle.std.specs.Str.{bytes_eq}
-use Rattle.std.specs.declared.cmp.Ordering.TheVariants.{Less}
+use Rattle.std.specs.declared.cmp.Ordering.TheVariants.{Less, Equal}
 use denote.Ref.{Bor}
 use Rattle.heat_value.specs.Coercion.{coerced}
 use Rattle.heat_value.specs.Data.{Data, null, Nodes, Members, no_members, member, keys_of, Rises}
 use Rattle.heat_value.specs.Meaning.{data_of}
 use Rattle.heat_value.specs.declared.value.Value.{Value}
+use Rattle.heat_plan.specs.Order.{Rising}
+use Rattle.heat_plan.proofs.Searched.{same_by, below_same, below_at}
+use Rattle.hot_strings.specs.Indexes.{keys_in}
 use Rattle.hot_strings.specs.Pieces.{Params, AreDistinct, HasNoEmptyKey}
 use Rattle.hot_eval.specs.Choices.{Lists, lists_in}
 use Rattle.hot_eval.specs.Fillings.{texts_for, item_of}
@@ -68,19 +71,16 @@ cases_in k ms ls (Some ns) e = go (lists_in ms) refl e
     go None is f = cc
     go (Some more) is f = (ns, more, is, let same : ls ≡ (k, ns) ∷ more = cc in same)
 
-apart : (k : List ℕ) (ms : Members) (ls : Lists) → AllByRecursion (λ y. slice_cmp nat_cmp k y ≡ Less) (keys_of ms)
-    → lists_in ms ≡ Some ls → All (λ m. m.0 ≢ k) ls
-apart k no_members ls h e =
-    let none : [] ≡ ls = cc in subst (λ (x : Lists). All (λ m. m.0 ≢ k) x) none (All-nil (λ m. m.0 ≢ k))
-apart k (member l d ms) ls h e =
+-- a key below those of an object is below those of its lists
+below_lists : (k : List ℕ) (ms : Members) (ls : Lists) → AllByRecursion (λ y. slice_cmp nat_cmp k y ≡ Less) (keys_of ms)
+    → lists_in ms ≡ Some ls → All (λ m. slice_cmp nat_cmp k m.0 ≡ Less) ls
+below_lists k no_members ls h e =
+    let none : [] ≡ ls = cc in
+    subst (λ (x : Lists). All (λ m. slice_cmp nat_cmp k m.0 ≡ Less) x) none (All-nil (λ m. slice_cmp nat_cmp k m.0 ≡ Less))
+below_lists k (member l d ms) ls h e =
     let c = cases_in l ms ls (list_in d) e in
-    subst (λ (x : Lists). All (λ m. m.0 ≢ k) x) (sym c.3) (All-cons (λ m. m.0 ≢ k) (l, c.0) c.1
-    (λ e. (
-    let same : bytes_eq k l ≡ true = (bytes_eq-Decides k l).1 (sym e) in
-    let other : false ≡ bytes_eq k l = ap is_eq (sym h.0) ∙ is_eq-slice_cmp k l in
-    cc
-    ))
-    (apart k ms c.1 h.1 c.2))
+    subst (λ (x : Lists). All (λ m. slice_cmp nat_cmp k m.0 ≡ Less) x) (sym c.3)
+    (All-cons (λ m. slice_cmp nat_cmp k m.0 ≡ Less) (l, c.0) c.1 h.0 (below_lists k ms c.1 h.1 c.2))
 
 neither : (a b : Bool) → (a || b) ≡ false → (a ≡ false) × (b ≡ false)
 neither true b e = cc
@@ -97,7 +97,7 @@ are_keys (member k d ms) ls h e some =
     (subst (λ (x : Lists). list_any (λ l. is_empty l.0) x ≡ false) c.3 some) in
     subst AreKeys (sym c.3) (
       λ e. (let none : is_empty k ≡ true = is_empty-none k e in let full : is_empty k ≡ false = two.0 in cc),
-      apart k ms c.1 h.0 c.2,
+      below_lists k ms c.1 h.0 c.2,
       are_keys ms c.1 h.1 c.2 two.1,
     )
 
@@ -147,18 +147,37 @@ making_next ls ps n l p texts vs k t v below within at here is key text h = reco
 
 -- ---- the keys of a choice
 
-apart_texts : (k : List ℕ) (ls : Lists) (ps : List ℕ) → All (λ m. m.0 ≢ k) ls
+-- a key above another is not that one
+above_other : (k l : List ℕ) → slice_cmp nat_cmp k l ≡ Less → l ≢ k
+above_other k l below e =
+    let same : bytes_eq k l ≡ true = (bytes_eq-Decides k l).1 (sym e) in
+    let other : false ≡ bytes_eq k l = ap is_eq (sym below) ∙ is_eq-slice_cmp k l in
+    cc
+
+apart_texts : (k : List ℕ) (ls : Lists) (ps : List ℕ) → All (λ m. slice_cmp nat_cmp k m.0 ≡ Less) ls
     → All (λ q. q.0 ≢ k) (texts_for (choice_at ls ps))
 apart_texts k [] ps h = All-nil (λ q. q.0 ≢ k)
 apart_texts k (l ∷ ls) [] h = All-nil (λ q. q.0 ≢ k)
 apart_texts k (l ∷ ls) (p ∷ ps) h =
     All-cons (λ q. q.0 ≢ k) (l.0, coerced (unwrap_or (node_at l.1 p) null)) (texts_for (choice_at ls ps))
-    (h 0 l (omega arith)) (apart_texts k ls ps (λ i d b. h (suc i) d (omega arith)))
+    (above_other k l.0 (h 0 l (omega arith))) (apart_texts k ls ps (λ i d b. h (suc i) d (omega arith)))
 
 pub distinct_texts : (ls : Lists) (ps : List ℕ) → AreKeys ls → AreDistinct (texts_for (choice_at ls ps))
 distinct_texts [] ps h = tt
 distinct_texts (l ∷ ls) [] h = tt
 distinct_texts (l ∷ ls) (p ∷ ps) h = (apart_texts l.0 ls ps h.1, distinct_texts ls ps h.2)
+
+below_texts : (k : List ℕ) (ls : Lists) (ps : List ℕ) → All (λ m. slice_cmp nat_cmp k m.0 ≡ Less) ls
+    → AllByRecursion (λ y. slice_cmp nat_cmp k y ≡ Less) (keys_in (texts_for (choice_at ls ps)))
+below_texts k [] ps h = tt
+below_texts k (l ∷ ls) [] h = tt
+below_texts k (l ∷ ls) (p ∷ ps) h = (h 0 l (omega arith), below_texts k ls ps (λ i d b. h (suc i) d (omega arith)))
+
+pub rising_texts : (ls : Lists) (ps : List ℕ) → AreKeys ls → Rising (keys_in (texts_for (choice_at ls ps)))
+unfolding IsStrictlySortedBy
+rising_texts [] ps h = tt
+rising_texts (l ∷ ls) [] h = tt
+rising_texts (l ∷ ls) (p ∷ ps) h = (below_texts l.0 ls ps h.1, rising_texts ls ps h.2)
 
 pub full_texts : (ls : Lists) (ps : List ℕ) → AreKeys ls → HasNoEmptyKey (texts_for (choice_at ls ps))
 full_texts [] ps h = All-nil (λ q. q.0 ≢ [])
@@ -185,23 +204,31 @@ length-items ps vs e =
     shorter (p ∷ ps) [] = omega arith
     shorter (p ∷ ps) (v ∷ vs) = omega (arith, shorter ps vs)
 
--- a list is not at its end before its length
-rest_there : (vs : List (Bor Value)) (n : ℕ) → n < length vs → (v : Bor Value) × (drop n vs ≡ v ∷ drop (n + 1) vs)
-rest_there [] n below = absurd (omega (arith, below))
-rest_there (w ∷ vs) n below = (get_or (w ∷ vs) n w, drop_more (w ∷ vs) n w below)
+-- the item at the place at which a search found the key
+pub item_found : (s : List ℕ) (ps : Params) (vs : List (Bor Value)) (n : ℕ) (v : Bor Value) → Rising (keys_in ps)
+    → n < length ps → length ps ≤ length vs → ((e : List ℕ × List ℕ) → slice_cmp nat_cmp (get_or ps n e).0 s ≡ Equal)
+    → v ≡ get_or vs n v → Some (data_of v.now) ≡ item_of (with_items ps vs) s
+unfolding IsStrictlySortedBy
+item_found s [] vs n v up below within here there = absurd (omega arith)
+item_found s (p ∷ ps) [] n v up below within here there = absurd (omega arith)
+item_found s (p ∷ ps) (w ∷ vs) zero v up below within here there =
+    ap (λ (x : Bor Value). Some (data_of x.now)) there
+    ∙ sym (ap (λ b. if b then Some (data_of w.now) else item_of (with_items ps vs) s) (same_by p.0 s Equal (here p)))
+item_found s (p ∷ ps) (w ∷ vs) (suc n) v up below within here there =
+    let before : slice_cmp nat_cmp p.0 s ≡ Less =
+    below_same p.0 (get_or ps n p).0 s (below_at (λ (q : List ℕ × List ℕ). q.0) p.0 ps n p up.0 (omega arith)) (here p) in
+    item_found s ps vs n v up.1 (omega arith) (omega arith) here there
+    ∙ sym (ap (λ b. if b then Some (data_of w.now) else item_of (with_items ps vs) s) (same_by p.0 s Less before))
 
-pub item_next : (s : List ℕ) (ps : Params) (vs : List (Bor Value)) (n : ℕ) (p d : List ℕ × List ℕ)
-    (whole : Option Data) → n < length ps → length ps ≤ length vs → p ≡ get_or ps n d → bytes_eq p.0 s ≡ false
-    → whole ≡ item_of (with_items (drop n ps) (drop n vs)) s
-    → whole ≡ item_of (with_items (drop (n + 1) ps) (drop (n + 1) vs)) s
-item_next s ps vs n p d whole below within at other is =
-    let t = rest_there vs n (omega (arith, below, within)) in
-    is ∙ (rw (rest_at ps n p d below at, t.1)
-    (ap (λ b. if b then Some (data_of t.0.now) else item_of (with_items (drop (n + 1) ps) (drop (n + 1) vs)) s) other))
-
-pub item_here : (s : List ℕ) (ps : Params) (vs : List (Bor Value)) (n : ℕ) (p d : List ℕ × List ℕ) (v e : Bor Value)
-    (whole : Option Data) → n < length ps → length ps ≤ length vs → p ≡ get_or ps n d → v ≡ get_or vs n e
-    → bytes_eq p.0 s ≡ true → whole ≡ item_of (with_items (drop n ps) (drop n vs)) s → Some (data_of v.now) ≡ whole
-item_here s ps vs n p d v e whole below within at there here is =
-    sym (is ∙ (rw (rest_at ps n p d below at, rest_at vs n v e (omega (arith, below, within)) there)
-    (ap (λ b. if b then Some (data_of v.now) else item_of (with_items (drop (n + 1) ps) (drop (n + 1) vs)) s) here)))
+-- no item, where no key is found
+pub item_none : (s : List ℕ) (ps : Params) (vs : List (Bor Value)) → None ≡ find (λ q. bytes_eq q.0 s) ps
+    → None ≡ item_of (with_items ps vs) s
+item_none s [] vs e = refl
+item_none s (p ∷ ps) [] e = refl
+item_none s (p ∷ ps) (w ∷ vs) e = by (bytes_eq p.0 s) (λ f. item_none s ps vs f) e
+  where
+    by : (b : Bool) → (None ≡ find (λ q. bytes_eq q.0 s) ps → None ≡ item_of (with_items ps vs) s)
+        → None ≡ (if b then Some p else find (λ q. bytes_eq q.0 s) ps)
+        → None ≡ (if b then Some (data_of w.now) else item_of (with_items ps vs) s)
+    by true more e = cc
+    by false more e = more e

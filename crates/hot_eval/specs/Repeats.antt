@@ -1,10 +1,15 @@
 -- What the program's lists and choices of a repeat show, and how it goes from choice to choice.
 use Rattle.std.specs.Prelude.{◌≡◌, ◌≢◌, ◌<◌, ℕ, zero, suc, List, [], ◌∷◌, ◌++◌, ⊤, All, Bool, MatchBool, Option}
 use Rattle.std.specs.Prelude.{Some, None, Result, Ok, Err, map, unwrap_or}
+use Rattle.std.specs.Ordering.{nat_cmp}
+use Rattle.std.specs.Cmp.Lexicographic.{slice_cmp}
+use Rattle.std.specs.declared.cmp.Ordering.TheVariants.{Less}
 use denote.Ref.{Bor}
 use Rattle.heat_value.specs.Data.{null, Nodes, no_nodes, node}
 use Rattle.heat_value.specs.Meaning.{data_of, nodes_of}
 use Rattle.heat_value.specs.declared.value.Value.{Value}
+use Rattle.heat_plan.specs.Order.{Rising}
+use Rattle.hot_strings.specs.Indexes.{keys_in, IsIndexOf}
 use Rattle.hot_strings.specs.Pieces.{Params, AreDistinct, HasNoEmptyKey}
 use Rattle.hot_eval.specs.Choices.{Lists, Choice, choices, each_with, Repetition}
 use Rattle.hot_eval.specs.Fillings.{texts_for}
@@ -22,10 +27,10 @@ use Rattle.hot_eval.specs.declared.fault.FunctionFault.TheVariants.{Wrong, Memor
 abbrev pub lists_of : List Listed → Lists
 lists_of ls = map (λ (l : Listed). (l.key.now, nodes_of l.items.now)) ls
 
--- no key stands twice, and none is empty
+-- the keys rise in byte order, and none is empty
 abbrev pub AreKeys : Lists → Type 0
 AreKeys [] = ⊤
-AreKeys (l ∷ ls) = (l.0 ≢ []) × All (λ m. m.0 ≢ l.0) ls × AreKeys ls
+AreKeys (l ∷ ls) = (l.0 ≢ []) × All (λ m. slice_cmp nat_cmp l.0 m.0 ≡ Less) ls × AreKeys ls
 
 -- the fault is this code, or want of memory
 abbrev pub IsCode : FunctionFault → FaultCode → Type 0
@@ -48,11 +53,13 @@ with_items (p ∷ ps) (v ∷ vs) = (p.0, data_of v.now) ∷ with_items ps vs
 abbrev pub choice_of : Picked → Choice
 choice_of c = with_items c.texts.items c.items.items
 
--- each key has its item's text, no key stands twice, and none is empty
+-- each key has its item's text, the keys rise in byte order, none stands twice or is empty, and the index is theirs
 pub record IsChoice (c : Picked) : Type 0 where
   pub texts : c.texts.items ≡ texts_for (choice_of c)
+  pub rising : Rising (keys_in c.texts.items)
   pub distinct : AreDistinct c.texts.items
   pub keys : HasNoEmptyKey c.texts.items
+  pub index : IsIndexOf (keys_in c.texts.items) c.index
 
 -- ---- from choice to choice
 

@@ -12,6 +12,7 @@ ghost use Rattle.hot_eval.specs.Texts.{is_empty};
 use crate::sorts::{list_in, object_in, under, wanted};
 use crate::{FaultCode, FunctionFault};
 use heat_value::{Member, Text, TryCopy, Value, text_of};
+use hot_strings::KeyIndex;
 use std::alloc::{AllocError, Global};
 
 /// A key with its list of items.
@@ -28,11 +29,12 @@ pub struct Repetition<'a> {
     pub template: &'a Value,
 }
 
-/// A choice: what each key stands for, as a text and as the item itself.
+/// A choice: what each key stands for, as a text and as the item itself, and the index of the keys.
 #[derive(Drop)]
 pub struct Choice<'a> {
     pub texts: Vec<(Text, Text)>,
     pub items: Vec<&'a Value>,
+    pub index: KeyIndex,
 }
 
 /// What the argument asks for, once `for_each` is evaluated; F01 for what is no object of lists, F03
@@ -141,7 +143,8 @@ pub fn choice_at<'a>(
         texts.push(with_text(alloc, lists[at].key, item)?)?;
         items.push(item)?;
     }
-    Ok(Choice { texts, items })
+    let index = KeyIndex::new(alloc, texts.as_slice())?;
+    Ok(Choice { texts, items, index })
 }
 
 // A key with its item's text.

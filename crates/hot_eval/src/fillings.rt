@@ -2,7 +2,7 @@
 mod literal;
 
 ghost use Rattle.std.specs.Prelude.{◌≡◌, ◌<◌, ◌-◌, ◌^◌, ◌≢◌, IfOk, OnOk, MatchOption, Some, None, is_none, is_some};
-ghost use Rattle.std.specs.Prelude.{option_map, unwrap_or, bytes_eq};
+ghost use Rattle.std.specs.Prelude.{option_map, unwrap_or};
 ghost use Rattle.heat_value.specs.Data.{words as words_data, items as items_data, fields as fields_data};
 ghost use Rattle.heat_value.specs.Meaning.{data_of, nodes_of, members_of};
 ghost use Rattle.hot_eval.specs.Fillings.{filled as the_filled, text_filled as the_text_filled};
@@ -242,23 +242,15 @@ fn text_taken(
     }
 }
 
-// The item of a key.
+// The item of a key, by binary search.
 fn item_of<'a>(choice: &Choice<'a>, words: &Text) -> Option<&'a Value>
     requires { IsChoice choice.now }
     ensures { option_map (λ v. data_of v.now) result ≡ the_item_of (choice_of choice.now) words.now }
 {
-    for (at, text) in choice.texts.iter().enumerate() {
-        if is_key(text, words) {
-            return Some(choice.items[at]);
-        }
+    match choice.texts.as_slice().binary_search_by(|text| text.0.cmp(words)) {
+        Ok(at) => Some(choice.items[at]),
+        Err(_) => None,
     }
-    None
-}
-
-fn is_key(text: &(Text, Text), words: &Text) -> bool
-    ensures { result ≡ bytes_eq text.now.0 words.now }
-{
-    text.0.as_str() == words.as_str()
 }
 
 /// An object's key with keys replaced. One that takes more than a whole evaluation may cost isn't made.
@@ -287,7 +279,7 @@ fn text_filled(
     if limit < 2 {
         return Ok(None);
     }
-    match replace_within(alloc, words, choice.texts.as_slice(), limit) {
+    match replace_within(alloc, words, choice.texts.as_slice(), &choice.index, limit) {
         Ok(text) => Ok(Some(text)),
         Err(fault) => none_for(fault),
     }

@@ -1,9 +1,11 @@
 use Rattle.std.proofs.Common.{◌≤◌, ◌∙◌, ap, sym, subst, arith, length, get_or, refl}
-use Rattle.hot_strings.specs.Pieces.{AreDistinct, HasNoEmptyKey}
+use Rattle.heat_plan.specs.Order.{Rising}
+use Rattle.hot_strings.specs.Indexes.{keys_in, IsIndexOf}
+use Rattle.hot_strings.specs.Pieces.{Params, AreDistinct, HasNoEmptyKey}
 use Rattle.hot_eval.specs.Fillings.{texts_for}
 use Rattle.hot_eval.specs.Repeats.{lists_of}
 use Rattle.hot_eval.proofs.Listings.{place_there, listed_making, length-lists}
-use Rattle.hot_eval.proofs.Picks.{making_all, distinct_texts, full_texts}
+use Rattle.hot_eval.proofs.Picks.{making_all, distinct_texts, rising_texts, full_texts}
 use Rattle.hot_eval.proofs.Turns.{places_length}
 use Rattle.hot_eval.proofs.choices.choice_at.Goals as goal
 
@@ -33,6 +35,8 @@ returns-clause-kept c =
     ∙ ap texts_for (making_all (lists_of c.args.lists.now) c.args.places.now.items c.loop-at.at _ _ above c.loop-at.invariant) in
     record {
       texts = c.loop-at.invariant.texts_are;
+      rising = subst (λ (ps : Params). Rising (keys_in ps)) (sym whole) (rising_texts _ _ c.requires.keys);
       distinct = subst AreDistinct (sym whole) (distinct_texts _ _ c.requires.keys);
       keys = subst HasNoEmptyKey (sym whole) (full_texts _ _ c.requires.keys);
+      index = subst (λ (ps : Params). IsIndexOf (keys_in ps) c.in_ok-index.index) c.as_slice.ensures.value c.in_ok-index.ensures;
     }

@@ -1,28 +1,40 @@
-use Rattle.std.proofs.Common.{◌≡◌, ◌∙◌, ap, sym, subst, arith, length, get_or}
+-- The closure compares a key with the text that is looked for.
+use Rattle.std.proofs.Common.{◌≡◌, ◌∙◌, ap, sym, subst, arith, rules, length, List, ℕ}
+use Rattle.std.proofs.lemmas.Fn.{always_returns_same}
+use Rattle.std.specs.Ordering.{nat_cmp}
+use Rattle.std.specs.Cmp.Lexicographic.{slice_cmp}
+use Rattle.heat_plan.proofs.Searched.{names_rise, found_none}
+use Rattle.heat_plan.specs.Order.{Rising}
+use Rattle.hot_strings.specs.Indexes.{keys_in}
 use Rattle.hot_strings.specs.Pieces.{Params}
-use Rattle.hot_eval.proofs.Picks.{length-items, item_next, item_here}
+use Rattle.hot_eval.specs.Fillings.{item_of}
+use Rattle.hot_eval.specs.Repeats.{with_items}
+use Rattle.hot_eval.proofs.Picks.{length-items, item_found, item_none}
 use Rattle.hot_eval.proofs.fillings.item_of.Goals as goal
 
 pub index-requires : goal.index-requires
 index-requires c =
-    omega (arith, length-items _ _ c.requires.texts, c.loop-at-test.true, ap length c.deref-text-items.ensures.value)
+    omega (arith, c.in-Ok.ensures.bound, ap length c.as_slice.ensures.value, length-items _ _ c.requires.texts)
 
-pub returns-then-is_key : goal.returns-then-is_key
-returns-then-is_key c =
-    item_here c.args.words.now c.args.choice.now.texts.items c.args.choice.now.items.items c.loop-at.at c.text-item.result
-    c.text-item.result c.index.result.now c.index.result.now _
-    (omega (arith, c.loop-at-test.true, ap length c.deref-text-items.ensures.value))
-    (length-items _ _ c.requires.texts)
-    (subst (λ (ps : Params). c.text-item.result ≡ get_or ps c.loop-at.at c.text-item.result)
-    c.deref-text-items.ensures.value c.text-item.is)
-    c.index.ensures (sym c.is_key.ensures ∙ c.if-is_key.true) c.loop-at.invariant
+pub returns-in-Ok : goal.returns-in-Ok
+returns-in-Ok c =
+    let by_key = c.binary_search_by.ensures.position (λ (p : List ℕ × List ℕ). slice_cmp nat_cmp p.0 c.args.words.now)
+    (always_returns_same _ _ _ (λ a r f called. (search rules, search rules))) in
+    let up : Rising (keys_in c.as_slice.result.now) =
+    subst (λ (ps : Params). Rising (keys_in ps)) (sym c.as_slice.ensures.value) c.requires.rising in
+    item_found c.args.words.now c.as_slice.result.now c.args.choice.now.items.items c.in-Ok.at c.index.result.now up
+    c.in-Ok.ensures.bound
+    (omega (arith, ap length c.as_slice.ensures.value, length-items _ _ c.requires.texts)) (rw c.in-Ok.is at by_key)
+    c.index.ensures
+    ∙ ap (λ (ps : Params). item_of (with_items ps c.args.choice.now.items.items) c.args.words.now) c.as_slice.ensures.value
 
-pub loop-at-preserved : goal.loop-at-preserved
-loop-at-preserved c =
-    item_next c.args.words.now c.args.choice.now.texts.items c.args.choice.now.items.items c.loop-at.at c.text-item.result
-    c.text-item.result _
-    (omega (arith, c.loop-at-test.true, ap length c.deref-text-items.ensures.value))
-    (length-items _ _ c.requires.texts)
-    (subst (λ (ps : Params). c.text-item.result ≡ get_or ps c.loop-at.at c.text-item.result)
-    c.deref-text-items.ensures.value c.text-item.is)
-    (sym c.is_key.ensures ∙ c.if-is_key.false) c.loop-at.invariant
+pub returns-in-Err : goal.returns-in-Err
+returns-in-Err c =
+    let by_key = c.binary_search_by.ensures.position (λ (p : List ℕ × List ℕ). slice_cmp nat_cmp p.0 c.args.words.now)
+    (always_returns_same _ _ _ (λ a r f called. (search rules, search rules))) in
+    let up : Rising (keys_in c.as_slice.result.now) =
+    subst (λ (ps : Params). Rising (keys_in ps)) (sym c.as_slice.ensures.value) c.requires.rising in
+    item_none c.args.words.now c.as_slice.result.now c.args.choice.now.items.items
+    (found_none (λ (p : List ℕ × List ℕ). p.0) c.args.words.now c.as_slice.result.now c.in-Err.field-0
+    ((rw c.in-Err.is at by_key) (names_rise (λ (p : List ℕ × List ℕ). p.0) c.args.words.now c.as_slice.result.now up)))
+    ∙ ap (λ (ps : Params). item_of (with_items ps c.args.choice.now.items.items) c.args.words.now) c.as_slice.ensures.value
