@@ -127,13 +127,14 @@ impl Teller for ReplacedWithin {
         let (template, words) = fields(given);
         let template = Text::from_str(alloc, template)?;
         let params = params_of(alloc, words)?;
-        if self.0 < 2 || !are_distinct(params.as_slice()) {
+        let params = params.as_slice();
+        if self.0 < 2 || !are_distinct(params) {
             return String::from_str(alloc, "off its condition");
         }
-        let index = KeyIndex::new(alloc, params.as_slice())?;
+        let index = KeyIndex::new(alloc, params)?;
         words_of(
             alloc,
-            replace_within(alloc, &template, params.as_slice(), &index, self.0),
+            replace_within(alloc, &template, params, &index, self.0),
         )
     }
 }
