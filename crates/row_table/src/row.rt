@@ -1,4 +1,5 @@
 //! Resource rows: the engine's memory of what it asked for.
+ghost use Rattle.std.specs.Prelude.{◌≡◌, IfOk};
 
 use heat_plan::{
     Act, EngineNo, Facts, Kind, Policy, Properties, ResName, RowNo, StackName, Status, TravNo,
@@ -48,18 +49,20 @@ pub struct Row {
 
 impl TryCopy for Row {
     fn copy(&self) -> Result<Row, AllocError> {
+        let (stack, name, kind) = names_of(self)?;
+        let (props, target, facts) = contents_of(self)?;
         let required = Vec::from_slice(self.requires_.allocator(), self.requires_.as_slice())?;
         Ok(Row {
             no: self.no,
-            stack: self.stack.copy()?,
-            name: self.name.copy()?,
-            kind: self.kind.copy()?,
+            stack,
+            name,
+            kind,
             act: self.act,
             status: self.status,
             trav: self.trav,
-            props: self.props.copy()?,
-            target: copy_option(&self.target)?,
-            facts: copy_option(&self.facts)?,
+            props,
+            target,
+            facts,
             requires_: Seq::from_vec(required),
             replaces: self.replaces,
             replaced_by: self.replaced_by,
@@ -68,4 +71,22 @@ impl TryCopy for Row {
             policy: self.policy,
         })
     }
+}
+
+// Copies of the row's stack, name and kind.
+fn names_of(row: &Row) -> Result<(StackName, ResName, Kind), AllocError>
+    ensures { IfOk result (λ names. names ≡ (row.now.stack, row.now.name, row.now.kind)) }
+{
+    Ok((row.stack.copy()?, row.name.copy()?, row.kind.copy()?))
+}
+
+// Copies of the row's properties, target and facts.
+fn contents_of(row: &Row) -> Result<(Properties, Option<Properties>, Option<Facts>), AllocError>
+    ensures { IfOk result (λ contents. contents ≡ (row.now.props, row.now.target, row.now.facts)) }
+{
+    Ok((
+        row.props.copy()?,
+        copy_option(&row.target)?,
+        copy_option(&row.facts)?,
+    ))
 }
