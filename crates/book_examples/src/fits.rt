@@ -4,7 +4,7 @@ use crate::calls::{is_taken, turn_times};
 use book::{Book, Opened, StackCommand};
 use core_state::{Entry, What};
 use headline_reader::{Living, could, fits, mark_of, newest, stored};
-use heat_plan::{Conditions, Files, Parameters, Plan, StackName, Status, Token};
+use heat_plan::{ByName, Parameters, Plan, StackName, Status, Token};
 use heat_value::{Seq, Text};
 use hot_registry::Registry;
 use plain_templates::plain_plan;
@@ -51,8 +51,8 @@ fn no_plan(alloc: Global) -> Plan {
         Seq::new(alloc),
         Seq::new(alloc),
         Parameters::new(alloc),
-        Conditions::new(alloc),
-        Files::new(alloc),
+        ByName::new(alloc),
+        ByName::new(alloc),
         Seq::new(alloc),
     )
 }

@@ -3,7 +3,7 @@ ghost use Rattle.std.specs.Prelude.{◌≡◌, [], IfSome};
 
 use book::StackCommand;
 use heat_plan::{
-    Conditions, Files, Item, Kind, Needs, Parameters, Plan, Policy, Properties, ResName, StackName,
+    ByName, Item, Kind, Needs, Parameters, Plan, Policy, Properties, ResName, StackName,
 };
 use heat_value::{Seq, Text, Value};
 use std::alloc::{AllocError, Global};
@@ -64,8 +64,8 @@ pub(crate) fn plan_of(alloc: Global, item: Item) -> Result<Plan, AllocError>
         items,
         Seq::new(alloc),
         Parameters::new(alloc),
-        Conditions::new(alloc),
-        Files::new(alloc),
+        ByName::new(alloc),
+        ByName::new(alloc),
         Seq::new(alloc),
     ))
 }

@@ -8,8 +8,8 @@ use crate::replacing::replace;
 use crate::taking::{drop_letter, hold, steal};
 use core_state::{Graph, Job, Letter, Made, Point, Row, Stack, Stage, State};
 use heat_plan::{
-    Act, Conditions, EngineNo, Files, Item, Kind, LetterNo, Needs, Parameters, Plan, Policy,
-    Properties, Refusal, ResName, RowNo, StackName, StackNo, Status, TravNo, WORN,
+    Act, ByName, EngineNo, Item, Kind, LetterNo, Needs, Parameters, Plan, Policy, Properties,
+    Refusal, ResName, RowNo, StackName, StackNo, Status, TravNo, WORN,
 };
 use heat_value::{Path, Seq, Text};
 use indexed_points::NodePoints;
@@ -104,8 +104,8 @@ fn no_plan(alloc: Global) -> Plan {
         Seq::new(alloc),
         Seq::new(alloc),
         Parameters::new(alloc),
-        Conditions::new(alloc),
-        Files::new(alloc),
+        ByName::new(alloc),
+        ByName::new(alloc),
         Seq::new(alloc),
     )
 }

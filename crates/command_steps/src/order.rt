@@ -8,7 +8,7 @@ ghost use Rattle.step_relation.specs.Orders.{create_sets, delete_sets, rollback_
 ghost use Rattle.command_steps.specs.Orders.{sets_of};
 
 use core_state::{Actor, Past, SharedPlan, Stack, State};
-use heat_plan::{Act, Conditions, Files, Item, Parameters, Plan, StackName, StackNo, Status};
+use heat_plan::{Act, ByName, Item, Parameters, Plan, StackName, StackNo, Status};
 use heat_value::{Seq, TryCopy, copy_option};
 use std::alloc::{AllocError, Global};
 
@@ -179,8 +179,8 @@ fn no_plan(alloc: Global) -> Plan
         Seq::new(alloc),
         Seq::new(alloc),
         Parameters::new(alloc),
-        Conditions::new(alloc),
-        Files::new(alloc),
+        ByName::new(alloc),
+        ByName::new(alloc),
         Seq::new(alloc),
     )
 }

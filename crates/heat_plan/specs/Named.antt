@@ -1,21 +1,16 @@
--- Conditions and files by their names.
-use Rattle.std.specs.Prelude.{ℕ, List, Bool, Option, map, option_map, bytes_eq, find}
-use Rattle.heat_plan.specs.Order.{Rising}
+-- Things found by their names: conditions, files.
+use Rattle.std.specs.Prelude.{ℕ, List, Bool, Option, option_map, bytes_eq, find}
 use Rattle.heat_plan.specs.declared.conditions.Condition.{Condition}
 use Rattle.heat_plan.specs.declared.files.File.{File}
 
--- conditions in byte order of their names, each name once
-abbrev pub AreConditions : List Condition → Type 0
-AreConditions conds = Rising (map (λ (c : Condition). c.name) conds)
+-- the first of that name
+abbrev pub first_named : {T : Type 0} → (T → List ℕ) → List ℕ → List T → Option T
+first_named name_of name all = find (λ x. bytes_eq (name_of x) name) all
 
 -- the value of the condition of that name
 abbrev pub condition_value : List Condition → List ℕ → Option Bool
-condition_value conds name = option_map (λ (c : Condition). c.value) (find (λ (c : Condition). bytes_eq c.name name) conds)
-
--- files in byte order of their names, each name once
-abbrev pub AreFiles : List File → Type 0
-AreFiles files = Rising (map (λ (f : File). f.name) files)
+condition_value conds name = option_map (λ (c : Condition). c.value) (first_named (λ (c : Condition). c.name) name conds)
 
 -- the text of the file of that name
 abbrev pub file_content : List File → List ℕ → Option (List ℕ)
-file_content files name = option_map (λ (f : File). f.content) (find (λ (f : File). bytes_eq f.name name) files)
+file_content files name = option_map (λ (f : File). f.content) (first_named (λ (f : File). f.name) name files)

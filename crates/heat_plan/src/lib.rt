@@ -2,6 +2,7 @@
 //! Each type keeps what it promises of itself; nothing here knows of a state, a step or a cloud.
 #![tactic(auto)]
 
+mod by_name;
 mod calls;
 mod conditions;
 mod facts;
@@ -19,10 +20,11 @@ mod properties;
 mod refusal;
 mod token;
 
+pub use by_name::{ByName, HasName};
 pub use calls::{Answered, Request};
-pub use conditions::{Condition, Conditions};
+pub use conditions::Condition;
 pub use facts::{Facts, Known, KnownFacts};
-pub use files::{File, Files};
+pub use files::File;
 pub use item::{Item, Policy};
 pub use kind::Kind;
 pub use names::{ResName, StackName};

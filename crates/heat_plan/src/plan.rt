@@ -1,7 +1,7 @@
 //! A plan: what a template asks for, once it is admitted.
 ghost use Rattle.std.specs.Prelude.{◌≡◌, List, ℕ};
 
-use crate::{Conditions, Expression, Files, Item, Parameters, ResName};
+use crate::{ByName, Condition, Expression, File, Item, Parameters, ResName};
 use heat_value::{Equals, Seq, Text, TryCopy};
 use std::alloc::AllocError;
 use std::marker::Model;
@@ -21,8 +21,8 @@ pub struct Plan {
     items: Seq<Item>,
     outputs: Seq<Output>,
     params: Parameters,
-    conds: Conditions,
-    files: Files,
+    conds: ByName<Condition>,
+    files: ByName<File>,
     absent: Seq<ResName>,
 }
 
@@ -55,8 +55,8 @@ impl Plan {
         items: Seq<Item>,
         outputs: Seq<Output>,
         params: Parameters,
-        conds: Conditions,
-        files: Files,
+        conds: ByName<Condition>,
+        files: ByName<File>,
         absent: Seq<ResName>,
     ) -> Plan
         requires { IsPlan items absent }
@@ -102,14 +102,14 @@ impl Plan {
     }
 
     /// The conditions and their values.
-    pub fn conds(&self) -> &Conditions
+    pub fn conds(&self) -> &ByName<Condition>
         ensures { result.now ≡ self.now.conds }
     {
         &self.conds
     }
 
     /// The files.
-    pub fn files(&self) -> &Files
+    pub fn files(&self) -> &ByName<File>
         ensures { result.now ≡ self.now.files }
     {
         &self.files

@@ -13,7 +13,7 @@ use Rattle.heat_value.specs.Data.{Data, Members, no_members, member, keys_of, lo
 use Rattle.heat_value.specs.Meaning.{data_of, members_of}
 use Rattle.heat_value.specs.declared.value.Member.{Member}
 use Rattle.hot_eval.specs.Conditions.{flag_of, values_of, valued, valued_after, count_of, first_unvalued}
-use Rattle.hot_eval.specs.Values.{with_value, named_values}
+use Rattle.hot_eval.specs.SoFar.{with_value, named_values}
 use Rattle.hot_eval.specs.Conditions.{unless_valued}
 use Rattle.hot_admit.specs.Conds.{flags_of, condition_path}
 use Rattle.hot_admit.proofs.Chosen.{Behind}

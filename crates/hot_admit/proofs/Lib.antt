@@ -6,7 +6,6 @@ pub mod Alike
 pub mod Cycles
 pub mod Rising
 pub mod Searched
-pub mod Filed
 pub mod NameMarks
 pub mod OneCycle
 pub mod Judged

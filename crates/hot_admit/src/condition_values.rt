@@ -14,9 +14,9 @@ use crate::conds::{Conds, Wanted};
 use crate::fault::CondFault;
 use crate::names::{least_on_cycle, names_graph};
 use dep_graph::Order;
-use heat_plan::{Condition, Conditions};
+use heat_plan::{ByName, Condition};
 use heat_value::{Member, Path, Props, Seq, Step, Text, TryCopy, Value};
-use hot_eval::{Known, flag_of};
+use hot_eval::{ValuedConds, flag_of};
 use hot_params::Bound;
 use hot_parts::{Out, Res};
 use hot_tree::Template;
@@ -75,7 +75,7 @@ fn values_in(
     params: &Props,
     conds: &[Member],
     order: &[u32],
-) -> Result<Conditions, CondFault>
+) -> Result<ByName<Condition>, CondFault>
     requires rising { Rises (members_of conds.now) }
     requires order { IsNamingOrder (members_of conds.now) order.now }
     ensures ok { IfOk result (λ known. known ≡ values_of params.now (members_of conds.now)) }
@@ -92,7 +92,7 @@ fn values_in(
             None => return Err(CondFault::C02(condition_path(alloc, &cond.key)?)),
         }
     }
-    Ok(Conditions::from_rising(known))
+    Ok(ByName::from_list(known))
 }
 
 fn named(name: &Text, value: bool) -> Result<Condition, AllocError>
@@ -147,7 +147,7 @@ fn find_more(
     ensures found { OnOk result (AreFound params.now (members_of conds.now) values.new.items) }
     ensures round { OnOk result
         (AddsRound params.now (members_of conds.now) values.old.items values.new.items) }
-    ensures still { IfOk result (λ any. any ≡ false → values.new.items ≡ values.old.items) }
+    ensures same { IfOk result (λ any. any ≡ false → values.new.items ≡ values.old.items) }
 {
     let mut any = false;
     for place in order {
@@ -173,13 +173,13 @@ fn find_at(
     ensures grows { OnOk result (Grows (members_of conds.now) values.old.items values.new.items) }
     ensures here { OnOk result
         (IsFoundAt params.now (members_of conds.now) values.old.items values.new.items place) }
-    ensures still { IfOk result (λ any. any ≡ false → values.new.items ≡ values.old.items) }
+    ensures same { IfOk result (λ any. any ≡ false → values.new.items ≡ values.old.items) }
 {
     let cond = &conds[place];
     if values[place].is_some() {
         return Ok(false);
     }
-    let known = Known::so_far(conds, values);
+    let known = ValuedConds::so_far(conds, values);
     match flag_of(alloc, &cond.value, params, known)? {
         Some(value) => {
             values[place] = Some(value);
@@ -193,7 +193,7 @@ fn find_at(
 fn wanted_resources(
     alloc: Global,
     params: &Props,
-    known: &Conditions,
+    known: &ByName<Condition>,
     resources: &[Res],
 ) -> Result<Seq<Wanted>, CondFault>
     ensures ok { IfOk result (λ ws. ws
@@ -220,7 +220,7 @@ fn wanted_resources(
 fn wanted_outputs(
     alloc: Global,
     params: &Props,
-    known: &Conditions,
+    known: &ByName<Condition>,
     outputs: &[Out],
 ) -> Result<Seq<Wanted>, CondFault>
     ensures ok { IfOk result (λ ws. ws
@@ -246,14 +246,14 @@ fn wanted_outputs(
 fn holds(
     alloc: Global,
     params: &Props,
-    known: &Conditions,
+    known: &ByName<Condition>,
     condition: Option<&Value>,
 ) -> Result<Option<bool>, AllocError>
     ensures { IfOk result (λ o. o ≡ held params.now known.now
         (option_map (λ v. data_of v.now) condition.entry)) }
 {
     match condition {
-        Some(condition) => flag_of(alloc, condition, params, Known::All(known)),
+        Some(condition) => flag_of(alloc, condition, params, ValuedConds::All(known)),
         None => Ok(Some(true)),
     }
 }

@@ -1,5 +1,5 @@
 //! The values of a template's conditions.
-use heat_plan::Conditions;
+use heat_plan::{ByName, Condition};
 use heat_value::{Seq, Text};
 
 /// Whether a resource or an output is wanted: whether its condition holds. Without one it does.
@@ -13,7 +13,7 @@ pub struct Wanted {
 /// the names.
 #[derive(Debug, Drop)]
 pub struct Conds {
-    pub conds: Conditions,
+    pub conds: ByName<Condition>,
     pub resources: Seq<Wanted>,
     pub outputs: Seq<Wanted>,
 }

@@ -17,7 +17,7 @@ use crate::cycle::needs_cycle;
 use crate::entries::entries_flaw;
 use crate::items::{items_of, names_where};
 use crate::{AdmitCode, AdmitFault, Basis, Conds, Wanted};
-use heat_plan::{Expression, File, Files, Item, Output, Parameters, Plan};
+use heat_plan::{ByName, Expression, File, Item, Output, Parameters, Plan};
 use heat_value::{Props, Seq, Text, TryCopy, Value};
 use hot_catalog::Catalog;
 use hot_params::Bound;
@@ -152,7 +152,7 @@ fn parameters_of(params: &Props) -> Result<Parameters, AllocError>
 }
 
 // Files and their texts.
-fn files_of(alloc: Global, files: &Props) -> Result<Files, AllocError>
+fn files_of(alloc: Global, files: &Props) -> Result<ByName<File>, AllocError>
     ensures { IfOk result (λ fs. fs ≡ the_files_of files.now) }
 {
     let members = files.as_slice();
@@ -163,7 +163,7 @@ fn files_of(alloc: Global, files: &Props) -> Result<Files, AllocError>
             content: content_of(alloc, &member.value)?,
         })?;
     }
-    Ok(Files::from_rising(all))
+    Ok(ByName::from_list(all))
 }
 
 // A file's text.

@@ -16,7 +16,7 @@ use Rattle.heat_value.specs.Data.{Members, no_members, member, keys_of, Rises}
 use Rattle.heat_value.specs.Meaning.{members_of}
 use Rattle.heat_value.specs.Places.{place, one_further}
 use Rattle.heat_value.specs.declared.value.Member.{Member}
-use Rattle.hot_eval.specs.Values.{with_value, named_values, value_at}
+use Rattle.hot_eval.specs.SoFar.{with_value, named_values, value_at}
 
 abbrev cmp : List ℕ → List ℕ → Ordering
 cmp = slice_cmp nat_cmp

@@ -13,7 +13,7 @@ use Rattle.hot_functions.specs.Places.{item_place, member_place}
 use Rattle.hot_functions.specs.declared.place.Place.{Place}
 use Rattle.hot_functions.specs.declared.place.Place.TheVariants as place
 use Rattle.hot_eval.specs.Evaluation.{evaluation, condition_outcome}
-use Rattle.hot_eval.specs.Values.{with_value}
+use Rattle.hot_eval.specs.SoFar.{with_value}
 use Rattle.hot_eval.specs.Outcomes.{Outcome, Gives, Faults}
 use Rattle.hot_eval.specs.Scenes.{SceneData}
 use Rattle.hot_eval.specs.Sorts.{flag_in}

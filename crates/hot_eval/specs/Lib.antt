@@ -1,8 +1,8 @@
 pub mod Codes
 pub mod Faults
 pub mod Outcomes
-pub mod Values
-pub mod Known
+pub mod SoFar
+pub mod ValuedConds
 pub mod Scenes
 pub mod Sameness
 pub mod Sorts

@@ -6,8 +6,7 @@ use Rattle.heat_value.specs.Data.{Data, null, flag, whole, words, items, fields,
 use Rattle.heat_value.specs.Data.{lookup}
 use Rattle.heat_plan.specs.declared.facts.Facts.{Facts}
 use Rattle.heat_plan.specs.declared.facts.KnownFacts.{KnownFacts}
-use Rattle.heat_plan.specs.declared.conditions.Condition.{Condition}
-use Rattle.heat_plan.specs.declared.files.File.{File}
+use Rattle.heat_plan.specs.Named.{condition_value, file_content}
 use Rattle.hot_eval.specs.Scenes.{SceneData}
 use Rattle.hot_eval.specs.Sorts.{wanted, text_in, first_and_rest, listed, parts}
 use Rattle.hot_eval.specs.declared.code.FaultCode.{FaultCode}
@@ -92,7 +91,7 @@ attribute scene a = wanted (first_and_rest (listed a)) (attribute_of scene)
 -- ---- get_file
 
 abbrev pub file_named : SceneData → List ℕ → Option (List ℕ)
-file_named scene name = option_map (λ (f : File). f.content) (find (λ (f : File). bytes_eq f.name name) scene.files)
+file_named scene name = file_content scene.files name
 
 -- the file's text; F01 where no file has the name
 abbrev pub file : SceneData → Data → Result Data FaultCode
@@ -101,8 +100,7 @@ file scene a = wanted (option_and_then (file_named scene) (text_in a)) (λ text.
 -- ---- names of conditions
 
 abbrev pub condition_named : SceneData → List ℕ → Option Bool
-condition_named scene name =
-    option_map (λ (c : Condition). c.value) (find (λ (c : Condition). bytes_eq c.name name) scene.conds)
+condition_named scene name = condition_value scene.conds name
 
 -- the value of the condition of that name; the text as written where there is none
 abbrev pub named_condition : SceneData → List ℕ → Data

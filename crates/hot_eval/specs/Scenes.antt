@@ -7,7 +7,7 @@ use Rattle.heat_plan.specs.declared.facts.Facts.{Facts}
 use Rattle.heat_plan.specs.declared.facts.KnownFacts.{KnownFacts}
 use Rattle.heat_plan.specs.declared.conditions.Condition.{Condition}
 use Rattle.heat_plan.specs.declared.files.File.{File}
-use Rattle.hot_eval.specs.Known.{known_data}
+use Rattle.hot_eval.specs.ValuedConds.{valued_data}
 use Rattle.hot_eval.specs.declared.scene.Scene.{Scene}
 
 -- parameters and their values, the conditions that have a value, files, and the facts of resources
@@ -33,7 +33,7 @@ present absent known = filter (λ (k : KnownFacts). not (is_one_of absent k.name
 abbrev pub scene_data : Scene → SceneData
 scene_data s = record {
   params = s.params.now;
-  conds = known_data s.conds;
+  conds = valued_data s.conds;
   files = unwrap_or (option_map (λ f. f.now) s.files) [];
   facts = present s.absent.now s.facts.now;
 }

@@ -4,7 +4,7 @@ ghost use Rattle.heat_value.specs.Meaning.{data_of};
 ghost use Rattle.hot_eval.specs.Answers.{again};
 ghost use Rattle.hot_eval.specs.Conditions.{flag_of as the_flag_of, in_conditions};
 ghost use Rattle.hot_eval.specs.Evaluation.{evaluation};
-ghost use Rattle.hot_eval.specs.Known.{known_data};
+ghost use Rattle.hot_eval.specs.ValuedConds.{valued_data};
 ghost use Rattle.hot_eval.specs.Scenes.{scene_data};
 
 use crate::depth::Depth;
@@ -12,7 +12,7 @@ use crate::evaluation::condition;
 use crate::setting::Setting;
 use crate::sorts::flag_in;
 use crate::sum::Sum;
-use crate::{EvalFault, Known, Scene};
+use crate::{EvalFault, Scene, ValuedConds};
 use heat_value::{Props, Value};
 use std::alloc::{AllocError, Global};
 
@@ -22,9 +22,9 @@ pub fn flag_of(
     alloc: Global,
     given: &Value,
     params: &Props,
-    known: Known,
+    known: ValuedConds,
 ) -> Result<Option<bool>, AllocError>
-    ensures { IfOk result (λ o. o ≡ the_flag_of params.now (known_data known.entry) (data_of given.now)) }
+    ensures { IfOk result (λ o. o ≡ the_flag_of params.now (valued_data known.entry) (data_of given.now)) }
 {
     match condition(&setting(alloc, params, known), given, &mut Sum::new()) {
         Ok(made) => Ok(flag_in(&made)),
@@ -34,9 +34,9 @@ pub fn flag_of(
 }
 
 // Where parameters and conditions alone are there.
-fn setting<'a>(alloc: Global, params: &'a Props, known: Known<'a>) -> Setting<'a>
-    ensures scene { scene_data result.scene ≡ in_conditions params.now (known_data known.entry) }
-    ensures again { again result ≡ evaluation (in_conditions params.now (known_data known.entry)) }
+fn setting<'a>(alloc: Global, params: &'a Props, known: ValuedConds<'a>) -> Setting<'a>
+    ensures scene { scene_data result.scene ≡ in_conditions params.now (valued_data known.entry) }
+    ensures again { again result ≡ evaluation (in_conditions params.now (valued_data known.entry)) }
 {
     let scene = Scene {
         params,

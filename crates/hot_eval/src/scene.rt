@@ -4,8 +4,8 @@ ghost use Rattle.hot_eval.specs.Lookups.{facts_of as the_facts_of, file_named as
 ghost use Rattle.hot_eval.specs.Lookups.{condition_named as the_condition_named};
 ghost use Rattle.hot_eval.specs.Scenes.{scene_data, scene_of, is_one_of, facts_told};
 
-use crate::Known;
-use heat_plan::{Facts, Files, KnownFacts, Plan, ResName};
+use crate::ValuedConds;
+use heat_plan::{ByName, Facts, File, KnownFacts, Plan, ResName};
 use heat_value::{Props, Text};
 
 /// Parameters and their values, the conditions that have a value, files where there are any, the facts
@@ -13,8 +13,8 @@ use heat_value::{Props, Text};
 #[derive(Clone, Copy)]
 pub struct Scene<'a> {
     pub params: &'a Props,
-    pub conds: Known<'a>,
-    pub files: Option<&'a Files>,
+    pub conds: ValuedConds<'a>,
+    pub files: Option<&'a ByName<File>>,
     pub facts: &'a [KnownFacts],
     pub absent: &'a [ResName],
 }
@@ -26,7 +26,7 @@ impl<'a> Scene<'a> {
     {
         Scene {
             params: plan.params().as_props(),
-            conds: Known::All(plan.conds()),
+            conds: ValuedConds::All(plan.conds()),
             files: Some(plan.files()),
             facts: known,
             absent: plan.absent(),

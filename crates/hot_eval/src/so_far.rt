@@ -4,7 +4,7 @@ ghost use Rattle.std.proofs.Props.{props};
 ghost use Rattle.heat_plan.specs.Named.{condition_value};
 ghost use Rattle.heat_value.specs.Data.{Rises};
 ghost use Rattle.heat_value.specs.Meaning.{members_of};
-ghost use Rattle.hot_eval.specs.Values.{named_values, value_at as the_value_at};
+ghost use Rattle.hot_eval.specs.SoFar.{named_values, value_at as the_value_at};
 
 use heat_value::{Member, Text};
 

@@ -15,6 +15,6 @@ mod tests;
 pub use custom::{Ask, Custom, NamedTest};
 pub use judge::{Change, Judge};
 pub use kind::{KindDef, PropDef};
-pub use naming::{HasName, named};
+pub use naming::named;
 pub use registry::Registry;
 pub use shipped::{box_kind, flavor_test, is_flavor, shipped_registry};

@@ -3,19 +3,11 @@ ghost use Rattle.std.specs.Prelude.{◌≡◌, ℕ, List, map, option_map};
 ghost use Rattle.hot_registry.specs.Names.{is_listed, are_distinct as the_are_distinct};
 ghost use Rattle.hot_registry.specs.Names.{are_few as the_are_few, named as the_named};
 
+use heat_plan::HasName;
 use heat_value::Text;
 
 /// How many of a sort a registry holds at most.
 pub const MOST: usize = 16;
-
-/// A thing with a name.
-pub trait HasName {
-    ghost name_of: { Self → List ℕ };
-
-    /// The name.
-    fn name(&self) -> &Text
-        ensures { result.now ≡ name_of self.now };
-}
 
 /// The first of this name.
 pub fn named<'a, T: HasName>(all: &'a [T], name: &Text) -> Option<&'a T>

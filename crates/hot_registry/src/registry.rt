@@ -4,9 +4,9 @@ ghost use Rattle.type_catalog.specs.Changes.{ChangeOf};
 ghost use Rattle.hot_registry.specs.Names.{are_few as the_are_few};
 ghost use Rattle.hot_registry.specs.Registries.{kind_name, kind_named, test_named};
 
-use crate::naming::{HasName, are_few, named};
+use crate::naming::{are_few, named};
 use crate::{Custom, Judge, KindDef};
-use heat_plan::{Kind, Properties};
+use heat_plan::{HasName, Kind, Properties};
 use heat_value::{Seq, Text};
 use std::alloc::Global;
 use type_catalog::{Effect, change_of};

@@ -10,7 +10,7 @@ ghost use Rattle.plain_templates.specs.Plans.{IsPlanOf, IsNoPlan, IsPlannedOneWa
 use crate::PlanFault;
 use crate::graph::needs_cycle;
 use crate::items::items_of;
-use heat_plan::{Conditions, Files, Item, Parameters, Plan};
+use heat_plan::{ByName, Item, Parameters, Plan};
 use heat_value::{Props, Seq};
 use script_lines::{Body, first_unknown, plain_resources};
 use std::alloc::Global;
@@ -46,8 +46,8 @@ fn plan_of_items(alloc: Global, resources: &Props, items: Seq<Item>) -> Plan
         items,
         Seq::new(alloc),
         Parameters::new(alloc),
-        Conditions::new(alloc),
-        Files::new(alloc),
+        ByName::new(alloc),
+        ByName::new(alloc),
         Seq::new(alloc),
     )
 }

@@ -1,9 +1,7 @@
 //! What is told of a stack's outputs: values, faults with their places, and whose facts they read.
 use crate::parts::{begins, completes, row, row_no, sets, stack, text};
 use core_state::{Actor, Entry, Row, ShowWhat, State, What};
-use heat_plan::{
-    Act, Conditions, Expression, Facts, Files, Output, Parameters, Plan, Properties, Status,
-};
+use heat_plan::{Act, ByName, Expression, Facts, Output, Parameters, Plan, Properties, Status};
 use heat_value::{Seq, Text, Value};
 use report::Reporter;
 use std::process::Abort;
@@ -32,8 +30,8 @@ fn plan_of(rt: &(impl Abort + AllocGlobal), outputs: &[(&str, &str)]) -> Plan {
         Seq::new(rt.alloc()),
         all,
         Parameters::new(rt.alloc()),
-        Conditions::new(rt.alloc()),
-        Files::new(rt.alloc()),
+        ByName::new(rt.alloc()),
+        ByName::new(rt.alloc()),
         Seq::new(rt.alloc()),
     )
 }

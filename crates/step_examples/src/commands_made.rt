@@ -6,8 +6,8 @@ ghost use Rattle.std.specs.Prelude.{◌≡◌, [], IfOk};
 use command_steps::{cancel, create, delete, is_due, roll_back, update};
 use core_state::{Made, State};
 use heat_plan::{
-    Conditions, EngineNo, Files, Item, Kind, Needs, Parameters, Plan, Policy, Properties, Refusal,
-    ResName, StackName,
+    ByName, EngineNo, Item, Kind, Needs, Parameters, Plan, Policy, Properties, Refusal, ResName,
+    StackName,
 };
 use heat_value::{Seq, Text};
 use std::alloc::{AllocError, Global};
@@ -40,8 +40,8 @@ fn plan_of(alloc: Global, item: Item) -> Result<Plan, AllocError>
         items,
         Seq::new(alloc),
         Parameters::new(alloc),
-        Conditions::new(alloc),
-        Files::new(alloc),
+        ByName::new(alloc),
+        ByName::new(alloc),
         Seq::new(alloc),
     ))
 }
@@ -58,8 +58,8 @@ fn no_plan(alloc: Global) -> Plan {
         Seq::new(alloc),
         Seq::new(alloc),
         Parameters::new(alloc),
-        Conditions::new(alloc),
-        Files::new(alloc),
+        ByName::new(alloc),
+        ByName::new(alloc),
         Seq::new(alloc),
     )
 }

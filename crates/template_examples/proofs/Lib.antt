@@ -1,2 +1,1 @@
 pub mod NoItems
-pub mod TwoNames

@@ -2,9 +2,7 @@
 ghost use Rattle.std.specs.Prelude.{◌≡◌, IfOk};
 
 use crate::cases::{Teller, fault_words, value_of, value_words};
-use heat_plan::{
-    Condition, Conditions, Facts, File, Files, KnownFacts, Parameters, Plan, Properties, ResName,
-};
+use heat_plan::{ByName, Condition, Facts, File, KnownFacts, Parameters, Plan, Properties, ResName};
 use heat_value::{Props, Seq, Text, Value};
 use hot_eval::{EvalFault, eval};
 use std::alloc::{AllocError, Global};
@@ -38,27 +36,26 @@ fn params_of(alloc: Global) -> Result<Parameters, AllocError> {
 }
 
 fn condition_of(alloc: Global, name: &str, value: bool) -> Result<Condition, AllocError>
-    ensures { IfOk result (λ c. c.name ≡ name.now) }
 {
     let name = Text::from_str(alloc, name)?;
     Ok(Condition { name, value })
 }
 
 // The conditions off and on.
-fn conds_of(alloc: Global) -> Result<Conditions, AllocError> {
+fn conds_of(alloc: Global) -> Result<ByName<Condition>, AllocError> {
     let mut conds = Seq::new(alloc);
     conds.push(condition_of(alloc, "off", false)?)?;
     conds.push(condition_of(alloc, "on", true)?)?;
-    Ok(Conditions::from_rising(conds))
+    Ok(ByName::from_list(conds))
 }
 
 // The file f.
-fn files_of(alloc: Global) -> Result<Files, AllocError> {
+fn files_of(alloc: Global) -> Result<ByName<File>, AllocError> {
     let name = Text::from_str(alloc, "f")?;
     let content = Text::from_str(alloc, "text")?;
     let mut files = Seq::new(alloc);
     files.push(File { name, content })?;
-    Ok(Files::from_rising(files))
+    Ok(ByName::from_list(files))
 }
 
 // The absent resource.

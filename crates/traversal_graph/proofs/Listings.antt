@@ -49,9 +49,9 @@ same_item items i j up a b e = elim (cases_order a.0 b.0) [
       let here : get_or items b.0 i ≡ i = subst G same a.2 in
       sym here ∙ get_or_default items b.0 i j b.1 ∙ b.2)
   | inr o ↦ elim o [
-    | inl below ↦ (let less = Less-in_order items a.0 b.0 i up below b.1 in
+    | inl below ↦ (let less = Less-in_order (λ (x : Item). x.name) items a.0 b.0 i up below b.1 in
         absurd (not_less i.name j.name e (names a.0 b.0 less)))
-    | inr above ↦ (let less = Less-in_order items b.0 a.0 i up above a.1 in
+    | inr above ↦ (let less = Less-in_order (λ (x : Item). x.name) items b.0 a.0 i up above a.1 in
         absurd (not_less j.name i.name (sym e) (names' b.0 a.0 less)))
   ]
 ]

@@ -34,7 +34,7 @@ place_past (x ∷ items) name none =
 pub names_rise : (items : List Item) (name : List ℕ) → Rising (names_of items)
     → IsNonDecreasingBy (λ (x : Item). ordering_index (slice_cmp nat_cmp x.name name)) items
 names_rise items name up = searchable_from_sorted nat_list_cmp_total (λ (x : Item). x.name) items name
-    (λ i d a l. ap is_lt (flipped (get_or items i d).name (get_or items (i + 1) d).name Less (Less-in_order items i (i + 1) d up (omega arith) (omega arith))))
+    (λ i d a l. ap is_lt (flipped (get_or items i d).name (get_or items (i + 1) d).name Less (Less-in_order (λ (y : Item). y.name) items i (i + 1) d up (omega arith) (omega arith))))
 
 -- an item of the name stands at its place
 pub place_found : (items : List Item) (name : List ℕ) (i : ℕ) → Rising (names_of items) → i < length items
@@ -48,7 +48,7 @@ place_found (x ∷ items) name i up l here =
         let earlier : List ℕ = (get_or (x ∷ items) k e).name in
         let this : List ℕ = (get_or (x ∷ items) i e).name in
         sym (is_eq-slice_cmp name earlier)
-        ∙ ap is_eq (sym (nat_list_cmp_total.congr this name earlier (here e)) ∙ flipped earlier this Less (Less-in_order (x ∷ items) k i e up a l))
+        ∙ ap is_eq (sym (nat_list_cmp_total.congr this name earlier (here e)) ∙ flipped earlier this Less (Less-in_order (λ (y : Item). y.name) (x ∷ items) k i e up a l))
 
 -- where none has the name, its place is past all
 pub place_missed : (items : List Item) (name : List ℕ) (i : ℕ)

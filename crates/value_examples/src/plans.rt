@@ -1,8 +1,8 @@
 //! What no clause says: values from outside, and that each call succeeds with ample memory.
 use heat_plan::{
-    Answered, Condition, Conditions, Expression, Facts, File, Files, Item, Kind, Known, KnownFacts,
-    Needs, Output, Parameters, Plan, Policy, Properties, Refusal, Request, ResName, RowNo,
-    StackName, Token, are_in_order, is_rising,
+    Answered, ByName, Condition, Expression, Facts, File, Item, Kind, Known, KnownFacts, Needs,
+    Output, Parameters, Plan, Policy, Properties, Refusal, Request, ResName, RowNo, StackName,
+    Token, are_in_order, is_rising,
 };
 use heat_value::{Equals, Items, Props, Seq, Text, TryCopy, Value};
 use std::alloc::{AllocError, Global};
@@ -253,8 +253,8 @@ fn a_plan_is_copied(rt: HostRuntime) -> Result<(), Fail> {
         Seq::new(alloc),
         Seq::new(alloc),
         Parameters::new(alloc),
-        Conditions::new(alloc),
-        Files::new(alloc),
+        ByName::new(alloc),
+        ByName::new(alloc),
         Seq::new(alloc),
     );
     assert!(rt; plan.copy()?.equals(&plan));

@@ -1,18 +1,11 @@
-use Rattle.std.proofs.Common.{◌≡◌, ◌<◌, ◌-◌, [], length, refl, sym, ◌∙◌, get_or, true, not, ◌==◌, arith}
+use Rattle.std.proofs.Common.{◌≡◌, ◌<◌, ◌-◌, [], length, refl, sym, ◌∙◌, get_or, arith}
 use Rattle.std.proofs.lemmas.Grind.{common_steps}
 use Rattle.std.proofs.lemmas.Cmp.{nat_list_cmp_total}
 use Rattle.std.proofs.lemmas.Map.Keys.{sorted_from_all_adjacent, Less-from_sorted}
-use Rattle.std.specs.Ordering.{nat_cmp, ordering_index}
-use Rattle.std.specs.declared.cmp.Ordering.{Ordering}
+use Rattle.std.specs.Ordering.{nat_cmp}
 use Rattle.std.specs.Cmp.Lexicographic.{slice_cmp}
-use Rattle.std.specs.declared.cmp.Ordering.TheVariants.{Less, Equal, Greater}
+use Rattle.heat_plan.proofs.OrderLemmas.{not_less}
 use Rattle.heat_plan.proofs.needs.is_rising.Goals as goal
-
--- a comparison that isn't Less passes the test
-not_less : (o : Ordering) → not (ordering_index o == 0) ≡ true → o ≡ Less → ⊥
-not_less Less t e = cc
-not_less Equal t e = cc
-not_less Greater t e = cc
 
 pub returns-then-ne : goal.returns-then-ne
 returns-then-ne c = (

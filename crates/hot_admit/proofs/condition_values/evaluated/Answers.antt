@@ -24,7 +24,7 @@ returns-then-not-branch c =
     c.in_ok-find_more.ensures.found
     (reached c.args.params.now (members_of c.args.conds.now) _ c.requires.rising
     (none_added c.args.params.now (members_of c.args.conds.now) c.loop-round.values.items c.find_more.new.values.items
-    c.in_ok-find_more.ensures.round (c.in_ok-find_more.ensures.still c.if-not-branch.true)))
+    c.in_ok-find_more.ensures.round (c.in_ok-find_more.ensures.same c.if-not-branch.true)))
 
 pub returns : goal.returns
 returns c =

@@ -21,7 +21,7 @@ loop-place-preserved c = (
       refl c.in_ok-find_at.ensures.found c.in_ok-find_at.ensures.grows c.in_ok-find_at.ensures.here,
   elim c.if-branch.branch [
     | then-branch w ↦ λ none. let never : true ≡ false = sym w.any-is ∙ none in cc
-    | else-branch w ↦ λ none. c.in_ok-find_at.ensures.still w.if-branch.false
+    | else-branch w ↦ λ none. c.in_ok-find_at.ensures.same w.if-branch.false
         ∙ c.loop-place.invariant.1 (sym w.any-is ∙ none)
   ],
 )

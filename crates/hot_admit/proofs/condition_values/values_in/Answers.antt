@@ -3,8 +3,7 @@ use Rattle.std.proofs.Common.{◌∙◌, Some, sym, ap, subst, arith, length, �
 use Rattle.heat_plan.specs.declared.conditions.Condition.{Condition}
 use Rattle.heat_value.specs.Meaning.{members_of}
 use Rattle.hot_eval.specs.Conditions.{values_of}
-use Rattle.heat_plan.specs.Named.{AreConditions}
-use Rattle.hot_admit.proofs.Found.{values_from, values_next, values_stop, values_end, values_rise, flag_read, flags_count}
+use Rattle.hot_admit.proofs.Found.{values_from, values_next, values_stop, values_end, flag_read, flags_count}
 use Rattle.hot_admit.proofs.condition_values.values_in.Goals as goal
 
 pub loop-place-init : goal.loop-place-init
@@ -38,10 +37,3 @@ loop-place-preserved c =
     ∙ c.in-Some.is)
     (c.in_ok-push-in-Some.ensures.ok
     ∙ ap (λ (x : Condition). c.loop-place.known ++ x ∷ []) c.in_ok-named-in-Some.ensures)
-
-pub from_rising-requires : goal.from_rising-requires
-from_rising-requires c =
-    subst AreConditions
-    (sym (values_end c.args.params.now _ c.args.conds.now c.loop-place.place c.loop-place.known c.loop-place.invariant
-    c.loop-place-test.false).0)
-    (values_rise c.args.params.now (members_of c.args.conds.now) c.requires.rising)

@@ -1,11 +1,11 @@
 -- At its root an evaluation is the whole one.
 use Rattle.std.proofs.Common.{refl}
 use Rattle.hot_eval.specs.Conditions.{in_conditions}
-use Rattle.hot_eval.specs.Known.{known_data}
+use Rattle.hot_eval.specs.ValuedConds.{valued_data}
 use Rattle.hot_eval.proofs.Made.{root_is}
 use Rattle.hot_eval.proofs.conditions.setting.Goals as goal
 
 pub returns-clause-again : goal.returns-clause-again
 returns-clause-again c =
-    root_is c.root.result.repeats (in_conditions c.args.params.now (known_data c.args.known))
-    (in_conditions c.args.params.now (known_data c.args.known)) c.root.ensures refl
+    root_is c.root.result.repeats (in_conditions c.args.params.now (valued_data c.args.known))
+    (in_conditions c.args.params.now (valued_data c.args.known)) c.root.ensures refl
