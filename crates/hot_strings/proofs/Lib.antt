@@ -8,6 +8,7 @@ pub mod KeyLemmas
 pub mod PieceLemmas
 pub mod Rises
 pub mod Nearest
+pub mod Marks
 pub mod Indexing
 pub mod Listings
 pub mod Weights

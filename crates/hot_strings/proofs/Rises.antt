@@ -22,11 +22,14 @@ cmp = slice_cmp nat_cmp
 
 -- ---- texts in byte order
 
-flipped : (a b : List ℕ) (o : Ordering) → cmp a b ≡ o → cmp b a ≡ ordering_reverse o
+pub flipped : (a b : List ℕ) (o : Ordering) → cmp a b ≡ o → cmp b a ≡ ordering_reverse o
 flipped a b o is = nat_list_cmp_total.antisymm b a ∙ ap ordering_reverse is
 
 level : (x y : ℕ) → x ≡ y → nat_cmp x y ≡ Equal
 level x y e = sym (nat_cmp_is x y Equal e)
+
+pub begins_itself : (a : List ℕ) → Begins a a
+begins_itself a = ([], sym (append-nil a))
 
 -- a text isn't above one that begins with it
 pub begins_not_above : (p s : List ℕ) → Begins p s → cmp p s ≡ Greater → ⊥
@@ -152,7 +155,7 @@ nearest_below ps s i up some within parts =
     not_after j d l (inr behind) m g =
         let here : j ≡ i - 1 = omega arith in
         let same : get_or ps j d ≡ p = rw here (get_or_default ps (i - 1) d any (omega arith)) in
-        begins_not_above p.0 p.0 ([], sym (append-nil p.0)) (subst (λ (q : List ℕ × List ℕ). cmp q.0 p.0 ≡ Greater) same g)
+        begins_not_above p.0 p.0 (begins_itself p.0) (subst (λ (q : List ℕ × List ℕ). cmp q.0 p.0 ≡ Greater) same g)
 
     by : (j : ℕ) (d : List ℕ × List ℕ) → j < length ps → Begins (get_or ps j d).0 s → (j < i) ⊎ (i ≤ j) → Begins (get_or ps j d).0 p.0
     by j d l b (inl before) = begins_between (get_or ps j d).0 p.0 s b (not_after j d l (cases_lt j (i - 1)) before) (not_higher (cmp p.0 s) below)

@@ -40,6 +40,13 @@ impl KeyIndex {
     {
         self.empty
     }
+
+    // Whether the keys are known to rise in byte order.
+    pub(crate) fn rises(&self) -> bool
+        ensures { result ≡ self.now.rise }
+    {
+        self.rise
+    }
 }
 
 // The places of a long list of keys by their first bytes; none for a short one.

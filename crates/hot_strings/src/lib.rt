@@ -12,6 +12,7 @@ mod index;
 mod joining;
 mod keys;
 mod listing;
+mod marking;
 mod pieces;
 mod replacing;
 mod rising;
