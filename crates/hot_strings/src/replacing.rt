@@ -14,10 +14,11 @@ use crate::StringFault;
 use crate::draft::Draft;
 use crate::index::KeyIndex;
 use crate::keys::has_empty_key;
+use crate::marking::lacks_risen;
 use crate::pieces::first_piece;
 use crate::size::MAX_SIZE;
 use heat_value::Text;
-use std::alloc::Global;
+use std::alloc::{AllocError, Global};
 
 /// The template with each key's value in the key's place: at each place the longest key that stands
 /// there counts, and what was put in isn't read again. With `strict` each key has to stand somewhere
@@ -45,10 +46,7 @@ pub fn replace(
     if has_empty_key(params) {
         return Err(StringFault::F03);
     }
-    if strict_fails(strict, params, template.as_str()) {
-        return Err(StringFault::F04);
-    }
-    filled(alloc, template.as_str(), params, MAX_SIZE)
+    filled(alloc, template.as_str(), params, strict)
 }
 
 /// The same where the text is no function's result, with a limit of its own in bytes of JSON and an
@@ -76,16 +74,68 @@ pub fn replace_within(
     filled_by(alloc, template.as_str(), params, index, limit)
 }
 
-// Whether some key stands nowhere in the template, where that counts.
-fn strict_fails(strict: bool, params: &[(Text, Text)], template: &str) -> bool
-    ensures { MatchBool result (IsTrue strict × LacksSomeKey params.now template.now)
-        (IsTrue strict → HasEveryKey params.now template.now) }
+// The template with the values put in, where with `strict` each key stands somewhere in it.
+fn filled(
+    alloc: Global,
+    template: &str,
+    params: &[(Text, Text)],
+    strict: bool,
+) -> Result<Text, StringFault>
+    requires keys { HasNoEmptyKey params.now }
+    requires texts { All (λ p. IsUtf8 p.0) params.now }
+    ensures ok { IfOk result (IsReplaced params.now template.now) }
+    ensures fits { IfOk result (λ t. Fits (words t)) }
+    ensures all { OnOk result (IsTrue strict → HasEveryKey params.now template.now) }
+    ensures err { IfErr result (λ e. IsReplaceFault e params.now template.now strict) }
 {
-    strict && lacks_some_key(params, template)
+    let index = KeyIndex::new(alloc, params)?;
+    if strict_fails(alloc, strict, params, &index, template)? {
+        return Err(StringFault::F04);
+    }
+    filled_by(alloc, template, params, &index, MAX_SIZE)
+}
+
+// Whether some key stands nowhere in the template, where that counts.
+fn strict_fails(
+    alloc: Global,
+    strict: bool,
+    params: &[(Text, Text)],
+    index: &KeyIndex,
+    template: &str,
+) -> Result<bool, AllocError>
+    requires keys { HasNoEmptyKey params.now }
+    requires index { IsIndexOf (keys_in params.now) index.now }
+    ensures { IfOk result (λ b. MatchBool b (IsTrue strict × LacksSomeKey params.now template.now)
+        (IsTrue strict → HasEveryKey params.now template.now)) }
+{
+    if strict {
+        lacks_some_key(alloc, params, index, template)
+    } else {
+        Ok(false)
+    }
 }
 
 // Whether some key stands nowhere in the template.
-fn lacks_some_key(params: &[(Text, Text)], template: &str) -> bool
+fn lacks_some_key(
+    alloc: Global,
+    params: &[(Text, Text)],
+    index: &KeyIndex,
+    template: &str,
+) -> Result<bool, AllocError>
+    requires keys { HasNoEmptyKey params.now }
+    requires index { IsIndexOf (keys_in params.now) index.now }
+    ensures { IfOk result (λ b. MatchBool b (LacksSomeKey params.now template.now)
+        (HasEveryKey params.now template.now)) }
+{
+    if index.rises() {
+        lacks_risen(alloc, params, template.as_bytes())
+    } else {
+        Ok(lacks_sought(params, template))
+    }
+}
+
+// The same, by looking for each key in the whole template.
+fn lacks_sought(params: &[(Text, Text)], template: &str) -> bool
     ensures { MatchBool result (LacksSomeKey params.now template.now)
         (HasEveryKey params.now template.now) }
 {
@@ -104,25 +154,7 @@ fn has_part(text: &str, key: &str) -> bool
     text.contains(key)
 }
 
-// The template with the values put in, where that takes no more than it may.
-fn filled(
-    alloc: Global,
-    template: &str,
-    params: &[(Text, Text)],
-    limit: usize,
-) -> Result<Text, StringFault>
-    requires keys { HasNoEmptyKey params.now }
-    requires texts { All (λ p. IsUtf8 p.0) params.now }
-    requires some { 2 ≤ limit }
-    ensures ok { IfOk result (IsReplaced params.now template.now) }
-    ensures fits { IfOk result (λ t. FitsWithin limit (words t)) }
-    ensures err { IfErr result (λ e. IsOfReplaced e limit params.now template.now) }
-{
-    let index = KeyIndex::new(alloc, params)?;
-    filled_by(alloc, template, params, &index, limit)
-}
-
-// The same, with the keys found by an index.
+// The template with the values put in, the keys found by an index, where that takes no more than it may.
 fn filled_by(
     alloc: Global,
     template: &str,

@@ -1,6 +1,6 @@
 use Rattle.std.proofs.Common.{take}
 use Rattle.hot_strings.specs.Pieces.{HasEveryKey}
-use Rattle.hot_strings.proofs.replacing.lacks_some_key.Given as goal
+use Rattle.hot_strings.proofs.replacing.lacks_sought.Given as goal
 
 -- each key so far stands in the template
 abbrev pub invariant-loop-param : goal.invariant-loop-param
