@@ -6,6 +6,8 @@ pub mod Passed
 pub mod Characters
 pub mod KeyLemmas
 pub mod PieceLemmas
+pub mod Rises
+pub mod Nearest
 pub mod Indexing
 pub mod Listings
 pub mod Weights

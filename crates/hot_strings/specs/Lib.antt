@@ -4,6 +4,7 @@ pub mod Places
 pub mod Joined
 pub mod Split
 pub mod Pieces
+pub mod Rising
 pub mod Digest
 pub mod Faults
 pub mod Indexes

@@ -5,18 +5,21 @@ ghost use Rattle.std.specs.Str.{IsUtf8};
 ghost use Rattle.hot_strings.specs.Indexes.{keys_in, IsIndexOf, IsIndex, AreAt, HasFirst};
 ghost use Rattle.hot_strings.specs.Pieces.{IsLongestKey, NoKeyBegins, HasEmptyKey, HasNoEmptyKey};
 
-use crate::keys::has_empty_key;
+use crate::keys::{has_empty_key, keys_rise};
 use crate::pieces::{begins, longest_key};
+use crate::rising::longest_risen;
 use heat_value::{Seq, Text};
 use std::alloc::{AllocError, Global};
 
 // For fewer keys all are looked at.
 const FEW: usize = 32;
 
-/// Whether some key is empty and, for a long list of keys, for each byte the places of those that begin with it.
+/// Whether some key is empty, whether the keys rise in byte order and, for a long list of keys that
+/// don't, for each byte the places of those that begin with it.
 #[derive(Drop)]
 pub struct KeyIndex {
     empty: bool,
+    rise: bool,
     lists: Option<Seq<Seq<usize>>>,
 }
 
@@ -26,8 +29,9 @@ impl KeyIndex {
         ensures { IfOk result (IsIndexOf (keys_in params.now)) }
     {
         let empty = has_empty_key(params);
-        let lists = lists_of(alloc, params)?;
-        Ok(KeyIndex { empty, lists })
+        let rise = keys_rise(params);
+        let lists = if rise { None } else { lists_of(alloc, params)? };
+        Ok(KeyIndex { empty, rise, lists })
     }
 
     // Whether some key is empty.
@@ -86,6 +90,9 @@ pub fn longest(params: &[(Text, Text)], index: &KeyIndex, text: &str) -> Option<
         (k : List ℕ) × (v : List ℕ) × (slice_get params.now i ≡ Some (k, v))
         × IsLongestKey params.now text.now k v) }
 {
+    if index.rise {
+        return longest_risen(params, text.as_bytes());
+    }
     match &index.lists {
         Some(lists) => longest_listed(params, lists, text),
         None => longest_key(params, text),

@@ -14,6 +14,7 @@ mod keys;
 mod listing;
 mod pieces;
 mod replacing;
+mod rising;
 mod size;
 mod splitting;
 mod whole;
