@@ -1,5 +1,5 @@
 //! Runs one text function on a large input and prints counts, which are the same at each run.
-//! The words are what to do (`empty`, `replace`, `keys`, `distinct`, `split` or `sha512`) and how many bytes to take.
+//! The words are what to do (`empty`, `replace`, `keys`, `split` or `sha512`) and how many bytes to take.
 #![tactic(auto)]
 
 use anyhow::Result;
@@ -13,7 +13,6 @@ enum Work {
     Empty,
     Replace,
     Keys,
-    Distinct,
     Split,
     Sha512,
 }
@@ -22,7 +21,6 @@ fn work_of(word: &str) -> Work {
     match word {
         "replace" => Work::Replace,
         "keys" => Work::Keys,
-        "distinct" => Work::Distinct,
         "split" => Work::Split,
         "sha512" => Work::Sha512,
         _ => Work::Empty,
@@ -59,10 +57,9 @@ fn template(alloc: Global, bytes: usize) -> Result<Text> {
     Ok(Text::from_string(text))
 }
 
-// A key of eight bytes, the first of which is one of 94.
+// A key of eight bytes; those of rising numbers rise.
 fn numbered_key(alloc: Global, i: usize) -> Result<Text> {
-    let first = char::from(33 + (i % 94) as u8);
-    Ok(Text::from_string(format!(in alloc; "{first}{i:07}")?))
+    Ok(Text::from_string(format!(in alloc; "k{i:07}")?))
 }
 
 // So many such keys, with values that are shorter.
@@ -100,17 +97,6 @@ fn many_replaced(alloc: Global, count: usize) -> Result<usize> {
     replaced(alloc, &listed(alloc, count)?, params.as_slice())
 }
 
-// What comes before the keys are replaced: the same text and keys, and that no two of them are the same.
-fn many_told_apart(alloc: Global, count: usize) -> Result<usize> {
-    let params = numbered(alloc, count)?;
-    let template = listed(alloc, count)?;
-    if are_distinct(params.as_slice()) {
-        Ok(template.as_str().len())
-    } else {
-        Ok(0)
-    }
-}
-
 // How many pieces of nine bytes there are.
 fn pieces(alloc: Global, bytes: usize) -> Result<usize> {
     let delimiter = Text::from_str(alloc, ",")?;
@@ -136,7 +122,6 @@ fn done(alloc: Global, work: Work, bytes: usize) -> Result<usize> {
         Work::Empty => Ok(0),
         Work::Replace => replaced(alloc, &template(alloc, bytes)?, keys(alloc, 100)?.as_slice()),
         Work::Keys => many_replaced(alloc, bytes / 10),
-        Work::Distinct => many_told_apart(alloc, bytes / 10),
         Work::Split => pieces(alloc, bytes),
         Work::Sha512 => digested(alloc, bytes),
     }
