@@ -20,8 +20,24 @@ pub enum Opened<P: Provider> {
     Memory(P),
 }
 
+/// The state at an opening, and its copy, which steps change.
+#[derive(Drop)]
+pub(crate) struct Start {
+    pub opening: State,
+    pub state: State,
+}
+
 /// No stack, and so many engines.
-pub(crate) fn opening_of(alloc: Global, workers: u8) -> Result<State, AllocError>
+pub(crate) fn start_of(alloc: Global, workers: u8) -> Result<Start, AllocError>
+    ensures opening { IfOk result (λ s. s.opening.state ≡ opened workers) }
+    ensures state { IfOk result (λ s. s.state.state ≡ opened workers) }
+{
+    let opening = opening_of(alloc, workers)?;
+    let state = opening.copy()?;
+    Ok(Start { opening, state })
+}
+
+fn opening_of(alloc: Global, workers: u8) -> Result<State, AllocError>
     ensures { IfOk result (λ s. s.state ≡ opened workers) }
 {
     let mut state = numbered(alloc, workers)?;
