@@ -28,7 +28,7 @@ figures=$(mktemp)
 trap 'rm -f "$figures"' EXIT
 set -- $(measured empty 0)
 empty=$3
-for work in replace:1000000 split:500000 sha512:1000000; do
+for work in replace:1000000 keys:500000 distinct:500000 split:500000 sha512:1000000; do
     name=${work%:*}
     bytes=${work#*:}
     set -- $(measured "$name" "$bytes")

@@ -1,5 +1,5 @@
 //! Runs one text function on a large input and prints counts, which are the same at each run.
-//! The words are what to do (`empty`, `replace`, `split` or `sha512`) and how many bytes to take.
+//! The words are what to do (`empty`, `replace`, `keys`, `distinct`, `split` or `sha512`) and how many bytes to take.
 #![tactic(auto)]
 
 use anyhow::Result;
@@ -12,6 +12,8 @@ use std::env;
 enum Work {
     Empty,
     Replace,
+    Keys,
+    Distinct,
     Split,
     Sha512,
 }
@@ -19,6 +21,8 @@ enum Work {
 fn work_of(word: &str) -> Work {
     match word {
         "replace" => Work::Replace,
+        "keys" => Work::Keys,
+        "distinct" => Work::Distinct,
         "split" => Work::Split,
         "sha512" => Work::Sha512,
         _ => Work::Empty,
@@ -55,15 +59,56 @@ fn template(alloc: Global, bytes: usize) -> Result<Text> {
     Ok(Text::from_string(text))
 }
 
+// A key of eight bytes, the first of which is one of 94.
+fn numbered_key(alloc: Global, i: usize) -> Result<Text> {
+    let first = char::from(33 + (i % 94) as u8);
+    Ok(Text::from_string(format!(in alloc; "{first}{i:07}")?))
+}
+
+// So many such keys, with values that are shorter.
+fn numbered(alloc: Global, count: usize) -> Result<Vec<(Text, Text)>> {
+    let mut params = Vec::new(alloc);
+    for i in 0..count {
+        let value = format!(in alloc; "v{i}")?;
+        params.push((numbered_key(alloc, i)?, Text::from_string(value)))?;
+    }
+    Ok(params)
+}
+
+// Text of ten bytes around each of so many such keys.
+fn listed(alloc: Global, count: usize) -> Result<Text> {
+    let mut text = String::new(alloc);
+    for i in 0..count {
+        text.push_str(numbered_key(alloc, i)?.as_str())?;
+        text.push_str(", ")?;
+    }
+    Ok(Text::from_string(text))
+}
+
 // How long the template is with the values put in.
-fn replaced(alloc: Global, bytes: usize) -> Result<usize> {
-    let params = keys(alloc, 100)?;
-    let template = template(alloc, bytes)?;
-    if !are_distinct(params.as_slice()) {
+fn replaced(alloc: Global, template: &Text, params: &[(Text, Text)]) -> Result<usize> {
+    if !are_distinct(params) {
         return Ok(0);
     }
-    let text = replace(alloc, &template, params.as_slice(), true)?;
+    let text = replace(alloc, template, params, true)?;
     Ok(text.as_str().len())
+}
+
+// How long text with so many keys is with their values put in.
+fn many_replaced(alloc: Global, count: usize) -> Result<usize> {
+    let params = numbered(alloc, count)?;
+    replaced(alloc, &listed(alloc, count)?, params.as_slice())
+}
+
+// What comes before the keys are replaced: the same text and keys, and that no two of them are the same.
+fn many_told_apart(alloc: Global, count: usize) -> Result<usize> {
+    let params = numbered(alloc, count)?;
+    let template = listed(alloc, count)?;
+    if are_distinct(params.as_slice()) {
+        Ok(template.as_str().len())
+    } else {
+        Ok(0)
+    }
 }
 
 // How many pieces of nine bytes there are.
@@ -89,7 +134,9 @@ fn digested(alloc: Global, bytes: usize) -> Result<usize> {
 fn done(alloc: Global, work: Work, bytes: usize) -> Result<usize> {
     match work {
         Work::Empty => Ok(0),
-        Work::Replace => replaced(alloc, bytes),
+        Work::Replace => replaced(alloc, &template(alloc, bytes)?, keys(alloc, 100)?.as_slice()),
+        Work::Keys => many_replaced(alloc, bytes / 10),
+        Work::Distinct => many_told_apart(alloc, bytes / 10),
         Work::Split => pieces(alloc, bytes),
         Work::Sha512 => digested(alloc, bytes),
     }

@@ -205,16 +205,46 @@ impl State {
     pub fn copy(&self) -> Result<State, AllocError>
         ensures { IfOk result (λ copy. copy.state ≡ self.now.state) }
     {
+        let (stacks, graphs, pasts) = self.stack_tables()?;
+        let (rows, mail) = self.row_tables()?;
+        let (live, released) = self.lists()?;
         Ok(State {
-            stacks: self.stacks.copy()?,
-            graphs: self.graphs.copy()?,
-            pasts: self.pasts.copy()?,
-            rows: self.rows.copy()?,
-            mail: self.mail.copy()?,
-            live: self.live.copied()?,
-            released: self.released.copy()?,
+            stacks,
+            graphs,
+            pasts,
+            rows,
+            mail,
+            live,
+            released,
             next: self.next,
         })
+    }
+
+    // Copies of the stacks, their graphs and their pasts.
+    fn stack_tables(&self) -> Result<(Table<Stack>, Table<Graph>, Table<Past>), AllocError>
+        ensures stacks { IfOk result (λ t. t.0.items ≡ self.now.state.stacks) }
+        ensures graphs { IfOk result (λ t. t.1.items ≡ self.now.state.graphs) }
+        ensures pasts { IfOk result (λ t. t.2.items ≡ self.now.state.pasts) }
+    {
+        Ok((self.stacks.copy()?, self.graphs.copy()?, self.pasts.copy()?))
+    }
+
+    // Copies of the rows, and of the letters and jobs.
+    fn row_tables(&self) -> Result<(RowTable, MailTable), AllocError>
+        ensures rows { IfOk result (λ t. t.0.items ≡ self.now.state.rows) }
+        ensures letters { IfOk result (λ t. t.1.mail.letters ≡ self.now.state.letters) }
+        ensures jobs { IfOk result (λ t. t.1.mail.jobs ≡ self.now.state.jobs) }
+        ensures next { IfOk result (λ t. t.1.mail.next ≡ self.now.state.next.letter) }
+    {
+        Ok((self.rows.copy()?, self.mail.copy()?))
+    }
+
+    // Copies of the live engines and of the tokens that were released.
+    fn lists(&self) -> Result<(ListTable<EngineNo>, Roomed<Token>), AllocError>
+        ensures live { IfOk result (λ t. t.0.items ≡ self.now.state.live) }
+        ensures released { IfOk result (λ t. t.1.items ≡ self.now.state.released) }
+    {
+        Ok((self.live.copied()?, self.released.copy()?))
     }
 
     /// Makes room for so many more records in each table.
