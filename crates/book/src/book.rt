@@ -29,11 +29,11 @@ use crate::committing::{Proposal, commit_of};
 use crate::engines::{make_enlisting, make_stop};
 use crate::halting::Halt;
 use crate::listing::{Listing, list};
-use crate::opening::{Opened, Start, start_of};
+use crate::opening::{Opened, Start, disagreed, faulted, open_book, start_of, wanting};
 use crate::turning::{Turn, turn_of};
 use check_steps::{Look, Prepared, Work, look};
 use core_state::{Actor, Entry, Next, Roomed, State, What};
-use heat_plan::{EngineNo, Refusal, StackName, StackNo, Token, TravNo, WORN};
+use heat_plan::{EngineNo, Refusal, StackName, StackNo, TravNo, WORN};
 use hot_registry::Registry;
 use provider::Provider;
 use std::alloc::{AllocError, Global};
@@ -125,7 +125,7 @@ impl<P: Provider> Book<P> {
         ensures memory { (p : P) → result ≡ Opened.Memory p → (listing ≡ Listing.Memory) × (p ≡ cloud) }
     {
         match listing {
-            Listing::Nothing => opened(Book::begun(alloc, start, cloud)),
+            Listing::Nothing => open_book(Book::begun(alloc, start, cloud)),
             Listing::Stranger(token) => disagreed(start, cloud, token),
             Listing::Failed => faulted(start, cloud),
             Listing::Memory => wanting(start, cloud),
@@ -404,31 +404,4 @@ fn last_number() -> StackNo
         Some(no) => no,
         None => unreachable!(),
     }
-}
-
-fn opened<P: Provider>(book: Book<P>) -> Opened<P>
-    ensures { result ≡ Opened.Book book }
-{
-    Opened::Book(book)
-}
-
-fn disagreed<P: Provider>(start: Start, cloud: P, token: Token) -> Opened<P>
-    ensures { result ≡ Opened.Disagree cloud token }
-{
-    let _start = start;
-    Opened::Disagree(cloud, token)
-}
-
-fn faulted<P: Provider>(start: Start, cloud: P) -> Opened<P>
-    ensures { result ≡ Opened.CloudFault cloud }
-{
-    let _start = start;
-    Opened::CloudFault(cloud)
-}
-
-fn wanting<P: Provider>(start: Start, cloud: P) -> Opened<P>
-    ensures { result ≡ Opened.Memory cloud }
-{
-    let _start = start;
-    Opened::Memory(cloud)
 }

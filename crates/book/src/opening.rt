@@ -75,3 +75,31 @@ fn enlist(alloc: Global, state: &mut State, number: u64) -> Result<(), AllocErro
     }
     Ok(())
 }
+
+/// The book is open.
+pub(crate) fn open_book<P: Provider>(book: Book<P>) -> Opened<P>
+    ensures { result ≡ Opened.Book book }
+{
+    Opened::Book(book)
+}
+
+/// The cloud lists a stranger.
+pub(crate) fn disagreed<P: Provider>(_start: Start, cloud: P, token: Token) -> Opened<P>
+    ensures { result ≡ Opened.Disagree cloud token }
+{
+    Opened::Disagree(cloud, token)
+}
+
+/// The cloud didn't answer.
+pub(crate) fn faulted<P: Provider>(_start: Start, cloud: P) -> Opened<P>
+    ensures { result ≡ Opened.CloudFault cloud }
+{
+    Opened::CloudFault(cloud)
+}
+
+/// There was no memory.
+pub(crate) fn wanting<P: Provider>(_start: Start, cloud: P) -> Opened<P>
+    ensures { result ≡ Opened.Memory cloud }
+{
+    Opened::Memory(cloud)
+}
