@@ -5,9 +5,8 @@ use Rattle.heat_plan.specs.declared.token.Token.{Token}
 use Rattle.provider.specs.Calls.{Lists}
 use Rattle.provider.specs.Cloud.{Cloud, HasNone}
 use Rattle.provider.specs.declared.alive.Alive.{Alive}
-use Rattle.book.specs.Kept.{Shown}
 use Rattle.book.specs.Openings.{HasStranger}
-use Rattle.book.specs.declared.opening.Opened.TheVariants as answered
+use Rattle.book.specs.declared.listing.Listing.TheVariants as listing
 
 -- the first of a list is a stranger
 pub stranger_at : (all : List Alive) (a : Alive) (old new : Cloud) → Lists all old new → slice_get all 0 ≡ Some a
@@ -27,14 +26,6 @@ empty_by (x ∷ xs) zero = absurd (omega (arith, zero))
 pub none_listed : (all : List Alive) (old new : Cloud) → Lists all old new → all ≡ [] → HasNone new
 none_listed all old new lists is = lists.stays.alive ∙ (sym lists.all_of_them ∙ is)
 
--- an opening's answer has its parts
-pub same_cloud : {P : Type 0} (p q : P) (t u : Token) → ◌≡◌ {A = answered.the_data P} (answered.Disagree p t)
-    (answered.Disagree q u) → p ≡ q
-same_cloud p q t u is = cc
-
-pub same_stranger : {P : Type 0} (p q : P) (t u : Token) → ◌≡◌ {A = answered.the_data P} (answered.Disagree p t)
-    (answered.Disagree q u) → t ≡ u
-same_stranger p q t u is = cc
-
-pub same_book : {P : Type 0} (a b : Shown P) → ◌≡◌ {A = answered.the_data P} (answered.Book a) (answered.Book b) → a ≡ b
-same_book a b is = cc
+-- a stranger is one alone
+pub same_token : (t u : Token) → listing.Stranger t ≡ listing.Stranger u → t ≡ u
+same_token t u is = cc

@@ -14,8 +14,9 @@ ghost use Rattle.check_steps.specs.Prepares.{IsPrepared};
 ghost use Rattle.takeover_steps.specs.Engines.{Enlists, Stops};
 ghost use Rattle.provider.specs.Calls.{ListsNone};
 ghost use Rattle.provider.specs.Changes.{IsAsBefore};
+ghost use Rattle.provider.specs.Cloud.{HasNone};
 ghost use Rattle.book.specs.Kept.{Shown, IsKept, IsSameBook, HasRun, HasHeadline, IsSoundBook};
-ghost use Rattle.book.specs.Openings.{HasOpened, HasStranger};
+ghost use Rattle.book.specs.Openings.{HasOpened, HasStranger, IsStart, first_book};
 ghost use Rattle.book.specs.Makings.{Does};
 ghost use Rattle.book.specs.Quiet.{IsIdle, number_of, page};
 ghost use Rattle.book.specs.Scenes.{scene_of};
@@ -27,15 +28,14 @@ use crate::commanding::{StackCommand, make_order};
 use crate::committing::{Proposal, commit_of};
 use crate::engines::{make_enlisting, make_stop};
 use crate::halting::Halt;
-use crate::opening::{Opened, opening_of};
-use crate::stranger::first_of;
+use crate::listing::{Listing, list};
+use crate::opening::{Opened, Start, disagreed, faulted, open_book, start_of, wanting};
 use crate::turning::{Turn, turn_of};
 use check_steps::{Look, Prepared, Work, look};
 use core_state::{Actor, Entry, Next, Roomed, State, What};
 use heat_plan::{EngineNo, Refusal, StackName, StackNo, TravNo, WORN};
-use heat_value::Seq;
 use hot_registry::Registry;
-use provider::{Alive, Listed, Provider};
+use provider::Provider;
 use std::alloc::{AllocError, Global};
 use std::marker::Model;
 use std::snapshot::Snapshot;
@@ -90,32 +90,64 @@ impl<P: Provider> Book<P> {
         ensures memory { (p : P) → result ≡ Opened.Memory p
             → IsAsBefore (P.cloud cloud) (P.cloud p) }
     {
-        let Ok(opening) = opening_of(alloc, workers) else {
-            return Opened::Memory(cloud);
-        };
-        let Ok(state) = opening.copy() else {
-            return Opened::Memory(cloud);
-        };
+        match start_of(alloc, workers) {
+            Ok(start) => Book::over(alloc, start, cloud),
+            Err(_) => Opened::Memory(cloud),
+        }
+    }
+
+    // What the cloud's list says decides.
+    fn over(alloc: Global, start: Start, cloud: P) -> Opened<P>
+        requires { (n : ℕ) × IsStart n start }
+        ensures book { (b : Shown P) (n : ℕ) → result ≡ Opened.Book b → IsStart n start
+            → HasOpened P.cloud n cloud b }
+        ensures disagree { (p : P) (token : token_type) → result ≡ Opened.Disagree p token
+            → HasStranger token (P.cloud cloud) (P.cloud p) }
+        ensures fault { (p : P) → result ≡ Opened.CloudFault p
+            → ListsNone (P.cloud cloud) (P.cloud p) }
+        ensures memory { (p : P) → result ≡ Opened.Memory p
+            → IsAsBefore (P.cloud cloud) (P.cloud p) }
+    {
         let mut cloud = cloud;
-        match cloud.list() {
-            Listed::Got(all) => {
-                if !all.is_empty() {
-                    let first = first_of(all);
-                    return Opened::Disagree(cloud, first.token);
-                }
-                let origin = Snapshot::of(&cloud);
-                Opened::Book(Book {
-                    alloc,
-                    opening,
-                    state,
-                    entries: Roomed::new(alloc),
-                    cloud,
-                    origin,
-                    halt: None,
-                })
-            }
-            Listed::Failed => Opened::CloudFault(cloud),
-            Listed::Memory => Opened::Memory(cloud),
+        let listing = list(&mut cloud);
+        Book::answered(alloc, start, cloud, listing)
+    }
+
+    // The answer to an opening, after such a list.
+    fn answered(alloc: Global, start: Start, cloud: P, listing: Listing) -> Opened<P>
+        requires start { (n : ℕ) × IsStart n start }
+        requires nothing { listing ≡ Listing.Nothing → HasNone (P.cloud cloud) }
+        ensures book { (b : Shown P) → result ≡ Opened.Book b
+            → (listing ≡ Listing.Nothing) × (b ≡ first_book start cloud) }
+        ensures disagree { (p : P) (token : token_type) → result ≡ Opened.Disagree p token
+            → (listing ≡ Listing.Stranger token) × (p ≡ cloud) }
+        ensures fault { (p : P) → result ≡ Opened.CloudFault p → (listing ≡ Listing.Failed) × (p ≡ cloud) }
+        ensures memory { (p : P) → result ≡ Opened.Memory p → (listing ≡ Listing.Memory) × (p ≡ cloud) }
+    {
+        match listing {
+            Listing::Nothing => open_book(Book::begun(alloc, start, cloud)),
+            Listing::Stranger(token) => disagreed(start, cloud, token),
+            Listing::Failed => faulted(start, cloud),
+            Listing::Memory => wanting(start, cloud),
+        }
+    }
+
+    // A book on which nothing has been done.
+    fn begun(alloc: Global, start: Start, cloud: P) -> Book<P>
+        requires start { (n : ℕ) × IsStart n start }
+        requires none { HasNone (P.cloud cloud) }
+        ensures { result ≡ first_book start cloud }
+    {
+        let origin = Snapshot::of(&cloud);
+        let Start { opening, state } = start;
+        Book {
+            alloc,
+            opening,
+            state,
+            entries: Roomed::new(alloc),
+            cloud,
+            origin,
+            halt: None,
         }
     }
 

@@ -14,11 +14,11 @@ mod committing;
 mod engines;
 mod going;
 mod halting;
+mod listing;
 mod making;
 mod opening;
 mod poll;
 mod requests;
-mod stranger;
 mod turning;
 
 pub use book::Book;

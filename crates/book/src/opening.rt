@@ -20,8 +20,24 @@ pub enum Opened<P: Provider> {
     Memory(P),
 }
 
+/// The state at an opening, and its copy, which steps change.
+#[derive(Drop)]
+pub(crate) struct Start {
+    pub opening: State,
+    pub state: State,
+}
+
 /// No stack, and so many engines.
-pub(crate) fn opening_of(alloc: Global, workers: u8) -> Result<State, AllocError>
+pub(crate) fn start_of(alloc: Global, workers: u8) -> Result<Start, AllocError>
+    ensures opening { IfOk result (λ s. s.opening.state ≡ opened workers) }
+    ensures state { IfOk result (λ s. s.state.state ≡ opened workers) }
+{
+    let opening = opening_of(alloc, workers)?;
+    let state = opening.copy()?;
+    Ok(Start { opening, state })
+}
+
+fn opening_of(alloc: Global, workers: u8) -> Result<State, AllocError>
     ensures { IfOk result (λ s. s.state ≡ opened workers) }
 {
     let mut state = numbered(alloc, workers)?;
@@ -58,4 +74,32 @@ fn enlist(alloc: Global, state: &mut State, number: u64) -> Result<(), AllocErro
         None => unreachable!(),
     }
     Ok(())
+}
+
+/// The book is open.
+pub(crate) fn open_book<P: Provider>(book: Book<P>) -> Opened<P>
+    ensures { result ≡ Opened.Book book }
+{
+    Opened::Book(book)
+}
+
+/// The cloud lists a stranger.
+pub(crate) fn disagreed<P: Provider>(_start: Start, cloud: P, token: Token) -> Opened<P>
+    ensures { result ≡ Opened.Disagree cloud token }
+{
+    Opened::Disagree(cloud, token)
+}
+
+/// The cloud didn't answer.
+pub(crate) fn faulted<P: Provider>(_start: Start, cloud: P) -> Opened<P>
+    ensures { result ≡ Opened.CloudFault cloud }
+{
+    Opened::CloudFault(cloud)
+}
+
+/// There was no memory.
+pub(crate) fn wanting<P: Provider>(_start: Start, cloud: P) -> Opened<P>
+    ensures { result ≡ Opened.Memory cloud }
+{
+    Opened::Memory(cloud)
 }
