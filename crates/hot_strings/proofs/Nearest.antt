@@ -1,8 +1,10 @@
 -- From the key that is nearest to a text to the longest that stands at its front.
-use Rattle.std.proofs.Common.{◌≡◌, ◌+◌, ◌-◌, ◌<◌, ◌≤◌, ℕ, zero, suc, List, [], ◌∷◌, ◌++◌, length, take, drop, get_or, ◌⊎◌, inl, inr, Some, refl, ap, sym, ◌∙◌, subst, arith, append_assoc, length-append}
+use Rattle.std.proofs.Common.{◌≡◌, ◌+◌, ◌-◌, ◌<◌, ◌≤◌, ℕ, zero, suc, List, [], ◌∷◌, ◌++◌, length, take, drop, get_or, ◌⊎◌, inl, inr, Some, Bool, true, false, not, refl, ap, sym, ◌∙◌, subst, arith, append_assoc, length-append}
+use lib.Dec.{eqb}
+use lib.Pointwise.{pointwise}
 use Rattle.std.specs.List.{slice_get}
 use Rattle.std.specs.declared.cmp.Ordering.TheVariants.{Less}
-use Rattle.std.proofs.lemmas.Bool.{cases_lt}
+use Rattle.std.proofs.lemmas.Bool.{cases_lt, eqb-true}
 use Rattle.std.proofs.lemmas.List.{append-nil, take-append-drop, get_or_append_left, get_or_push}
 use Rattle.std.proofs.lemmas.Option.{slice_get-get_or, slice_get_within, get_or_from_slice_get}
 use Rattle.hot_strings.specs.Indexes.{keys_in}
@@ -11,6 +13,7 @@ use Rattle.hot_strings.specs.Places.{Begins}
 use Rattle.hot_strings.specs.Rising.{Rising, IsNearest, IsFront, IsHeld, AreShorter}
 use Rattle.hot_strings.proofs.Indexing.{key_there, length-keys}
 use Rattle.hot_strings.proofs.KeyLemmas.{Contains-get}
+use Rattle.hot_strings.proofs.PieceLemmas.{both_true}
 use Rattle.hot_strings.proofs.Rises.{any, cmp, flipped, begins_not_above, begins_last, Less-in_order}
 
 -- ---- a text at the front of another
@@ -38,6 +41,23 @@ begins_within (x ∷ p) (y ∷ s) (suc n) (rest, e) l =
 pub begins_all : (a b : List ℕ) → Begins a b → length b ≤ length a → a ≡ b
 begins_all a b ([], e) l = sym (e ∙ append-nil a)
 begins_all a b (y ∷ x, e) l = absurd (omega (arith, ap length e, length-append a (y ∷ x)))
+
+-- what compares as the same is the same
+pub same_bytes : (xs ys : List ℕ) → false ≡ not (pointwise eqb xs ys) → xs ≡ ys
+same_bytes xs ys e = go xs ys (so (pointwise eqb xs ys) e)
+  where
+    so : (b : Bool) → false ≡ not b → b ≡ true
+    so true e = refl
+    so false e = cc
+
+    go : (xs ys : List ℕ) → pointwise eqb xs ys ≡ true → xs ≡ ys
+    go [] [] e = refl
+    go [] (y ∷ ys) e = cc
+    go (x ∷ xs) [] e = cc
+    go (x ∷ xs) (y ∷ ys) e =
+        let both = both_true (eqb x y) (pointwise eqb xs ys) e in
+        let head : x ≡ y = eqb-true x y both.0 in
+        let tail : xs ≡ ys = go xs ys both.1 in cc
 
 -- ---- places of keys
 

@@ -8,6 +8,9 @@ ghost use Rattle.hot_strings.specs.Rising.{Rising, IsNearest, AreShorter, IsFron
 use heat_value::{Seq, Text};
 use std::alloc::{AllocError, Global};
 
+// So many bytes are compared at once.
+const BLOCK: usize = 64;
+
 /// For each key how many keys end with the longest that begins it and is shorter, or 0.
 pub fn shorter_of(alloc: Global, params: &[(Text, Text)]) -> Result<Seq<usize>, AllocError>
     requires { Rising (keys_in params.now) }
@@ -82,9 +85,25 @@ fn shared_len(one: &[u8], other: &[u8]) -> usize
     ensures same { take result one.now ≡ take result other.now }
     ensures all { (p : List ℕ) → Begins p one.now → Begins p other.now → length p ≤ result }
 {
-    let mut same = 0;
+    let mut same = shared_blocks(one, other);
     while same < one.len() && same < other.len() && one[same] == other[same] {
         same += 1;
+    }
+    same
+}
+
+// A part of those bytes, block by block.
+fn shared_blocks(one: &[u8], other: &[u8]) -> usize
+    ensures one { result ≤ length one.now }
+    ensures other { result ≤ length other.now }
+    ensures same { take result one.now ≡ take result other.now }
+{
+    let mut same = 0;
+    while one.len() - same >= BLOCK && other.len() - same >= BLOCK {
+        if one[same..same + BLOCK] != other[same..same + BLOCK] {
+            return same;
+        }
+        same += BLOCK;
     }
     same
 }
