@@ -4,7 +4,7 @@ use Rattle.std.specs.Bool.{MatchBool}
 use Rattle.std.specs.List.{All, Any, slice_get}
 use Rattle.std.proofs.Math.Seq.{take-append_seam}
 use Rattle.std.proofs.lemmas.Bool.{cases_lt}
-use Rattle.std.proofs.lemmas.List.{append-nil, get_or_default, length-set, take-append-drop, length-take-le}
+use Rattle.std.proofs.lemmas.List.{get_or_default, length-set, take-append-drop, length-take-le}
 use Rattle.std.proofs.lemmas.List.Prefix.{front_rest}
 use Rattle.std.proofs.lemmas.Option.{slice_get-get_or, slice_get_within, get_or_from_slice_get}
 use Rattle.std.specs.declared.cmp.Ordering.TheVariants.{Less}
@@ -13,7 +13,7 @@ use Rattle.hot_strings.specs.Pieces.{Params, HasNoEmptyKey, LacksSomeKey, HasEve
 use Rattle.hot_strings.specs.Places.{Begins, IsPart}
 use Rattle.hot_strings.specs.Rising.{Rising}
 use Rattle.hot_strings.specs.Marks.{IsMarked, AreOfParts, IsBegun, HaveParts}
-use Rattle.hot_strings.proofs.Nearest.{begins_through, length-begins, begins-take, begins_within}
+use Rattle.hot_strings.proofs.Nearest.{begins_all, one_there, before_longer, begins_through, length-begins, begins-take, begins_within}
 use Rattle.hot_strings.proofs.Rises.{cmp, flipped, begins_itself, begins_not_above, Less-in_order}
 
 -- ---- lists of marks
@@ -43,14 +43,6 @@ got_true (x ∷ ms) (suc m) (suc i) e = go (got_true ms m i e)
 
 -- ---- parts
 
-one_there : (ps : Params) (i : ℕ) (p q : List ℕ × List ℕ) → slice_get ps i ≡ Some p → slice_get ps i ≡ Some q → p ≡ q
-one_there ps i p q e f = let both : Some p ≡ Some q = sym e ∙ f in cc
-
--- a text that begins another that is no longer is it
-begins_all : (a b : List ℕ) → Begins a b → length b ≤ length a → a ≡ b
-begins_all a b ([], e) l = sym (e ∙ append-nil a)
-begins_all a b (y ∷ x, e) l = absurd (omega (arith, ap length e, length-append a (y ∷ x)))
-
 -- of two texts that begin a third the shorter begins the longer
 begins_shorter : (a b t : List ℕ) → Begins a t → Begins b t → length a ≤ length b → Begins a b
 begins_shorter a b t here (y, e) l =
@@ -63,20 +55,6 @@ IsPart-begins k q s (x, e) (before, after, h) =
 
 pub IsPart-at : (k s : List ℕ) (at : ℕ) → Begins k (drop at s) → IsPart k s
 IsPart-at k s at (rest, e) = (take at s, rest, sym (take-append-drop at s) ∙ ap (λ (t : List ℕ). take at s ++ t) e)
-
--- a key that begins another and is shorter stands before it
-before_longer : (ps : Params) (i n : ℕ) (p q : List ℕ × List ℕ) → Rising (keys_in ps) → slice_get ps i ≡ Some p → slice_get ps n ≡ Some q → Begins p.0 q.0 → length p.0 < length q.0 → i < n
-before_longer ps i n p q up at there begins less = go (cases_lt i n) (cases_lt n i)
-  where
-    go : (i < n) ⊎ (n ≤ i) → (n < i) ⊎ (i ≤ n) → i < n
-    go (inl l) h = l
-    go (inr l) (inl m) =
-        let above = flipped (get_or ps n p).0 (get_or ps i p).0 Less (Less-in_order ps n i p up m (slice_get_within ps i p at)) in
-        absurd (begins_not_above p.0 q.0 begins (rw (← get_or_from_slice_get ps i p p at, ← get_or_from_slice_get ps n q p there) above))
-    go (inr l) (inr m) =
-        let here : n ≡ i = omega arith in
-        let same : p ≡ q = one_there ps i p q at (subst (λ (x : ℕ). slice_get ps x ≡ Some q) here there) in
-        absurd (omega (arith, less, ap (λ (x : List ℕ × List ℕ). length x.0) same))
 
 -- a place has a key, and a key one place
 one_place : (ps : Params) (i n : ℕ) (p q : List ℕ × List ℕ) → Rising (keys_in ps) → slice_get ps i ≡ Some p → slice_get ps n ≡ Some q → p.0 ≡ q.0 → i ≡ n

@@ -118,7 +118,7 @@ keys_rise s ps up =
     searchable_from_sorted nat_list_cmp_total (λ (p : List ℕ × List ℕ). p.0) ps s
     (λ i d a l. ap is_lt (flipped (get_or ps i d).0 (get_or ps (i + 1) d).0 Less (Less-in_order ps i (i + 1) d up (omega arith) (omega arith))))
 
-any : List ℕ × List ℕ
+pub any : List ℕ × List ℕ
 any = ([], [])
 
 -- the key that is the text
@@ -126,37 +126,39 @@ pub nearest_here : (ps : Params) (s : List ℕ) (i : ℕ) → i < length ps → 
 nearest_here ps s i l here =
     let p : List ℕ × List ℕ = get_or ps i any in
     let same : p.0 ≡ s = equal_same p.0 s (here any) in
-    record { key = p.0; value = p.1; there = slice_get-get_or ps i any l; all = λ j d m b. subst (Begins (get_or ps j d).0) (sym same) b; apart = λ b. sym same }
+    record { key = p.0; value = p.1; there = slice_get-get_or ps i any l; all = λ j d m b. subst (Begins (get_or ps j d).0) (sym same) b }
 
 -- where all are above the text
 pub nearest_none : (ps : Params) (s : List ℕ) (i : ℕ) → i ≡ 0 → IsPartitionPoint (λ (p : List ℕ × List ℕ). cmp p.0 s ≡ Less) (λ (p : List ℕ × List ℕ). cmp p.0 s ≡ Greater) ps i → NoKeyBegins ps s
 nearest_none ps s i first parts = λ j d l b. begins_not_above (get_or ps j d).0 s b (parts.1 j d (omega arith) l)
 
--- the last that is below the text
-pub nearest_below : (ps : Params) (s : List ℕ) (i : ℕ) → Rising (keys_in ps) → 0 < i → i ≤ length ps → IsPartitionPoint (λ (p : List ℕ × List ℕ). cmp p.0 s ≡ Less) (λ (p : List ℕ × List ℕ). cmp p.0 s ≡ Greater) ps i
-    → IsNearest ps s (i - 1)
-nearest_below ps s i up some within parts =
-    record { key = p.0; value = p.1; there = slice_get-get_or ps (i - 1) any (omega arith); all = λ j d l b. by j d l b (cases_lt j i); apart = λ b. absurd (begins_not_above s p.0 b (flipped p.0 s Less below)) }
+-- a key before a place that begins a text below which the last before the place is begins that one
+pub begins_last : (ps : Params) (s : List ℕ) (i j : ℕ) (d : List ℕ × List ℕ) → Rising (keys_in ps) → j < i → i ≤ length ps → cmp (get_or ps (i - 1) any).0 s ≡ Less → Begins (get_or ps j d).0 s
+    → Begins (get_or ps j d).0 (get_or ps (i - 1) any).0
+begins_last ps s i j d up before within below b = begins_between (get_or ps j d).0 p.0 s b (not_after (cases_lt j (i - 1))) (not_higher (cmp p.0 s) below)
   where
     p : List ℕ × List ℕ
     p = get_or ps (i - 1) any
 
-    below : cmp p.0 s ≡ Less
-    below = parts.0 (i - 1) any (omega arith) (omega arith)
-
     not_higher : (o : Ordering) → o ≡ Less → o ≡ Greater → ⊥
     not_higher o e f = let both : Less ≡ Greater = sym e ∙ f in cc
 
-    not_after : (j : ℕ) (d : List ℕ × List ℕ) → j < length ps → (j < i - 1) ⊎ (i - 1 ≤ j) → j < i → cmp (get_or ps j d).0 p.0 ≡ Greater → ⊥
-    not_after j d l (inl before) m g =
-        let less : cmp (get_or ps j d).0 (get_or ps (i - 1) d).0 ≡ Less = Less-in_order ps j (i - 1) d up before (omega arith) in
+    not_after : (j < i - 1) ⊎ (i - 1 ≤ j) → cmp (get_or ps j d).0 p.0 ≡ Greater → ⊥
+    not_after (inl l) g =
+        let less : cmp (get_or ps j d).0 (get_or ps (i - 1) d).0 ≡ Less = Less-in_order ps j (i - 1) d up l (omega arith) in
         not_higher (cmp (get_or ps j d).0 p.0)
         (ap (λ (q : List ℕ × List ℕ). cmp (get_or ps j d).0 q.0) (get_or_default ps (i - 1) any d (omega arith)) ∙ less) g
-    not_after j d l (inr behind) m g =
+    not_after (inr behind) g =
         let here : j ≡ i - 1 = omega arith in
         let same : get_or ps j d ≡ p = rw here (get_or_default ps (i - 1) d any (omega arith)) in
         begins_not_above p.0 p.0 (begins_itself p.0) (subst (λ (q : List ℕ × List ℕ). cmp q.0 p.0 ≡ Greater) same g)
 
-    by : (j : ℕ) (d : List ℕ × List ℕ) → j < length ps → Begins (get_or ps j d).0 s → (j < i) ⊎ (i ≤ j) → Begins (get_or ps j d).0 p.0
-    by j d l b (inl before) = begins_between (get_or ps j d).0 p.0 s b (not_after j d l (cases_lt j (i - 1)) before) (not_higher (cmp p.0 s) below)
+-- the last that is below the text
+pub nearest_below : (ps : Params) (s : List ℕ) (i : ℕ) → Rising (keys_in ps) → 0 < i → i ≤ length ps → IsPartitionPoint (λ (p : List ℕ × List ℕ). cmp p.0 s ≡ Less) (λ (p : List ℕ × List ℕ). cmp p.0 s ≡ Greater) ps i
+    → IsNearest ps s (i - 1)
+nearest_below ps s i up some within parts =
+    record { key = (get_or ps (i - 1) any).0; value = (get_or ps (i - 1) any).1; there = slice_get-get_or ps (i - 1) any (omega arith); all = λ j d l b. by j d l b (cases_lt j i) }
+  where
+    by : (j : ℕ) (d : List ℕ × List ℕ) → j < length ps → Begins (get_or ps j d).0 s → (j < i) ⊎ (i ≤ j) → Begins (get_or ps j d).0 (get_or ps (i - 1) any).0
+    by j d l b (inl before) = begins_last ps s i j d up before within (parts.0 (i - 1) any (omega arith) (omega arith)) b
     by j d l b (inr behind) = absurd (begins_not_above (get_or ps j d).0 s b (parts.1 j d behind l))

@@ -3,7 +3,7 @@ use Rattle.std.specs.Prelude.{◌≡◌, ◌≢◌, ◌<◌, ℕ, List, [], ◌�
 use Rattle.std.specs.Prelude.{Some, IfSome, slice_get}
 use Rattle.std.specs.Str.{IsUtf8}
 use Rattle.hot_strings.specs.Pieces.{Params}
-use Rattle.hot_strings.specs.Rising.{Rising}
+use Rattle.hot_strings.specs.Rising.{Rising, AreShorter}
 use Rattle.hot_strings.specs.declared.index.KeyIndex.{KeyIndex}
 
 -- the keys, whatever is put in their place
@@ -25,8 +25,9 @@ pub record IsIndex (keys : List (List ℕ)) (lists : List (List ℕ)) : Type 0 w
   pub all : length lists ≡ 256
   pub each : (b : ℕ) (places : List ℕ) → slice_get lists b ≡ Some places → AreAt keys b places
 
--- it says whether a key is empty, says of none but rising keys that they rise, and lists the places of these keys
+-- it says whether a key is empty, says of none but rising keys that they rise, leads from each of them to a shorter one, and
+-- lists the places of these keys
 pub record IsIndexOf (keys : List (List ℕ)) (x : KeyIndex) : Type 0 where
   pub empty : MatchBool x.empty (Any (λ k. k ≡ []) keys) (All (λ k. k ≢ []) keys × All IsUtf8 keys)
-  pub rise : IsTrue x.rise → Rising keys
+  pub rise : IsTrue x.rise → Rising keys × AreShorter keys x.shorter × (length x.shorter ≡ length keys)
   pub lists : IfSome x.lists (IsIndex keys)

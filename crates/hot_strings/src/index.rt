@@ -7,19 +7,21 @@ ghost use Rattle.hot_strings.specs.Pieces.{IsLongestKey, NoKeyBegins, HasEmptyKe
 
 use crate::keys::{has_empty_key, keys_rise};
 use crate::pieces::{begins, longest_key};
-use crate::rising::longest_risen;
+use crate::rising::{longest_risen, shorter_of};
 use heat_value::{Seq, Text};
 use std::alloc::{AllocError, Global};
 
 // For fewer keys all are looked at.
 const FEW: usize = 32;
 
-/// Whether some key is empty, whether the keys rise in byte order and, for a long list of keys that
-/// don't, for each byte the places of those that begin with it.
+/// Whether some key is empty and whether the keys rise in byte order: where they do, for each how many
+/// end with the longest that begins it and is shorter; for a long list of keys that don't, for each byte
+/// the places of those that begin with it.
 #[derive(Drop)]
 pub struct KeyIndex {
     empty: bool,
     rise: bool,
+    shorter: Seq<usize>,
     lists: Option<Seq<Seq<usize>>>,
 }
 
@@ -29,9 +31,23 @@ impl KeyIndex {
         ensures { IfOk result (IsIndexOf (keys_in params.now)) }
     {
         let empty = has_empty_key(params);
-        let rise = keys_rise(params);
-        let lists = if rise { None } else { lists_of(alloc, params)? };
-        Ok(KeyIndex { empty, rise, lists })
+        if keys_rise(params) {
+            let shorter = shorter_of(alloc, params)?;
+            return Ok(KeyIndex {
+                empty,
+                rise: true,
+                shorter,
+                lists: None,
+            });
+        }
+        let shorter = Seq::new(alloc);
+        let lists = lists_of(alloc, params)?;
+        Ok(KeyIndex {
+            empty,
+            rise: false,
+            shorter,
+            lists,
+        })
     }
 
     // Whether some key is empty.
@@ -46,6 +62,13 @@ impl KeyIndex {
         ensures { result ≡ self.now.rise }
     {
         self.rise
+    }
+
+    // For each of the keys that rise how many end with the longest that begins it and is shorter.
+    pub(crate) fn shorter(&self) -> &[usize]
+        ensures { result.now ≡ self.now.shorter }
+    {
+        self.shorter.as_slice()
     }
 }
 
@@ -98,7 +121,7 @@ pub fn longest(params: &[(Text, Text)], index: &KeyIndex, text: &str) -> Option<
         × IsLongestKey params.now text.now k v) }
 {
     if index.rise {
-        return longest_risen(params, text.as_bytes());
+        return longest_risen(params, index.shorter(), text.as_bytes());
     }
     match &index.lists {
         Some(lists) => longest_listed(params, lists, text),

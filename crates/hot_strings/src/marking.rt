@@ -3,7 +3,7 @@ ghost use Rattle.std.specs.Prelude.{◌≡◌, ◌+◌, ℕ, List, Bool, true, f
 ghost use Rattle.hot_strings.specs.Indexes.{keys_in};
 ghost use Rattle.hot_strings.specs.Marks.{IsMarked, AreOfParts, HaveParts};
 ghost use Rattle.hot_strings.specs.Pieces.{HasNoEmptyKey, LacksSomeKey, HasEveryKey};
-ghost use Rattle.hot_strings.specs.Rising.{Rising};
+ghost use Rattle.hot_strings.specs.Rising.{Rising, AreShorter};
 
 use crate::rising::longest_risen;
 use heat_value::Text;
@@ -11,22 +11,31 @@ use std::alloc::{AllocError, Global};
 
 /// Whether some key stands nowhere in a text. A key stands somewhere exactly where it begins the
 /// longest key that stands at some place.
-pub fn lacks_risen(alloc: Global, params: &[(Text, Text)], text: &[u8]) -> Result<bool, AllocError>
+pub fn lacks_risen(
+    alloc: Global,
+    params: &[(Text, Text)],
+    shorter: &[usize],
+    text: &[u8],
+) -> Result<bool, AllocError>
     requires keys { HasNoEmptyKey params.now }
     requires rising { Rising (keys_in params.now) }
+    requires shorter { AreShorter (keys_in params.now) shorter.now }
+    requires all { length shorter.now ≡ length (keys_in params.now) }
     ensures { IfOk result (λ b. MatchBool b (LacksSomeKey params.now text.now)
         (HasEveryKey params.now text.now)) }
 {
     let mut marks = vec![in alloc; false; params.len()]?;
-    mark_places(params, text, &mut marks);
-    mark_begun(params, &mut marks);
+    mark_places(params, shorter, text, &mut marks);
+    mark_begun(params, shorter, &mut marks);
     Ok(lacks_mark(marks.as_slice()))
 }
 
 // Marks the longest key at each place of a text.
-fn mark_places(params: &[(Text, Text)], text: &[u8], marks: &mut Vec<bool>)
+fn mark_places(params: &[(Text, Text)], shorter: &[usize], text: &[u8], marks: &mut Vec<bool>)
     requires keys { HasNoEmptyKey params.now }
     requires rising { Rising (keys_in params.now) }
+    requires shorter { AreShorter (keys_in params.now) shorter.now }
+    requires all { length shorter.now ≡ length (keys_in params.now) }
     requires size { length marks.old.items ≡ length params.now }
     requires none { All (λ m. m ≡ false) marks.old.items }
     ensures size { length marks.new.items ≡ length params.now }
@@ -34,14 +43,16 @@ fn mark_places(params: &[(Text, Text)], text: &[u8], marks: &mut Vec<bool>)
     ensures all { HaveParts params.now text.now marks.new.items (length params.now) }
 {
     for at in 0..text.len() {
-        mark_longest(params, &text[at..], marks);
+        mark_longest(params, shorter, &text[at..], marks);
     }
 }
 
 // Marks each key that begins a marked one: from the last to the first, the longest that is shorter.
-fn mark_begun(params: &[(Text, Text)], marks: &mut Vec<bool>)
+fn mark_begun(params: &[(Text, Text)], shorter: &[usize], marks: &mut Vec<bool>)
     requires keys { HasNoEmptyKey params.now }
     requires rising { Rising (keys_in params.now) }
+    requires shorter { AreShorter (keys_in params.now) shorter.now }
+    requires all { length shorter.now ≡ length (keys_in params.now) }
     requires size { length marks.old.items ≡ length params.now }
     ensures size { length marks.new.items ≡ length params.now }
     ensures only { (s : List ℕ) → AreOfParts params.now s marks.old.items → AreOfParts params.now s marks.new.items }
@@ -53,18 +64,20 @@ fn mark_begun(params: &[(Text, Text)], marks: &mut Vec<bool>)
         left -= 1;
         if marks[left] {
             let key = params[left].0.as_str().as_bytes();
-            mark_longest(params, &key[..key.len() - 1], marks);
+            mark_longest(params, shorter, &key[..key.len() - 1], marks);
         }
     }
 }
 
 // Marks the longest key that stands at the front of a text.
-fn mark_longest(params: &[(Text, Text)], text: &[u8], marks: &mut Vec<bool>)
+fn mark_longest(params: &[(Text, Text)], shorter: &[usize], text: &[u8], marks: &mut Vec<bool>)
     requires rising { Rising (keys_in params.now) }
+    requires shorter { AreShorter (keys_in params.now) shorter.now }
+    requires all { length shorter.now ≡ length (keys_in params.now) }
     requires size { length marks.old.items ≡ length params.now }
     ensures { IsMarked params.now text.now marks.old.items marks.new.items }
 {
-    if let Some(i) = longest_risen(params, text) {
+    if let Some(i) = longest_risen(params, shorter, text) {
         marks[i] = true;
     }
 }

@@ -128,7 +128,7 @@ fn lacks_some_key(
         (HasEveryKey params.now template.now)) }
 {
     if index.rises() {
-        lacks_risen(alloc, params, template.as_bytes())
+        lacks_risen(alloc, params, index.shorter(), template.as_bytes())
     } else {
         Ok(lacks_sought(params, template))
     }

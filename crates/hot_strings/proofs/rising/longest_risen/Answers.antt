@@ -1,28 +1,16 @@
-use Rattle.std.proofs.Common.{◌<◌, ◌∙◌, length, take, arith}
-use Rattle.std.proofs.lemmas.List.{length-take-le}
-use Rattle.hot_strings.proofs.Nearest.{nearest_key, longest_nearest, shorter_shared, leaves-shared, leaves_none}
+use Rattle.std.proofs.Common.{◌+◌, ◌-◌, length, arith}
+use Rattle.std.proofs.lemmas.Option.{slice_get_within}
+use Rattle.hot_strings.proofs.Nearest.{held_nearest, none_held, longest_held}
 use Rattle.hot_strings.proofs.rising.longest_risen.Goals as goal
 
-pub returns-then-same-key : goal.returns-then-same-key
-returns-then-same-key c =
-    longest_nearest c.args.params.now c.args.text.now c.loop-i.rest.now c.as_bytes-key.result.now c.in-Some.i c.shared_len-same.result c.loop-i.invariant c.in-Some.ensures
-    (c.as_bytes-key.ensures.value ∙ (c.as_str.ensures.value ∙ nearest_key c.args.params.now c.loop-i.rest.now c.in-Some.i c.index-params-i.result c.in-Some.ensures))
-    c.if-same-key.true c.shared_len-same.ensures.same
+pub returns-then-count-eq0 : goal.returns-then-count-eq0
+returns-then-count-eq0 c =
+    none_held c.args.params.now c.args.text.now c.led-count.result c.if-count-eq0.true
+    (c.led-count.ensures.all (length c.args.text.now + 1) (held_nearest c.args.params.now c.args.text.now c.in-Some.i (length c.args.text.now + 1) c.in-Some.ensures))
 
-pub loop-i-smaller : goal.loop-i-smaller
-loop-i-smaller c =
-    let less : c.shared_len-same.result < length c.loop-i.rest.now
-    = shorter_shared c.args.params.now c.loop-i.rest.now c.as_bytes-key.result.now c.in-Some.i c.shared_len-same.result c.in-Some.ensures
-    (c.as_bytes-key.ensures.value ∙ (c.as_str.ensures.value ∙ nearest_key c.args.params.now c.loop-i.rest.now c.in-Some.i c.index-params-i.result c.in-Some.ensures))
-    c.if-same-key.false c.shared_len-same.ensures.other c.shared_len-same.ensures.same in
-    let short : length (take c.shared_len-same.result c.loop-i.rest.now) < length c.loop-i.rest.now
-    = omega (arith, less, length-take-le c.shared_len-same.result c.loop-i.rest.now (omega (arith, less))) in short
-
-pub loop-i-preserved : goal.loop-i-preserved
-loop-i-preserved c =
-    leaves-shared c.args.params.now c.args.text.now c.loop-i.rest.now c.as_bytes-key.result.now c.in-Some.i c.shared_len-same.result c.loop-i.invariant c.in-Some.ensures
-    (c.as_bytes-key.ensures.value ∙ (c.as_str.ensures.value ∙ nearest_key c.args.params.now c.loop-i.rest.now c.in-Some.i c.index-params-i.result c.in-Some.ensures))
-    c.shared_len-same.ensures.all
-
-pub returns : goal.returns
-returns c = leaves_none c.args.params.now c.args.text.now c.loop-i.rest.now c.loop-i.invariant c.in_default.ensures
+pub returns-else-count-eq0 : goal.returns-else-count-eq0
+returns-else-count-eq0 c =
+    let n = c.in-Some.ensures in
+    longest_held c.args.params.now c.args.text.now c.led-count.result (c.led-count.result - 1) (omega (arith, c.if-count-eq0.false))
+    (omega (arith, c.led-count.ensures.within, slice_get_within c.args.params.now c.in-Some.i (n.key, n.value) n.there)) c.led-count.ensures.front
+    (c.led-count.ensures.all (length c.args.text.now + 1) (held_nearest c.args.params.now c.args.text.now c.in-Some.i (length c.args.text.now + 1) n))
