@@ -169,30 +169,3 @@ values_end params last ms i known far past = (
   where
     none : drop i ms ≡ []
     none = drop_all i ms past
-
--- ---- the values come in byte order of the names
-
-valued_behind : (n : List ℕ) (params : Members) (known : List Condition) (conds : Members) → Behind n (keys_of conds)
-    → Behind n (map (λ (c : Condition). c.name) (valued params known conds))
-valued_behind n params known no_members all = tt
-valued_behind n params known (member k d ms) all = by (flag_of params known d) (valued_behind n params known ms all.1)
-  where
-    by : (o : Option Bool) → Behind n (map (λ (c : Condition). c.name) (valued params known ms))
-        → Behind n (map (λ (c : Condition). c.name) (with_value k o (valued params known ms)))
-    by None rest = rest
-    by (Some b) rest = (all.0, rest)
-
-valued_rise : (params : Members) (known : List Condition) (conds : Members) → Rises conds
-    → AreConditions (valued params known conds)
-unfolding IsStrictlySortedBy
-valued_rise params known no_members up = tt
-valued_rise params known (member k d ms) up = by (flag_of params known d) (valued_rise params known ms up.1)
-  where
-    by : (o : Option Bool) → AreConditions (valued params known ms)
-        → AreConditions (with_value k o (valued params known ms))
-    by None rest = rest
-    by (Some b) rest = (valued_behind k params known ms up.0, rest)
-
-pub values_rise : (params conds : Members) → Rises conds → AreConditions (values_of params conds)
-values_rise params conds up =
-    subst AreConditions (sym (values_again params conds up)) (valued_rise params (values_of params conds) conds up)
