@@ -1,5 +1,5 @@
 -- The values that were found are those of the conditions, once a round adds none or there were enough of them.
-use Rattle.std.proofs.Common.{◌≡◌, ◌∙◌, ◌+◌, ◌<◌, ◌≤◌, ◌++◌, ℕ, zero, suc, List, [], ◌∷◌, Bool, true, false}
+use Rattle.std.proofs.Common.{◌≡◌, ◌∙◌, ◌+◌, ◌<◌, ◌++◌, ℕ, zero, suc, List, [], ◌∷◌, Bool, true, false}
 use Rattle.std.proofs.Common.{Option, Some, None}
 use Rattle.std.proofs.Common.{length, map, drop, get_or, refl, sym, ap, subst, arith, add-one, drop-cons}
 use Rattle.std.proofs.Common.{cond, bytes_eq, append_assoc}

@@ -1,6 +1,6 @@
 -- The members whose keys are names of properties, and the first that has none of them.
 use Rattle.std.proofs.Common.{◌≡◌, ◌∙◌, ℕ, zero, suc, ◌+◌, ◌<◌, ◌≤◌, List, [], ◌∷◌, ◌++◌, Bool, true, false}
-use Rattle.std.proofs.Common.{Some, None, Option, Result, Ok, Err, slice_get, ◌||◌, cond, if◌then◌else◌}
+use Rattle.std.proofs.Common.{Some, None, Result, Ok, Err, slice_get, ◌||◌}
 use Rattle.std.proofs.Common.{length, map, get_or, drop, bytes_eq, refl, sym, ap, subst, arith}
 use Rattle.std.proofs.Math.ListN.{set}
 use Rattle.std.specs.List.{list_any}
@@ -11,7 +11,6 @@ use Rattle.std.proofs.lemmas.Slice.Eq.{bytes_eq-Decides}
 use Rattle.heat_value.specs.Data.{keys_of, Rises}
 use Rattle.heat_value.specs.Meaning.{members_of}
 use Rattle.heat_value.specs.Places.{place}
-use Rattle.heat_value.specs.declared.path.Step.{Step}
 use Rattle.heat_value.specs.declared.path.Step.TheVariants.{Key}
 use Rattle.heat_value.specs.declared.value.Member.{Member}
 use Rattle.heat_plan.proofs.Searched.{cmp}
