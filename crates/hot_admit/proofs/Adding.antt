@@ -10,7 +10,7 @@ use Rattle.heat_plan.specs.Named.{condition_value}
 use Rattle.heat_value.specs.Data.{Data, Members, no_members, member, keys_of, lookup, Rises}
 use Rattle.hot_eval.specs.Conditions.{flag_of}
 use Rattle.hot_eval.specs.SoFar.{named_values}
-use Rattle.hot_admit.specs.Valuing.{AreFound, Grows, IsFoundAt, AddsRound}
+use Rattle.hot_admit.specs.Valuing.{AreFound, Grows, IsFoundAt, AddsRound, FindsOne}
 use Rattle.hot_admit.proofs.Rounds.{flag_stays, valued_at, within_both}
 
 -- ---- one condition after another
@@ -26,6 +26,31 @@ pub found_still : (params conds : Members) (first values new : List (Option Bool
     → IsFoundAt params conds first values i → IsFoundAt params conds first new i
 found_still params conds first values new i grows found = record {
   value = λ name d b at is flag. grows.kept name b (found.value name d b at is flag);
+}
+
+-- ---- one that had no value has one
+
+pub finds_still : (conds : Members) (first values new : List (Option Bool)) → Grows conds first values
+    → FindsOne conds values new → FindsOne conds first new
+finds_still conds first values new grows one = record {
+  name = one.name;
+  value = one.value;
+  before = none (condition_value (named_values conds first) one.name) refl;
+  after = one.after;
+}
+  where
+    none : (o : Option Bool) → condition_value (named_values conds first) one.name ≡ o
+        → condition_value (named_values conds first) one.name ≡ None
+    none None is = is
+    none (Some b) is = let never : Some b ≡ None = sym (grows.kept one.name b is) ∙ one.before in cc
+
+pub finds_later : (conds : Members) (first values new : List (Option Bool)) → FindsOne conds first values
+    → Grows conds values new → FindsOne conds first new
+finds_later conds first values new one grows = record {
+  name = one.name;
+  value = one.value;
+  before = one.before;
+  after = grows.kept one.name one.value one.after;
 }
 
 -- ---- a round

@@ -19,7 +19,7 @@ use Rattle.heat_value.specs.declared.value.Member.{Member}
 use Rattle.hot_eval.specs.Conditions.{flag_of, values_of}
 use Rattle.hot_eval.specs.SoFar.{with_value, named_values}
 use Rattle.hot_eval.proofs.Placed.{value_in_front, nothing_below, or_none}
-use Rattle.hot_admit.specs.Valuing.{IsWithin, AreFound, Grows, IsFoundAt}
+use Rattle.hot_admit.specs.Valuing.{FindsOne, IsWithin, AreFound, Grows, IsFoundAt}
 use Rattle.hot_admit.proofs.Chosen.{Behind}
 use Rattle.hot_admit.proofs.Keyed.{behind_at, keys_count}
 use Rattle.hot_admit.proofs.NameGraphs.{key_at, value_at}
@@ -82,7 +82,8 @@ value_of_other (member l d ms) (v ∷ values) (suc i) k name o at other =
 
 -- where there is a value or none for each condition, the values by place are those by name
 pub values_by_name : (conds : Members) (values : List (Option Bool)) → Rises conds
-    → length values ≡ length (keys_of conds) → values ≡ map (condition_value (named_values conds values)) (keys_of conds)
+    → length values ≡ length (keys_of conds)
+    → values ≡ map (condition_value (named_values conds values)) (keys_of conds)
 unfolding IsStrictlySortedBy
 values_by_name no_members [] up count = refl
 values_by_name no_members (v ∷ values) up count = absurd (omega (arith, count))
@@ -239,6 +240,9 @@ module _ {params conds : Members} {values : List (Option Bool)} {i : ℕ} {k : L
             sym value_before ∙ ap (condition_value (named_values conds values)) names ∙ has in
             cc
         by name b false other has = value_else name other ∙ has
+
+    pub found_anew : FindsOne conds values (set values i (Some v))
+    found_anew = record { name = k; value = v; before = value_before; after = value_now }
 
     pub found_more : IsFoundAt params conds values (set values i (Some v)) i
     found_more = found_here (set values i (Some v)) (λ b gives. value_now ∙ sym flag ∙ gives)

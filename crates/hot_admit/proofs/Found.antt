@@ -1,13 +1,12 @@
 -- The values that were found are those of the conditions, once a round adds none or there were enough of them.
-use Rattle.std.proofs.Common.{◌≡◌, ◌∙◌, ◌+◌, ◌<◌, ◌≤◌, ◌++◌, ℕ, zero, suc, List, [], ◌∷◌, Bool, true, false}
+use Rattle.std.proofs.Common.{◌≡◌, ◌∙◌, ◌+◌, ◌<◌, ◌++◌, ℕ, zero, suc, List, [], ◌∷◌, Bool, true, false}
 use Rattle.std.proofs.Common.{Option, Some, None}
-use Rattle.std.proofs.Common.{length, map, drop, get_or, refl, sym, ap, subst, arith, add-one, drop-cons, length-append}
-use Rattle.std.proofs.Common.{cond, bytes_eq, append-nil, append_assoc}
+use Rattle.std.proofs.Common.{length, map, drop, get_or, refl, sym, ap, subst, arith, add-one, drop-cons}
+use Rattle.std.proofs.Common.{cond, bytes_eq, append_assoc}
 use Rattle.std.specs.List.Sorted.{IsStrictlySortedBy}
 use Rattle.std.specs.Prelude.{option_and_then}
-use Rattle.std.proofs.lemmas.List.{drop_all}
 use Rattle.std.proofs.lemmas.Slice.Eq.{bytes_eq-Decides}
-use Rattle.heat_plan.specs.Named.{AreConditions, condition_value}
+use Rattle.heat_plan.specs.Named.{condition_value}
 use Rattle.heat_plan.specs.declared.conditions.Condition.{Condition}
 use Rattle.heat_value.specs.Data.{Data, Members, no_members, member, keys_of, lookup, Rises}
 use Rattle.heat_value.specs.Meaning.{data_of, members_of}
@@ -16,7 +15,6 @@ use Rattle.hot_eval.specs.Conditions.{flag_of, values_of, valued, valued_after, 
 use Rattle.hot_eval.specs.SoFar.{with_value, named_values}
 use Rattle.hot_eval.specs.Conditions.{unless_valued}
 use Rattle.hot_admit.specs.Conds.{flags_of, condition_path}
-use Rattle.hot_admit.proofs.Chosen.{Behind}
 use Rattle.hot_admit.specs.Valuing.{IsWithin, AreFound, AddsRound}
 use Rattle.hot_admit.proofs.Rounds.{value_is, values_again, within_both, nothing_within, round_within, none_behind}
 use Rattle.hot_admit.proofs.Finding.{values_by_name}
@@ -128,7 +126,8 @@ pub values_from : (params : Members) (ms : List Member) → Rises (members_of ms
 values_from params ms up = record { all = sym (values_again params (members_of ms) up); none = refl }
 
 -- the next condition, in front of those behind it
-left_at : (ms : List Member) (i : ℕ) (m : Member) → i < length ms → m ≡ get_or ms i m → drop i ms ≡ m ∷ drop (i + 1) ms
+pub left_at : (ms : List Member) (i : ℕ) (m : Member) → i < length ms → m ≡ get_or ms i m
+    → drop i ms ≡ m ∷ drop (i + 1) ms
 left_at ms i m below at =
     rw (add-one, drop-cons ms i m) (ap (λ (z : Member). z ∷ drop (suc i) ms) (sym at))
 
@@ -158,41 +157,3 @@ values_stop params last ms i m known far below at flag =
     far.none ∙ ap (λ (ls : List Member). first_unvalued params last (members_of ls)) (left_at ms i m below at)
     ∙ ap (λ (o : Option Bool). unless_valued (condition_path m.key) o
     (first_unvalued params last (members_of (drop (i + 1) ms)))) flag
-
-pub values_end : (params : Members) (last : List Condition) (ms : List Member) (i : ℕ) (known : List Condition)
-    → AreValuesTo params last ms i known → length ms ≤ i
-    → (known ≡ last) × (first_unvalued params last (members_of ms) ≡ None)
-values_end params last ms i known far past = (
-  sym (append-nil known) ∙ sym (ap (λ (ls : List Member). known ++ valued params last (members_of ls)) none) ∙ far.all,
-  far.none ∙ ap (λ (ls : List Member). first_unvalued params last (members_of ls)) none,
-)
-  where
-    none : drop i ms ≡ []
-    none = drop_all i ms past
-
--- ---- the values come in byte order of the names
-
-valued_behind : (n : List ℕ) (params : Members) (known : List Condition) (conds : Members) → Behind n (keys_of conds)
-    → Behind n (map (λ (c : Condition). c.name) (valued params known conds))
-valued_behind n params known no_members all = tt
-valued_behind n params known (member k d ms) all = by (flag_of params known d) (valued_behind n params known ms all.1)
-  where
-    by : (o : Option Bool) → Behind n (map (λ (c : Condition). c.name) (valued params known ms))
-        → Behind n (map (λ (c : Condition). c.name) (with_value k o (valued params known ms)))
-    by None rest = rest
-    by (Some b) rest = (all.0, rest)
-
-valued_rise : (params : Members) (known : List Condition) (conds : Members) → Rises conds
-    → AreConditions (valued params known conds)
-unfolding IsStrictlySortedBy
-valued_rise params known no_members up = tt
-valued_rise params known (member k d ms) up = by (flag_of params known d) (valued_rise params known ms up.1)
-  where
-    by : (o : Option Bool) → AreConditions (valued params known ms)
-        → AreConditions (with_value k o (valued params known ms))
-    by None rest = rest
-    by (Some b) rest = (valued_behind k params known ms up.0, rest)
-
-pub values_rise : (params conds : Members) → Rises conds → AreConditions (values_of params conds)
-values_rise params conds up =
-    subst AreConditions (sym (values_again params conds up)) (valued_rise params (values_of params conds) conds up)

@@ -32,3 +32,4 @@ pub mod Rounds
 pub mod Finding
 pub mod Adding
 pub mod Found
+pub mod KeyMarks

@@ -15,7 +15,8 @@ use Rattle.heat_plan.specs.Order.{Rising}
 use Rattle.hot_forms.specs.Checks.{is_among}
 use Rattle.heat_plan.proofs.Searched.{cmp, same_by, below_same}
 
-abbrev marks : List (List ℕ) → List (List ℕ) → List Bool
+-- of each name whether it is among these
+abbrev pub marks : List (List ℕ) → List (List ℕ) → List Bool
 marks named names = map (is_among named) names
 
 or_false : (b : Bool) → (b || false) ≡ b
@@ -36,7 +37,8 @@ none_marked (n ∷ names) = ap (λ (ms : List Bool). false ∷ ms) (none_marked 
 one_more : (named : List (List ℕ)) (name n : List ℕ) (b : Bool) → bytes_eq n name ≡ b
     → is_among (named ++ name ∷ []) n ≡ (is_among named n || b)
 one_more named name n b is =
-    list_any-append (bytes_eq n) named (name ∷ []) ∙ ap (λ (c : Bool). is_among named n || c) (or_false (bytes_eq n name) ∙ is)
+    list_any-append (bytes_eq n) named (name ∷ [])
+    ∙ ap (λ (c : Bool). is_among named n || c) (or_false (bytes_eq n name) ∙ is)
 
 -- another name is marked as before
 as_before : (named : List (List ℕ)) (name n : List ℕ) → bytes_eq n name ≡ false

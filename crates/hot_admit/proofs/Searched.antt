@@ -20,7 +20,8 @@ named_found name [] = refl
 named_found name (r ∷ rs) = by (bytes_eq r.name name) (named_found name rs)
   where
     by : (b : Bool)
-        → option_map resource_data (find (λ (r : Res). bytes_eq r.name name) rs) ≡ resource_named (resources_data rs) name
+        → option_map resource_data (find (λ (r : Res). bytes_eq r.name name) rs)
+        ≡ resource_named (resources_data rs) name
         → option_map resource_data (cond b (Some r) (find (λ (r : Res). bytes_eq r.name name) rs))
         ≡ cond b (Some (resource_data r)) (resource_named (resources_data rs) name)
     by true rest = refl

@@ -1,5 +1,5 @@
 -- How the values of conditions are found, one after another.
-use Rattle.std.specs.Prelude.{◌≡◌, ℕ, List, Bool, Option, Some, length, slice_get}
+use Rattle.std.specs.Prelude.{◌≡◌, ℕ, List, Bool, Option, Some, None, length, slice_get}
 use Rattle.heat_plan.specs.Named.{condition_value}
 use Rattle.heat_plan.specs.declared.conditions.Condition.{Condition}
 use Rattle.heat_value.specs.Data.{Data, Members, keys_of, lookup}
@@ -18,6 +18,13 @@ pub record AreFound (params conds : Members) (values : List (Option Bool)) : Typ
 -- what had a value has it still
 abbrev pub Grows : Members → List (Option Bool) → List (Option Bool) → Type 0
 Grows conds old new = IsWithin (named_values conds old) (named_values conds new)
+
+-- a condition that had no value has one
+pub record FindsOne (conds : Members) (old new : List (Option Bool)) : Type 0 where
+  pub name : List ℕ
+  pub value : Bool
+  pub before : condition_value (named_values conds old) name ≡ None
+  pub after : condition_value (named_values conds new) name ≡ Some value
 
 -- the flag that the condition at the place gives where the old ones are known is its value in the new ones
 pub record IsFoundAt (params conds : Members) (old new : List (Option Bool)) (place : ℕ) : Type 0 where

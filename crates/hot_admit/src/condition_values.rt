@@ -1,5 +1,6 @@
 //! The conditions of a template: their values, or the first fault.
-ghost use Rattle.std.specs.Prelude.{◌≡◌, ◌<◌, None, IfOk, IfErr, OnOk, Some, false, length, map, option_map, replicate};
+ghost use Rattle.std.specs.Prelude.{◌≡◌, ◌<◌, None, IfOk, IfErr, OnOk, Some, false, true, length, map};
+ghost use Rattle.std.specs.Prelude.{option_map, replicate};
 ghost use Rattle.heat_value.specs.Data.{Rises};
 ghost use Rattle.heat_value.specs.Meaning.{data_of, members_of};
 ghost use Rattle.hot_admit.specs.Conds.{AreCondsOf, IsCondFaultOf, IsCyclicFault, IsUnvaluedFault, held, flags_of};
@@ -7,7 +8,7 @@ ghost use Rattle.hot_admit.specs.Conds.{condition_path as the_condition_path, en
 ghost use Rattle.hot_admit.specs.Conds.{resource_wanted, output_wanted, unvalued_resource, unvalued_output};
 ghost use Rattle.hot_admit.specs.Naming.{IsNamingOrder};
 ghost use Rattle.hot_admit.specs.Resources.{resources_data, outputs_data};
-ghost use Rattle.hot_admit.specs.Valuing.{AreFound, Grows, IsFoundAt, AddsRound};
+ghost use Rattle.hot_admit.specs.Valuing.{AreFound, Grows, IsFoundAt, AddsRound, FindsOne};
 ghost use Rattle.hot_eval.specs.Conditions.{first_unvalued, values_of};
 
 use crate::conds::{Conds, Wanted};
@@ -148,6 +149,8 @@ fn find_more(
     ensures round { OnOk result
         (AddsRound params.now (members_of conds.now) values.old.items values.new.items) }
     ensures same { IfOk result (λ any. any ≡ false → values.new.items ≡ values.old.items) }
+    ensures more { IfOk result
+        (λ any. any ≡ true → FindsOne (members_of conds.now) values.old.items values.new.items) }
 {
     let mut any = false;
     for place in order {
@@ -174,6 +177,8 @@ fn find_at(
     ensures here { OnOk result
         (IsFoundAt params.now (members_of conds.now) values.old.items values.new.items place) }
     ensures same { IfOk result (λ any. any ≡ false → values.new.items ≡ values.old.items) }
+    ensures more { IfOk result
+        (λ any. any ≡ true → FindsOne (members_of conds.now) values.old.items values.new.items) }
 {
     let cond = &conds[place];
     if values[place].is_some() {

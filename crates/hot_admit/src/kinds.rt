@@ -1,19 +1,21 @@
 //! A01, A05 and A06: a resource's type, and its properties by that type.
-ghost use Rattle.std.specs.Prelude.{◌≡◌, IfOk, bytes_eq, option_map};
+ghost use Rattle.std.specs.Prelude.{◌≡◌, ◌++◌, ◌∷◌, [], ℕ, List, IfOk, length, map, option_map};
 ghost use Rattle.std.specs.List.{list_any};
+ghost use Rattle.heat_value.specs.Data.{Rises, keys_of};
 ghost use Rattle.heat_value.specs.Meaning.{members_of};
-ghost use Rattle.hot_registry.specs.declared.kind.PropDef.{PropDef as prop_type};
 ghost use Rattle.hot_admit.specs.Basis.{basis_data};
 ghost use Rattle.hot_admit.specs.Kinds.{of_unknown_kind as the_of_unknown_kind};
 ghost use Rattle.hot_admit.specs.Kinds.{with_unknown_property as the_with_unknown_property};
-ghost use Rattle.hot_admit.specs.Kinds.{unknown_property as the_unknown_property, has_property as the_has_property};
+ghost use Rattle.hot_admit.specs.Kinds.{unknown_property as the_unknown_property};
 ghost use Rattle.hot_admit.specs.Kinds.{first_unknown as the_first_unknown};
 ghost use Rattle.hot_admit.specs.Kinds.{without_property as the_without_property, lacks as the_lacks};
 ghost use Rattle.hot_admit.specs.Kinds.{missing_property as the_missing_property};
 ghost use Rattle.hot_admit.specs.Resources.{resource_data};
+ghost use Rattle.hot_forms.specs.Checks.{is_among};
 
 use crate::Basis;
-use heat_value::{Member, Path, Props};
+use crate::lookup::place_of;
+use heat_value::{Member, Path, Props, Text};
 use hot_catalog::{behind_key, behind_name, here_unless};
 use hot_parts::Res;
 use hot_registry::{KindDef, PropDef};
@@ -50,7 +52,7 @@ fn unknown_property(
         ≡ the_unknown_property (resource_data res.now) (option_map (λ k. k.now) kind.entry)) }
 {
     match kind {
-        Some(kind) => first_unknown(alloc, kind, res.props.as_slice()),
+        Some(kind) => first_unknown(alloc, kind, &res.props),
         None => Ok(None),
     }
 }
@@ -59,29 +61,49 @@ fn unknown_property(
 fn first_unknown(
     alloc: Global,
     kind: &KindDef,
-    members: &[Member],
+    given: &Props,
 ) -> Result<Option<Path>, AllocError>
-    ensures { IfOk result (λ o. o ≡ the_first_unknown kind.now (members_of members.now)) }
+    ensures { IfOk result (λ o. o ≡ the_first_unknown kind.now given.now) }
 {
-    for member in members {
-        if !has_property(kind, member.key.as_str()) {
+    let members = given.as_slice();
+    let known = known_marks(alloc, members, kind.props.as_slice())?;
+    for (place, member) in members.iter().enumerate() {
+        if !known[place] {
             return behind_key(&member.key, here_unless(alloc, false));
         }
     }
     Ok(None)
 }
 
-fn has_property(kind: &KindDef, name: &str) -> bool
-    ensures { result ≡ the_has_property kind.now name.now }
+// Of each of these whether its key is the name of a property.
+fn known_marks(
+    alloc: Global,
+    members: &[Member],
+    props: &[PropDef],
+) -> Result<Vec<bool>, AllocError>
+    requires { Rises (members_of members.now) }
+    ensures { IfOk result (λ ms. ms.items
+        ≡ map (is_among (map (λ p. p.name) props.now)) (keys_of (members_of members.now))) }
 {
-    any_is(kind.props.as_slice(), name)
+    let mut marks = vec![in alloc; false; members.len()]?;
+    for prop in props {
+        mark_known(members, &prop.name, &mut marks);
+    }
+    Ok(marks)
 }
 
-// Whether a property has this name.
-fn any_is(props: &[PropDef], name: &str) -> bool
-    ensures { result ≡ list_any (λ (p : prop_type). bytes_eq name.now p.name) props.now }
+// Marks the member of a key, if there is one.
+fn mark_known(members: &[Member], key: &Text, marks: &mut Vec<bool>)
+    requires rising { Rises (members_of members.now) }
+    requires size { length marks.old.items ≡ length members.now }
+    ensures { (known : List (List ℕ))
+        → marks.old.items ≡ map (is_among known) (keys_of (members_of members.now))
+        → marks.new.items ≡ map (is_among (known ++ key.now ∷ [])) (keys_of (members_of members.now)) }
 {
-    props.iter().any(|prop| name == prop.name.as_str())
+    match place_of(members, key) {
+        Ok(place) => marks[place] = true,
+        Err(_) => {}
+    }
 }
 
 /// A06: a property that has to be there has no key.

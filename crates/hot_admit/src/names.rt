@@ -5,11 +5,11 @@ ghost use Rattle.dep_graph.specs.Edges.{HasEdge};
 ghost use Rattle.dep_graph.specs.Lists.{IsLeast};
 ghost use Rattle.heat_value.specs.Data.{keys_of, Rises};
 ghost use Rattle.heat_value.specs.Meaning.{data_of, nodes_of, members_of};
-ghost use Rattle.heat_value.specs.Places.{place};
 ghost use Rattle.hot_eval.specs.Conditions.{names_read as the_names_read, names_read_among as the_names_read_among};
 ghost use Rattle.hot_eval.specs.Conditions.{names_read_under as the_names_read_under, name_at as the_name_at};
 ghost use Rattle.hot_admit.specs.Naming.{HasNames, AddsNames, IsOnLoop, HasMarked};
 
+use crate::lookup::place_of;
 use dep_graph::{Graph, Marks};
 use heat_value::{Member, Text, Value};
 use hot_functions::{Place, item_place, lone, member_place};
@@ -54,15 +54,6 @@ fn add_names(
         }
     }
     Ok(())
-}
-
-// The place of the condition of a name, or else where it would go.
-fn place_of(conds: &[Member], name: &Text) -> Result<usize, usize>
-    requires { Rises (members_of conds.now) }
-    ensures place { result ≡ place name.now conds.now }
-    ensures found { IfOk result (λ i. i < length conds.now) }
-{
-    conds.binary_search_by(|cond| cond.key.cmp(name))
 }
 
 // Puts the names of conditions in a value that is read so behind the last, whatever is evaluated of it.

@@ -1,7 +1,7 @@
 -- Each turn finds the value of one condition more, where it has one.
 use Rattle.std.proofs.Common.{◌≡◌, ◌∙◌, refl, sym, arith, true, false}
 use Rattle.std.proofs.lemmas.List.Elements.{Contains-get_or}
-use Rattle.hot_admit.proofs.Adding.{one_further, all_found}
+use Rattle.hot_admit.proofs.Adding.{one_further, all_found, finds_still, finds_later}
 use Rattle.hot_admit.proofs.Keyed.{keys_count}
 use Rattle.hot_admit.proofs.condition_values.find_more.Goals as goal
 use Rattle.hot_admit.proofs.condition_values.find_more.Goals.{then-branch, else-branch}
@@ -23,6 +23,12 @@ loop-place-preserved c = (
     | then-branch w ↦ λ none. let never : true ≡ false = sym w.any-is ∙ none in cc
     | else-branch w ↦ λ none. c.in_ok-find_at.ensures.same w.if-branch.false
         ∙ c.loop-place.invariant.1 (sym w.any-is ∙ none)
+  ],
+  elim c.if-branch.branch [
+    | then-branch w ↦ λ any. finds_still _ _ c.loop-place.values.items _ c.loop-place.invariant.0.grows
+        (c.in_ok-find_at.ensures.more w.if-branch.true)
+    | else-branch w ↦ λ any. finds_later _ _ c.loop-place.values.items _
+        (c.loop-place.invariant.2 (sym w.any-is ∙ any)) c.in_ok-find_at.ensures.grows
   ],
 )
 

@@ -1,9 +1,9 @@
 -- Each turn adds the value of one condition.
-use Rattle.std.proofs.Common.{◌∙◌, Some, sym, ap, subst, arith, length, ◌++◌, ◌∷◌, []}
+use Rattle.std.proofs.Common.{◌∙◌, Some, sym, ap, arith, length, ◌++◌, ◌∷◌, []}
 use Rattle.heat_plan.specs.declared.conditions.Condition.{Condition}
 use Rattle.heat_value.specs.Meaning.{members_of}
 use Rattle.hot_eval.specs.Conditions.{values_of}
-use Rattle.hot_admit.proofs.Found.{values_from, values_next, values_stop, values_end, flag_read, flags_count}
+use Rattle.hot_admit.proofs.Found.{values_from, values_next, values_stop, flag_read, flags_count}
 use Rattle.hot_admit.proofs.condition_values.values_in.Goals as goal
 
 pub loop-place-init : goal.loop-place-init
