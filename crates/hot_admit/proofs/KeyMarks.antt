@@ -1,6 +1,6 @@
 -- The members whose keys are names of properties, and the first that has none of them.
 use Rattle.std.proofs.Common.{◌≡◌, ◌∙◌, ℕ, zero, suc, ◌+◌, ◌<◌, ◌≤◌, List, [], ◌∷◌, ◌++◌, Bool, true, false}
-use Rattle.std.proofs.Common.{Some, None, Result, Ok, Err, slice_get, ◌||◌}
+use Rattle.std.proofs.Common.{Some, None, Result, Ok, Err, slice_get, ◌||◌, if◌then◌else◌}
 use Rattle.std.proofs.Common.{length, map, get_or, drop, bytes_eq, refl, sym, ap, subst, arith}
 use Rattle.std.proofs.Math.ListN.{set}
 use Rattle.std.specs.List.{list_any}
