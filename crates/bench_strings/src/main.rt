@@ -120,7 +120,11 @@ fn digested(alloc: Global, bytes: usize) -> Result<usize> {
 fn done(alloc: Global, work: Work, bytes: usize) -> Result<usize> {
     match work {
         Work::Empty => Ok(0),
-        Work::Replace => replaced(alloc, &template(alloc, bytes)?, keys(alloc, 100)?.as_slice()),
+        Work::Replace => replaced(
+            alloc,
+            &template(alloc, bytes)?,
+            keys(alloc, 100)?.as_slice(),
+        ),
         Work::Keys => many_replaced(alloc, bytes / 10),
         Work::Split => pieces(alloc, bytes),
         Work::Sha512 => digested(alloc, bytes),

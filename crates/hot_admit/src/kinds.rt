@@ -58,11 +58,7 @@ fn unknown_property(
 }
 
 // The first key in byte order that is no property of the kind.
-fn first_unknown(
-    alloc: Global,
-    kind: &KindDef,
-    given: &Props,
-) -> Result<Option<Path>, AllocError>
+fn first_unknown(alloc: Global, kind: &KindDef, given: &Props) -> Result<Option<Path>, AllocError>
     ensures { IfOk result (λ o. o ≡ the_first_unknown kind.now given.now) }
 {
     let members = given.as_slice();

@@ -144,7 +144,11 @@ pub fn choice_at<'a>(
         items.push(item)?;
     }
     let index = KeyIndex::new(alloc, texts.as_slice())?;
-    Ok(Choice { texts, items, index })
+    Ok(Choice {
+        texts,
+        items,
+        index,
+    })
 }
 
 // A key with its item's text.

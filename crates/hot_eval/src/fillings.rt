@@ -247,7 +247,11 @@ fn item_of<'a>(choice: &Choice<'a>, words: &Text) -> Option<&'a Value>
     requires { IsChoice choice.now }
     ensures { option_map (λ v. data_of v.now) result ≡ the_item_of (choice_of choice.now) words.now }
 {
-    match choice.texts.as_slice().binary_search_by(|text| text.0.cmp(words)) {
+    match choice
+        .texts
+        .as_slice()
+        .binary_search_by(|text| text.0.cmp(words))
+    {
         Ok(at) => Some(choice.items[at]),
         Err(_) => None,
     }

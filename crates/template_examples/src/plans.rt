@@ -2,7 +2,9 @@
 ghost use Rattle.std.specs.Prelude.{◌≡◌, IfOk};
 
 use crate::cases::{Teller, fault_words, value_of, value_words};
-use heat_plan::{ByName, Condition, Facts, File, KnownFacts, Parameters, Plan, Properties, ResName};
+use heat_plan::{
+    ByName, Condition, Facts, File, KnownFacts, Parameters, Plan, Properties, ResName,
+};
 use heat_value::{Props, Seq, Text, Value};
 use hot_eval::{EvalFault, eval};
 use std::alloc::{AllocError, Global};
@@ -35,8 +37,7 @@ fn params_of(alloc: Global) -> Result<Parameters, AllocError> {
     Parameters::from_props(props_of(alloc, PARAMS)?).ok_or(AllocError)
 }
 
-fn condition_of(alloc: Global, name: &str, value: bool) -> Result<Condition, AllocError>
-{
+fn condition_of(alloc: Global, name: &str, value: bool) -> Result<Condition, AllocError> {
     let name = Text::from_str(alloc, name)?;
     Ok(Condition { name, value })
 }
