@@ -9,7 +9,7 @@ use Rattle.mail_table.specs.declared.mail.Stage.{Stage}
 use Rattle.core_state.specs.State.{StateData}
 use Rattle.step_relation.specs.Asks.{Calls}
 use Rattle.step_ends.specs.Answers.{IsCall}
-use Rattle.table_laws.proofs.Rows.{same_some}
+use Rattle.history_laws.proofs.tables.Rows.{same_some}
 
 -- what holds for the act of its row holds for that of each of its calls
 pub said_of_each : (s : StateData) (e : ℕ) (stage : Stage) (Says : Act → Type 0) (j : Job) (r : Row)

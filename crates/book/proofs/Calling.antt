@@ -23,9 +23,9 @@ use Rattle.step_relation.specs.Given.{Answer, answers}
 use Rattle.step_relation.specs.Nexts.{Works}
 use Rattle.step_relation.specs.Rows.{token_of}
 use Rattle.step_relation.specs.Turns.{IsWorn}
-use Rattle.soundness.specs.MailFits as under
-use Rattle.soundness.specs.Sound.{Standing}
-use Rattle.table_laws.proofs.Rows.{same_some}
+use Rattle.step_relation.specs.MailFits as under
+use Rattle.step_relation.specs.Sound.{Standing}
+use Rattle.history_laws.proofs.tables.Rows.{same_some}
 use Rattle.next_laws.proofs.Parts.{AtJob, at_job, kind_one}
 use Rattle.work_laws.proofs.Finds.{calls_stand}
 use Rattle.work_laws.specs.Found.{CallStands, IsAskedAt}

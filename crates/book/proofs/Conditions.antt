@@ -12,11 +12,11 @@ use Rattle.provider.specs.declared.alive.Alive.{Alive}
 use Rattle.core_state.specs.State.{StateData}
 use Rattle.core_state.specs.declared.entry.Entry.{Entry}
 use Rattle.step_relation.specs.Rows.{token_of}
-use Rattle.history.specs.Could.{Allows, could_of}
-use Rattle.history.specs.Opening.{Opening, first_of}
-use Rattle.soundness.specs.Agrees.{IsGoing, absent, leaves}
-use Rattle.soundness.specs.Headline.{MayBeAsked, create, delete, gone, poll, update}
-use Rattle.soundness.specs.Sound.{Sound}
+use Rattle.step_relation.specs.Could.{Allows, could_of}
+use Rattle.step_relation.specs.Opening.{Opening, first_of}
+use Rattle.step_relation.specs.Agrees.{IsGoing, absent, leaves}
+use Rattle.step_relation.specs.Headline.{MayBeAsked, create, delete, gone, poll, update}
+use Rattle.step_relation.specs.Sound.{Sound}
 use Rattle.work_laws.proofs.Finds.{calls_may_be_made}
 use Rattle.heat_plan.specs.declared.calls.Request.TheVariants as request
 use Rattle.book.specs.Turned.{Requests}

@@ -22,9 +22,9 @@ use Rattle.core_state.specs.declared.entry.What.{What}
 use Rattle.step_relation.specs.Runs.{ClosesOnce, IsTiedStep, Run, begins, goes_on}
 use Rattle.step_relation.specs.Steps.{IsNote, Step, note, shows, notes, ran, turned}
 use Rattle.step_relation.specs.Writes.{entry_of}
-use Rattle.history.specs.Could.{Allows, could}
-use Rattle.soundness.specs.Laws.{opening_at}
-use Rattle.tell_laws.proofs.Silence.{AreUncalling, IsUncalling}
+use Rattle.step_relation.specs.Could.{Allows, could}
+use Rattle.step_relation.specs.Laws.{opening_at}
+use Rattle.history_laws.proofs.tells.Silence.{AreUncalling, IsUncalling}
 use Rattle.book.specs.Kept.{IsKept, calls_of, opened, registries, unjudged}
 use Rattle.book.proofs.Histories.{call_allows, calls_of-append, calls_of-silent, silence_allows}
 use Rattle.core_state.specs.declared.entry.What.TheVariants as what

@@ -5,11 +5,11 @@ use Rattle.provider.specs.Cloud.{Cloud, state_of}
 use Rattle.provider.specs.declared.alive.Alive.{Alive}
 use Rattle.core_state.specs.State.{StateData}
 use Rattle.core_state.specs.declared.entry.Entry.{Entry}
-use Rattle.history.specs.Could.{IsPossible, could_of}
-use Rattle.soundness.specs.Laws.{opening_at}
-use Rattle.soundness.specs.Sound.{Sound}
+use Rattle.step_relation.specs.Could.{IsPossible, could_of}
+use Rattle.step_relation.specs.Laws.{opening_at}
+use Rattle.step_relation.specs.Sound.{Sound}
 use Rattle.work_laws.proofs.Below.{empty_is_sound}
-use Rattle.whole_laws.proofs.Whole.{runs_headline, runs_sound}
+use Rattle.graph_laws.proofs.whole.Whole.{runs_headline, runs_sound}
 use Rattle.dep_graph.specs.Lists.{IsRising}
 use Rattle.book.specs.Kept.{HasHeadline, IsKept, IsSoundBook, Shown, registries}
 use Rattle.book.proofs.Rising.{Rises, engines_rise, is_rising, run_rises}

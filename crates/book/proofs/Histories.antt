@@ -11,9 +11,9 @@ use Rattle.core_state.specs.declared.entry.Actor.{Actor}
 use Rattle.core_state.specs.declared.entry.Entry.{Entry}
 use Rattle.core_state.specs.declared.entry.What.{What}
 use Rattle.step_relation.specs.Writes.{entry_of}
-use Rattle.history.specs.Could.{Allows, could_of}
-use Rattle.history.specs.Opening.{Opening, first_of}
-use Rattle.tell_laws.proofs.Silence.{AreUncalling, IsUncalling, could-silent}
+use Rattle.step_relation.specs.Could.{Allows, could_of}
+use Rattle.step_relation.specs.Opening.{Opening, first_of}
+use Rattle.history_laws.proofs.tells.Silence.{AreUncalling, IsUncalling, could-silent}
 use Rattle.work_laws.proofs.Below.{could_else, could_here}
 use Rattle.work_laws.proofs.Below.{token_or_not}
 use Rattle.book.specs.Kept.{call_of, calls_of}

@@ -18,7 +18,7 @@ use Rattle.step_relation.specs.Steps as step
 use Rattle.step_relation.specs.Steps.{Step}
 use Rattle.step_relation.specs.Turns.{Turn}
 use Rattle.step_relation.specs.Writes.{call_entry, entry_of}
-use Rattle.tell_laws.proofs.Silence.{AreUncalling}
+use Rattle.history_laws.proofs.tells.Silence.{AreUncalling}
 use Rattle.core_state.specs.declared.entry.What.TheVariants as what
 use Rattle.core_state.specs.declared.entry.What.{What}
 use Rattle.book.specs.Kept.{IsKept, unjudged}

@@ -21,7 +21,7 @@ use Rattle.step_relation.specs.Given.{Answer}
 use Rattle.step_relation.specs.Steps.{Step, unstored}
 use Rattle.step_relation.specs.Turns.{IsWorn, Turn}
 use Rattle.step_relation.specs.Writes.{call_entry, draw_letters}
-use Rattle.table_laws.proofs.Rows.{same_some}
+use Rattle.history_laws.proofs.tables.Rows.{same_some}
 use Rattle.next_laws.proofs.Parts.{Kind, Part, begins, goes, placed, readies, refuses, waits}
 use Rattle.next_laws.proofs.Turns.{ByMove, Whole, by_move, follows, stops}
 use Rattle.next_laws.proofs.Worn.{call_not_worn}

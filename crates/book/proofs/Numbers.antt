@@ -2,7 +2,7 @@
 use Rattle.std.proofs.Common.{List, [], ap, arith, suc, zero, ℕ, ◌++◌, ◌+◌, ◌∙◌, ◌∷◌, ◌≡◌}
 use Rattle.core_state.specs.State.{StateData}
 use Rattle.step_relation.specs.Steps.{engines_from, past_engines}
-use Rattle.history.specs.Opening.{bare}
+use Rattle.step_relation.specs.Opening.{bare}
 
 engines_from-snoc : (count first : ℕ) → engines_from first count ++ (first + count) ∷ [] ≡ engines_from first
     (suc count)

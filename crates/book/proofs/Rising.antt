@@ -18,12 +18,12 @@ use Rattle.step_relation.specs.Orders as order
 use Rattle.step_relation.specs.Runs.{IsTiedStep, Judges, Run, begins, goes_on}
 use Rattle.step_relation.specs.Steps.{Step, engines_from, past_engines, restart_changes}
 use Rattle.step_relation.specs.Steps as step
-use Rattle.history.specs.Could.{IsPossible}
-use Rattle.history.specs.Opening.{Opening}
-use Rattle.soundness.specs.Numbered.{AllBelow}
-use Rattle.soundness.specs.Sound.{Sound}
+use Rattle.step_relation.specs.Could.{IsPossible}
+use Rattle.step_relation.specs.Opening.{Opening}
+use Rattle.step_relation.specs.Numbered.{AllBelow}
+use Rattle.step_relation.specs.Sound.{Sound}
 use Rattle.work_laws.proofs.Below.{possible_before}
-use Rattle.whole_laws.proofs.Whole.{runs_sound}
+use Rattle.graph_laws.proofs.whole.Whole.{runs_sound}
 use Rattle.book.proofs.Engined.{AreStill, applied-live, laid_still, turn_still}
 
 abbrev pub AreAbove : ℕ → List ℕ → Type 0

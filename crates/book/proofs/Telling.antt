@@ -29,7 +29,7 @@ use Rattle.step_relation.specs.Turns.{FollowsFailure, Turn}
 use Rattle.step_relation.specs.Takes.{relayed_letter, taken_job}
 use Rattle.step_relation.specs.Writes.{call_entry, complete_mark, failed_mark, lock_writes, mail_entry}
 use Rattle.step_relation.specs.Writes.{rows_entry, unlock_writes}
-use Rattle.tell_laws.proofs.Silence.{AreUncalling, uncalling-both, uncalling_rows}
+use Rattle.history_laws.proofs.tells.Silence.{AreUncalling, uncalling-both, uncalling_rows}
 use Rattle.work_laws.proofs.Below.{laid_uncalling}
 use Rattle.next_laws.proofs.Parts.{Kind, Part, begins, clears, drops, ends, faults, goes, overruns, placed, prepares}
 use Rattle.next_laws.proofs.Parts.{readies, refuses, relays, relieves, settles, steals, takes, waits}

@@ -8,11 +8,11 @@ use Rattle.core_state.specs.declared.entry.Entry.{Entry}
 use Rattle.core_state.specs.declared.entry.What.{What}
 use Rattle.step_relation.specs.Runs.{Judges, Run}
 use Rattle.step_relation.specs.Steps.{engines_from, past_engines}
-use Rattle.history.specs.Could.{Allows}
-use Rattle.history.specs.Opening.{Opening, bare, first_of}
-use Rattle.soundness.specs.Headline.{Headline}
-use Rattle.soundness.specs.Laws.{opening_at}
-use Rattle.soundness.specs.Sound.{Sound}
+use Rattle.step_relation.specs.Could.{Allows}
+use Rattle.step_relation.specs.Opening.{Opening, bare, first_of}
+use Rattle.step_relation.specs.Headline.{Headline}
+use Rattle.step_relation.specs.Laws.{opening_at}
+use Rattle.step_relation.specs.Sound.{Sound}
 use Rattle.core_state.specs.declared.entry.What.TheVariants as what
 use Rattle.book.specs.declared.halting.Halt.{Halt}
 

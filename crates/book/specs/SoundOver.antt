@@ -3,9 +3,9 @@ use Rattle.std.specs.Prelude.{List}
 use Rattle.provider.specs.Cloud.{Cloud}
 use Rattle.core_state.specs.State.{StateData}
 use Rattle.core_state.specs.declared.entry.Entry.{Entry}
-use Rattle.history.specs.Could.{Allows}
-use Rattle.history.specs.Opening.{Opening, first_of}
-use Rattle.soundness.specs.Sound.{Sound}
+use Rattle.step_relation.specs.Could.{Allows}
+use Rattle.step_relation.specs.Opening.{Opening, first_of}
+use Rattle.step_relation.specs.Sound.{Sound}
 
 pub record IsSoundOver (s : StateData) (h : List Entry) (c : Cloud) : Type 0 where
   pub opening : Opening

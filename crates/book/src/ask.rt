@@ -5,7 +5,7 @@ ghost use Rattle.heat_plan.specs.declared.calls.Answered.TheVariants as answers;
 ghost use Rattle.heat_plan.specs.declared.phase.Act.TheVariants.{Create};
 ghost use Rattle.mail_table.specs.declared.mail.Stage.TheVariants.{Asking};
 ghost use Rattle.step_relation.specs.Asks.{Calls};
-ghost use Rattle.soundness.specs.Sound.{Standing};
+ghost use Rattle.step_relation.specs.Sound.{Standing};
 ghost use Rattle.book.specs.Makings.{IsQuietRefusal};
 ghost use Rattle.book.specs.Outcomes.{AskIsMade, AskHasRoom, IsAnswered, IsCalled};
 ghost use Rattle.book.specs.Scenes.{scene};

@@ -2,7 +2,7 @@
 ghost use Rattle.std.specs.Prelude.{IfErr, IfOk};
 ghost use Rattle.mail_table.specs.declared.mail.Stage.TheVariants.{Taken};
 ghost use Rattle.step_relation.specs.Nexts.{Works};
-ghost use Rattle.soundness.specs.Sound.{Standing};
+ghost use Rattle.step_relation.specs.Sound.{Standing};
 ghost use Rattle.check_steps.specs.AtUpdate.{AtUpdate};
 ghost use Rattle.book.specs.Makings.{IsQuietTurn, IsQuietRefusal};
 

@@ -1,7 +1,7 @@
 //! What a book opens with.
 ghost use Rattle.std.specs.Prelude.{◌≡◌, ◌++◌, ◌∷◌, ◌≤◌, [], IfOk, OnOk};
 ghost use Rattle.heat_plan.specs.Numbers.{IsNumber};
-ghost use Rattle.history.specs.Opening.{bare};
+ghost use Rattle.step_relation.specs.Opening.{bare};
 ghost use Rattle.step_relation.specs.Steps.{past_engines};
 ghost use Rattle.book.specs.Kept.{opened};
 

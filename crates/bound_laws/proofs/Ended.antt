@@ -20,14 +20,14 @@ use Rattle.step_relation.specs.Finishes.{Finishes, Settles, given_input, graph_t
 use Rattle.step_relation.specs.Rows.{unlocked}
 use Rattle.step_relation.specs.Targets.{IsTarget}
 use Rattle.step_relation.specs.Writes.{mark_complete}
-use Rattle.soundness.specs.MailFits.{IsStale}
-use Rattle.soundness.specs.Sound.{Standing}
-use Rattle.table_laws.proofs.Facts.{job_fits}
-use Rattle.table_laws.proofs.Rows.{graph_cut, job_cut, past_kept, row_self, same_some, stack-key, stack_cut, stack_else}
-use Rattle.table_laws.proofs.Rows.{stack_here, stack_kept, stack_put, text_or_not}
-use Rattle.table_laws.proofs.Targets.{target_once}
-use Rattle.graph_laws.proofs.Finished.{between, its_stack, rows_then, v, written_else, written_here}
-use Rattle.graph_laws.proofs.Passed.{passed_is}
+use Rattle.step_relation.specs.MailFits.{IsStale}
+use Rattle.step_relation.specs.Sound.{Standing}
+use Rattle.history_laws.proofs.tables.Facts.{job_fits}
+use Rattle.history_laws.proofs.tables.Rows.{graph_cut, job_cut, past_kept, row_self, same_some, stack-key, stack_cut, stack_else}
+use Rattle.history_laws.proofs.tables.Rows.{stack_here, stack_kept, stack_put, text_or_not}
+use Rattle.history_laws.proofs.tables.Targets.{target_once}
+use Rattle.graph_laws.proofs.graphs.Finished.{between, its_stack, rows_then, v, written_else, written_here}
+use Rattle.graph_laws.proofs.graphs.Passed.{passed_is}
 use Rattle.workable_laws.proofs.Below.{passed_done}
 use Rattle.bound_laws.proofs.Finishing.{FinishEnd}
 use Rattle.bound_laws.proofs.Forms.{RowForm, form_put, form_same}

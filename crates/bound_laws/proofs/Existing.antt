@@ -22,10 +22,10 @@ use Rattle.core_state.specs.declared.stack.Stack.{Stack}
 use Rattle.step_relation.specs.Orders.{plan_back}
 use Rattle.step_relation.specs.Rows.{token_of}
 use Rattle.step_relation.specs.Targets.{IsTarget}
-use Rattle.soundness.specs.MailFits.{IsStale}
-use Rattle.table_laws.proofs.Rows.{row-key, same_or_not, same_some, stack-key, text_or_not}
-use Rattle.table_laws.proofs.Tables.{at-place}
-use Rattle.table_laws.proofs.Targets.{target_once}
+use Rattle.step_relation.specs.MailFits.{IsStale}
+use Rattle.history_laws.proofs.tables.Rows.{row-key, same_or_not, same_some, stack-key, text_or_not}
+use Rattle.history_laws.proofs.tables.Tables.{at-place}
+use Rattle.history_laws.proofs.tables.Targets.{target_once}
 use Rattle.next_laws.proofs.Listings.{in_head, in_tail}
 use Rattle.turn_laws.proofs.Decide.{Decided, bound_at, both_or_not, le_or_not, member_or_not, not_or}
 use Rattle.turn_laws.proofs.Fates.{init_or_not}

@@ -10,7 +10,7 @@ use Rattle.mail_table.specs.declared.mail.Job.{Job}
 use Rattle.core_state.specs.State.{StateData}
 use Rattle.step_relation.specs.Given.{Answer, Given}
 use Rattle.step_relation.specs.Rows.{token_of}
-use Rattle.table_laws.proofs.Rows.{same_some}
+use Rattle.history_laws.proofs.tables.Rows.{same_some}
 use Rattle.bound_laws.specs.Polls.{AreFew, IsOwn, Polled, ProvidersSpend, asked, unasked}
 use Rattle.heat_plan.specs.declared.calls.Answered.TheVariants as answer
 

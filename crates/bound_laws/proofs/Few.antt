@@ -5,11 +5,11 @@ use Rattle.core_state.specs.Changes.{applied}
 use Rattle.core_state.specs.State.{StateData}
 use Rattle.core_state.specs.declared.entry.Entry.{Entry}
 use Rattle.step_relation.specs.Steps.{Step, turn}
-use Rattle.history.specs.Could.{IsPossible}
-use Rattle.history.specs.Opening.{Opening}
-use Rattle.soundness.specs.Sound.{Sound}
+use Rattle.step_relation.specs.Could.{IsPossible}
+use Rattle.step_relation.specs.Opening.{Opening}
+use Rattle.step_relation.specs.Sound.{Sound}
 use Rattle.workable_laws.proofs.Below.{possible_before}
-use Rattle.whole_laws.proofs.Whole.{steps_sound}
+use Rattle.graph_laws.proofs.whole.Whole.{steps_sound}
 use Rattle.bound_laws.specs.Bound.{IsWork}
 use Rattle.bound_laws.specs.Polls.{AreFew}
 use Rattle.bound_laws.specs.Turned.{Turned, TurnsAreFew, begins, goes_on}

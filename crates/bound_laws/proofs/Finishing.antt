@@ -24,17 +24,17 @@ use Rattle.step_relation.specs.Given.{Given}
 use Rattle.step_relation.specs.Inputs.{passed}
 use Rattle.step_relation.specs.Orders.{back_after, past_or}
 use Rattle.step_relation.specs.Writes.{letter_to, letters_to}
-use Rattle.soundness.specs.GraphFits.{GraphFits}
-use Rattle.soundness.specs.MailFits.{IsStale}
-use Rattle.soundness.specs.Sound.{Standing}
-use Rattle.table_laws.proofs.Facts.{job_fits, named_fits}
-use Rattle.table_laws.proofs.Rows.{letter-key, stack-key, text_or_not}
+use Rattle.step_relation.specs.GraphFits.{GraphFits}
+use Rattle.step_relation.specs.MailFits.{IsStale}
+use Rattle.step_relation.specs.Sound.{Standing}
+use Rattle.history_laws.proofs.tables.Facts.{job_fits, named_fits}
+use Rattle.history_laws.proofs.tables.Rows.{letter-key, stack-key, text_or_not}
 use Rattle.next_laws.proofs.Listings.{cons_cases, in_head, in_tail, no_member}
-use Rattle.graph_laws.proofs.Gathers.{node_at}
-use Rattle.graph_laws.proofs.Kept.{sent}
-use Rattle.graph_laws.proofs.Passed.{after_is, passed_is}
-use Rattle.whole_laws.proofs.Below.{ready_still}
-use Rattle.whole_laws.proofs.Below.{sent_found}
+use Rattle.graph_laws.proofs.graphs.Gathers.{node_at}
+use Rattle.graph_laws.proofs.graphs.Kept.{sent}
+use Rattle.graph_laws.proofs.graphs.Passed.{after_is, passed_is}
+use Rattle.graph_laws.proofs.whole.Below.{ready_still}
+use Rattle.graph_laws.proofs.whole.Below.{sent_found}
 use Rattle.bound_laws.specs.Bound.{IsWork}
 use Rattle.bound_laws.specs.Counts.{AreOnce}
 use Rattle.bound_laws.specs.Rolls.{MayRoll, RollLetter, RollNode}

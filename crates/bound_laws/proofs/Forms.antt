@@ -13,7 +13,7 @@ use Rattle.core_state.specs.State.{StateData, stack_at}
 use Rattle.core_state.specs.declared.stack.Stack.{Stack}
 use Rattle.step_relation.specs.Orders.{past_of}
 use Rattle.step_relation.specs.Rows.{token_of}
-use Rattle.table_laws.proofs.Rows.{job_cut, job_gone, job_here, job_put, row_cut, row_put, same_some}
+use Rattle.history_laws.proofs.tables.Rows.{job_cut, job_gone, job_here, job_put, row_cut, row_put, same_some}
 use Rattle.turn_laws.proofs.Decide.{flag_or_not}
 use Rattle.turn_laws.proofs.Waiting.{progress_or_not}
 use Rattle.bound_laws.specs.Bound.{IsWork}

@@ -5,7 +5,7 @@ use Rattle.mail_table.specs.declared.mail.Stage.{Stage}
 use Rattle.mail_table.specs.declared.mail.Stage.TheVariants.{Asking, Ending, Polling, Taken}
 use Rattle.core_state.specs.State.{StateData}
 use Rattle.heat_plan.specs.declared.token.Token.{Token}
-use Rattle.table_laws.proofs.Rows.{same_some}
+use Rattle.history_laws.proofs.tables.Rows.{same_some}
 use Rattle.bound_laws.specs.Counts.{Counts}
 use Rattle.bound_laws.specs.Exists.{FullWorkIsOne}
 use Rattle.bound_laws.specs.Full.{FullWorkExists, IsFullWork, IsJob, Sizes, WorkIsBounded, WorkIsLess}

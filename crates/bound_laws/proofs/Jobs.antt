@@ -11,8 +11,8 @@ use Rattle.mail_table.specs.declared.mail.Stage.{Stage}
 use Rattle.mail_table.specs.declared.mail.Stage.TheVariants.{Polling}
 use Rattle.core_state.specs.State.{StateData}
 use Rattle.step_relation.specs.Rows.{token_of}
-use Rattle.soundness.specs.Linked.{Links}
-use Rattle.table_laws.proofs.Rows.{same_or_not, same_some, text_or_not}
+use Rattle.step_relation.specs.Linked.{Links}
+use Rattle.history_laws.proofs.tables.Rows.{same_or_not, same_some, text_or_not}
 use Rattle.next_laws.proofs.Listings.{cons_cases, in_head, in_tail, no_member}
 use Rattle.turn_laws.proofs.Decide.{Decided}
 use Rattle.bound_laws.specs.Bound.{IsWork}

@@ -3,7 +3,7 @@ use Rattle.std.proofs.Common.{◌≡◌, ◌⊎◌, inl, inr, ℕ, List, [], ◌
 use Rattle.std.specs.Prelude.{Contains}
 use Rattle.mail_table.specs.Mails.{letter_at, put_letter}
 use Rattle.mail_table.specs.declared.mail.Letter.{Letter}
-use Rattle.table_laws.proofs.Rows.{letter_put}
+use Rattle.history_laws.proofs.tables.Rows.{letter_put}
 use Rattle.workable_laws.proofs.Below.{sent_to}
 use Rattle.next_laws.proofs.Listings.{cons_cases, in_head, in_tail, no_member}
 

@@ -11,9 +11,9 @@ use Rattle.core_state.specs.State.{StateData}
 use Rattle.core_state.specs.declared.stack.Stack.{Stack}
 use Rattle.step_relation.specs.Given.{Given}
 use Rattle.step_relation.specs.Rows.{token_of}
-use Rattle.soundness.specs.MailFits.{IsStale}
-use Rattle.soundness.specs.Sound.{Standing}
-use Rattle.table_laws.proofs.Rows.{letter_cut}
+use Rattle.step_relation.specs.MailFits.{IsStale}
+use Rattle.step_relation.specs.Sound.{Standing}
+use Rattle.history_laws.proofs.tables.Rows.{letter_cut}
 use Rattle.bound_laws.specs.Bound.{IsWork}
 use Rattle.bound_laws.specs.Rolls.{MayRoll}
 use Rattle.bound_laws.specs.Work.{IsAt}

@@ -34,14 +34,14 @@ use Rattle.step_relation.specs.Rows.{deleted_row, failed_row, locked, token_of}
 use Rattle.step_relation.specs.Runs.{IsTied, Judges}
 use Rattle.step_relation.specs.Takes.{Takes, relayed_letter, released_changes, taken_job}
 use Rattle.step_relation.specs.Writes.{letter_to, lock, mark_complete, mark_failed, with_stage}
-use Rattle.soundness.specs.MailFits.{IsStale}
-use Rattle.soundness.specs.Sound.{Standing}
-use Rattle.table_laws.proofs.Facts.{job_row_stack}
-use Rattle.table_laws.proofs.Fresh.{overrun_is_old}
-use Rattle.table_laws.proofs.Rows.{job-key, row_self, same_some, stack-key}
+use Rattle.step_relation.specs.MailFits.{IsStale}
+use Rattle.step_relation.specs.Sound.{Standing}
+use Rattle.history_laws.proofs.tables.Facts.{job_row_stack}
+use Rattle.history_laws.proofs.tables.Fresh.{overrun_is_old}
+use Rattle.history_laws.proofs.tables.Rows.{job-key, row_self, same_some, stack-key}
 use Rattle.workable_laws.proofs.Below.{failed_end, released_end, released_state, sent_to}
-use Rattle.graph_laws.proofs.Finished.{comes, rows_then}
-use Rattle.graph_laws.proofs.Known.{never_again}
+use Rattle.graph_laws.proofs.graphs.Finished.{comes, rows_then}
+use Rattle.graph_laws.proofs.graphs.Known.{never_again}
 use Rattle.bound_laws.specs.Bound.{IsWork}
 use Rattle.bound_laws.specs.Rolls.{MayRoll}
 use Rattle.bound_laws.proofs.Ended.{form_unlocked}

@@ -10,8 +10,8 @@ use Rattle.mail_table.specs.declared.mail.Stage.TheVariants.{Asking, Ending, Pol
 use Rattle.core_state.specs.State.{StateData}
 use Rattle.step_relation.specs.Given.{Given}
 use Rattle.step_relation.specs.Rows.{token_of}
-use Rattle.soundness.specs.Sound.{Standing}
-use Rattle.table_laws.proofs.Rows.{same_some}
+use Rattle.step_relation.specs.Sound.{Standing}
+use Rattle.history_laws.proofs.tables.Rows.{same_some}
 use Rattle.bound_laws.specs.Bound.{IsWork}
 use Rattle.bound_laws.proofs.Falls.{PollsFall}
 use Rattle.bound_laws.proofs.Forms.{RowForm, form_same, form_were, is_all, jobs_put, jobs_same, own_is}

@@ -14,9 +14,9 @@ use Rattle.core_state.specs.State.{StateData}
 use Rattle.core_state.specs.declared.stack.Stack.{Stack}
 use Rattle.step_relation.specs.Given.{Given}
 use Rattle.step_relation.specs.Rows.{token_of}
-use Rattle.soundness.specs.MailFits.{IsStale, IsUnderWay, polls}
-use Rattle.soundness.specs.Sound.{Standing}
-use Rattle.table_laws.proofs.Rows.{row-key, same_some}
+use Rattle.step_relation.specs.MailFits.{IsStale, IsUnderWay, polls}
+use Rattle.step_relation.specs.Sound.{Standing}
+use Rattle.history_laws.proofs.tables.Rows.{row-key, same_some}
 use Rattle.bound_laws.specs.Bound.{IsWork}
 use Rattle.bound_laws.specs.Rolls.{MayRoll}
 use Rattle.bound_laws.specs.Work.{IsAt, IsPoll}

@@ -8,8 +8,8 @@ use Rattle.mail_table.specs.declared.mail.Job.{Job}
 use Rattle.mail_table.specs.declared.mail.Stage.{Stage}
 use Rattle.mail_table.specs.declared.mail.Stage.TheVariants.{Asking, Ending, Polling, Taken}
 use Rattle.core_state.specs.State.{StateData}
-use Rattle.soundness.specs.MailFits.{IsUnderWay, polls}
-use Rattle.soundness.specs.Sound.{Standing}
+use Rattle.step_relation.specs.MailFits.{IsUnderWay, polls}
+use Rattle.step_relation.specs.Sound.{Standing}
 use Rattle.next_laws.proofs.Listings.{no_member}
 use Rattle.bound_laws.specs.Bound.{IsWork}
 use Rattle.bound_laws.specs.Counts.{Counts}

@@ -20,10 +20,10 @@ use Rattle.step_relation.specs.Freshness.{plan_of}
 use Rattle.step_relation.specs.Given.{Given}
 use Rattle.step_relation.specs.Rows.{replaced, token_of}
 use Rattle.step_relation.specs.Targets.{IsTarget}
-use Rattle.soundness.specs.Sound.{Standing}
-use Rattle.table_laws.proofs.Facts.{job_fits}
-use Rattle.table_laws.proofs.Rows.{job-key, row-key, row_else, row_here, row_put, row_self, same_some, stack-key}
-use Rattle.table_laws.proofs.Tables.{at-key}
+use Rattle.step_relation.specs.Sound.{Standing}
+use Rattle.history_laws.proofs.tables.Facts.{job_fits}
+use Rattle.history_laws.proofs.tables.Rows.{job-key, row-key, row_else, row_here, row_put, row_self, same_some, stack-key}
+use Rattle.history_laws.proofs.tables.Tables.{at-key}
 use Rattle.bound_laws.specs.Bound.{IsWork}
 use Rattle.bound_laws.specs.Rolls.{MayRoll, RollFar}
 use Rattle.bound_laws.proofs.Falls.{PollsFall}

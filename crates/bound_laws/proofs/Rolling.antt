@@ -31,10 +31,10 @@ use Rattle.step_relation.specs.Commands.{Lays, Sets, brief_of, first_letters, la
 use Rattle.step_relation.specs.Freshness.{plan_of}
 use Rattle.step_relation.specs.Given.{Given}
 use Rattle.step_relation.specs.Orders.{back_after, past_of, past_or, plan_back, rollback_sets}
-use Rattle.soundness.specs.Elsewhere.{Elsewhere}
-use Rattle.soundness.specs.Sound.{Standing}
-use Rattle.table_laws.proofs.Rows.{graph_here, job_cut, letter-key, past_here, same_or_not, same_some}
-use Rattle.table_laws.proofs.Rows.{stack-key, text_or_not}
+use Rattle.step_relation.specs.Elsewhere.{Elsewhere}
+use Rattle.step_relation.specs.Sound.{Standing}
+use Rattle.history_laws.proofs.tables.Rows.{graph_here, job_cut, letter-key, past_here, same_or_not, same_some}
+use Rattle.history_laws.proofs.tables.Rows.{stack-key, text_or_not}
 use Rattle.workable_laws.proofs.Below.{rows_in, sent_to}
 use Rattle.workable_laws.proofs.Below.{laid_end, laid_state}
 use Rattle.next_laws.proofs.Listings.{cons_cases, in_head, in_tail, no_member}

@@ -13,11 +13,11 @@ use Rattle.core_state.specs.declared.graph.Graph.{Graph}
 use Rattle.core_state.specs.declared.stack.Stack.{Stack}
 use Rattle.step_relation.specs.Rows.{token_of}
 use Rattle.step_relation.specs.Targets.{IsCurrentOf, IsTarget}
-use Rattle.soundness.specs.GraphFits.{TargetFits}
-use Rattle.soundness.specs.Sound.{Standing}
-use Rattle.table_laws.proofs.Facts.{graph_here}
-use Rattle.table_laws.proofs.Rows.{row-key, row_cut, row_put, row_self, same_or_not, same_some, stack-key}
-use Rattle.table_laws.proofs.Targets.{target_once}
+use Rattle.step_relation.specs.GraphFits.{TargetFits}
+use Rattle.step_relation.specs.Sound.{Standing}
+use Rattle.history_laws.proofs.tables.Facts.{graph_here}
+use Rattle.history_laws.proofs.tables.Rows.{row-key, row_cut, row_put, row_self, same_or_not, same_some, stack-key}
+use Rattle.history_laws.proofs.tables.Targets.{target_once}
 use Rattle.bound_laws.specs.Bound.{IsWork}
 use Rattle.bound_laws.specs.Rolls.{MayRoll, RollFar}
 use Rattle.bound_laws.proofs.Jobs.{RowsWere}

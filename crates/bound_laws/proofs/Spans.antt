@@ -3,7 +3,7 @@ use Rattle.std.proofs.Common.{◌≡◌, inl, inr, ◌<◌, ℕ, zero, suc, ◌+
 use Rattle.std.proofs.Common.{subst, arith}
 use Rattle.std.specs.Prelude.{Contains}
 use Rattle.dep_graph.specs.Lists.{IsRising}
-use Rattle.table_laws.proofs.Rows.{same_or_not}
+use Rattle.history_laws.proofs.tables.Rows.{same_or_not}
 use Rattle.next_laws.proofs.Listings.{cons_cases, in_head, in_tail, no_member}
 use Rattle.bound_laws.specs.Counts.{AreOnce}
 

@@ -12,8 +12,8 @@ use Rattle.core_state.specs.declared.past.Past.{Past}
 use Rattle.core_state.specs.declared.stack.Stack.{Stack}
 use Rattle.step_relation.specs.Freshness.{plan_of}
 use Rattle.step_relation.specs.Orders.{back_after, past_of, past_or, plan_back}
-use Rattle.soundness.specs.MailFits.{IsStale}
-use Rattle.table_laws.proofs.Rows.{letter_cut, letter_put, same_some, stack_else, stack_here, stack_put, text_or_not}
+use Rattle.step_relation.specs.MailFits.{IsStale}
+use Rattle.history_laws.proofs.tables.Rows.{letter_cut, letter_put, same_some, stack_else, stack_here, stack_put, text_or_not}
 use Rattle.bound_laws.specs.Bound.{IsWork}
 use Rattle.bound_laws.specs.Rolls.{MayRoll, RollItem, RollLetter, RollNode}
 use Rattle.bound_laws.specs.Work.{IsUnready}

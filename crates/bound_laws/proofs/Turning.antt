@@ -29,15 +29,15 @@ use Rattle.step_relation.specs.Rows.{failed_row}
 use Rattle.step_relation.specs.Runs.{IsTied, Judges}
 use Rattle.step_relation.specs.Turns.{IsDue, Turn}
 use Rattle.step_relation.specs.Writes.{mark_failed}
-use Rattle.soundness.specs.Elsewhere.{Elsewhere}
-use Rattle.soundness.specs.Groups.{IsOrdered, rolls_back}
-use Rattle.soundness.specs.Sound.{Standing}
-use Rattle.table_laws.proofs.Frame.{then}
-use Rattle.table_laws.proofs.Rows.{row_self, same_some, stack-key, stack_here}
-use Rattle.frame_laws.proofs.Commands.{commands_on_one}
-use Rattle.frame_laws.proofs.OnOne.{moves_on_one}
+use Rattle.step_relation.specs.Elsewhere.{Elsewhere}
+use Rattle.step_relation.specs.Groups.{IsOrdered, rolls_back}
+use Rattle.step_relation.specs.Sound.{Standing}
+use Rattle.history_laws.proofs.tables.Frame.{then}
+use Rattle.history_laws.proofs.tables.Rows.{row_self, same_some, stack-key, stack_here}
+use Rattle.history_laws.proofs.frames.Commands.{commands_on_one}
+use Rattle.history_laws.proofs.frames.OnOne.{moves_on_one}
 use Rattle.next_laws.proofs.Turns.{ByMove, Whole, by_move, follows, stops}
-use Rattle.whole_laws.proofs.Whole.{standing_kept}
+use Rattle.graph_laws.proofs.whole.Whole.{standing_kept}
 use Rattle.bound_laws.specs.Bound.{IsWork, TurnsLowerWork}
 use Rattle.bound_laws.proofs.Ended.{form_unlocked}
 use Rattle.bound_laws.proofs.Falls.{PollsFall, falls_of}

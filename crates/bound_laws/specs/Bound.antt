@@ -10,7 +10,7 @@ use Rattle.core_state.specs.declared.entry.Entry.{Entry}
 use Rattle.step_relation.specs.Given.{Given}
 use Rattle.step_relation.specs.Runs.{IsTied, Judges}
 use Rattle.step_relation.specs.Turns.{Turn}
-use Rattle.soundness.specs.Sound.{Standing}
+use Rattle.step_relation.specs.Sound.{Standing}
 use Rattle.bound_laws.specs.Counts.{Counts}
 use Rattle.bound_laws.specs.Polls.{AreFew, Polled}
 use Rattle.bound_laws.specs.Rolls.{RollFar, RollItem, RollJob, RollLetter, RollNode, RollRow}

@@ -3,7 +3,7 @@ use Rattle.std.specs.Prelude.{ℕ, ◌*◌, ◌<◌, ◌≡◌, ◌≤◌, ◌�
 use Rattle.heat_plan.specs.declared.token.Token.{Token}
 use Rattle.mail_table.specs.declared.mail.Stage.TheVariants.{Polling}
 use Rattle.core_state.specs.State.{StateData}
-use Rattle.soundness.specs.Sound.{Standing}
+use Rattle.step_relation.specs.Sound.{Standing}
 use Rattle.bound_laws.specs.Bound.{IsWork}
 use Rattle.bound_laws.specs.Counts.{Counts}
 use Rattle.bound_laws.specs.Full.{IsFullWork, IsJob}

@@ -8,9 +8,9 @@ use Rattle.core_state.specs.declared.entry.Entry.{Entry}
 use Rattle.step_relation.specs.Given.{Given}
 use Rattle.step_relation.specs.Runs.{Judges}
 use Rattle.step_relation.specs.Turns.{WearsOut}
-use Rattle.history.specs.Could.{IsPossible}
-use Rattle.history.specs.Opening.{Opening}
-use Rattle.soundness.specs.Sound.{Sound}
+use Rattle.step_relation.specs.Could.{IsPossible}
+use Rattle.step_relation.specs.Opening.{Opening}
+use Rattle.step_relation.specs.Sound.{Sound}
 use Rattle.bound_laws.specs.Bound.{IsTurnOf, IsWork}
 use Rattle.bound_laws.specs.Full.{IsFullWork}
 use Rattle.bound_laws.specs.Polls.{AreFew}

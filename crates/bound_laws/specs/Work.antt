@@ -14,7 +14,7 @@ use Rattle.core_state.specs.State.{StateData, graph_at, stack_at}
 use Rattle.core_state.specs.declared.graph.Graph.{Graph}
 use Rattle.core_state.specs.declared.stack.Stack.{Stack}
 use Rattle.step_relation.specs.Rows.{token_of}
-use Rattle.soundness.specs.MailFits.{IsStale}
+use Rattle.step_relation.specs.MailFits.{IsStale}
 
 -- a letter of this number waits
 pub record IsLetter (s : StateData) (n : ℕ) : Type 0 where

@@ -7,7 +7,7 @@ use Rattle.step_relation.specs.Runs.{nothing}
 use Rattle.step_relation.specs.Unjudged.{unjudged}
 use Rattle.step_relation.specs.Writes.{letter_to}
 use Rattle.case_laws.specs.Covers.{StaleEndTells, StaleTakeOverTells}
-use Rattle.cover_laws.proofs.Moves.{covers_moved}
+use Rattle.graph_laws.proofs.covers.Moves.{covers_moved}
 
 pub stale_take_over_tells : StaleTakeOverTells
 stale_take_over_tells s e f j row st g i h next found overrun its least =

@@ -5,8 +5,8 @@ use Rattle.std.proofs.lemmas.List.Elements.{Contains-append_cases, Contains-appe
 use Rattle.dep_graph.specs.Paths.{HasPath}
 use Rattle.dep_graph.proofs.PathLemmas.{IsPath-weaker}
 use Rattle.traversal_graph.specs.Builds.{Considers, Joins, Keeps, begins, goes_on}
-use Rattle.table_laws.proofs.Puts.{contains_head}
-use Rattle.edge_laws.proofs.Keeping.{last_is, nothing}
+use Rattle.history_laws.proofs.tables.Puts.{contains_head}
+use Rattle.history_laws.proofs.edges.Keeping.{last_is, nothing}
 use Rattle.case_laws.specs.Edges.{OnlyCyclesAreLeftOut}
 
 -- an edge, or one that would close a cycle

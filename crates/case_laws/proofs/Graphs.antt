@@ -5,7 +5,7 @@ use Rattle.step_relation.specs.Moves.{begin_overrun, begin_replaced, clean_retai
 use Rattle.step_relation.specs.Runs.{nothing}
 use Rattle.step_relation.specs.Unjudged.{unjudged}
 use Rattle.case_laws.specs.Graphs.{FinishFits, GivenUpFits, OverrunFits, ReplacementFits}
-use Rattle.graph_laws.proofs.Moves.{graphs_moved}
+use Rattle.graph_laws.proofs.graphs.Moves.{graphs_moved}
 
 pub replacement_fits : ReplacementFits
 replacement_fits judges s e k props effect h act go tied =

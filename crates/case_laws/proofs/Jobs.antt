@@ -5,7 +5,7 @@ use Rattle.step_relation.specs.Moves.{begin_resumed, clean_deleted}
 use Rattle.step_relation.specs.Runs.{nothing}
 use Rattle.step_relation.specs.Unjudged.{unjudged}
 use Rattle.case_laws.specs.Jobs.{DeletedFits, ResumedFits}
-use Rattle.cover_laws.proofs.Below.{jobs_moved}
+use Rattle.graph_laws.proofs.covers.Below.{jobs_moved}
 
 pub resumed_fits : ResumedFits
 resumed_fits judges s e k props effect h tied act status newest =

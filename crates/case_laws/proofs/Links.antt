@@ -4,7 +4,7 @@ use Rattle.step_relation.specs.Given.{Nothing, Prepared}
 use Rattle.step_relation.specs.Moves.{begin_overrun, begin_replaced, clean_deleted, finish_last, take_free, take_stolen}
 use Rattle.case_laws.specs.Links.{DeleteIsLinked, LeavingIsLinked, ReleaseIsLinked, ReplacementIsLinked, StealIsLinked}
 use Rattle.case_laws.specs.Links.{TakenIsLinked}
-use Rattle.link_laws.proofs.Kept.{links_after}
+use Rattle.history_laws.proofs.links.Kept.{links_after}
 
 pub steal_is_linked : StealIsLinked
 steal_is_linked s e f k j h holder stopped =

@@ -8,9 +8,9 @@ use Rattle.step_relation.specs.Given.{Nothing}
 use Rattle.step_relation.specs.Moves.{finish_last}
 use Rattle.step_relation.specs.Runs.{nothing}
 use Rattle.step_relation.specs.Unjudged.{unjudged}
-use Rattle.soundness.specs.GraphFits.{IsNode}
+use Rattle.step_relation.specs.GraphFits.{IsNode}
 use Rattle.case_laws.specs.Marks.{CleanedIsMarked}
-use Rattle.fit_laws.proofs.Below.{marks_by_moves}
+use Rattle.graph_laws.proofs.fits.Below.{marks_by_moves}
 
 pub cleaned_is_marked : CleanedIsMarked
 cleaned_is_marked s e k h updates cleanups unmarked =

@@ -3,7 +3,7 @@ use Rattle.std.proofs.Common.{None, refl}
 use Rattle.step_relation.specs.Given.{Prepared}
 use Rattle.step_relation.specs.Moves.{begin_init}
 use Rattle.case_laws.specs.Rows.{BegunFits}
-use Rattle.fit_laws.proofs.Kept.{fit_by_moves}
+use Rattle.graph_laws.proofs.fits.Kept.{fit_by_moves}
 
 pub begun_fits : BegunFits
 begun_fits judges s e k props effect h tied act =

@@ -6,9 +6,9 @@ use Rattle.step_relation.specs.Given.{Answer, Prepared}
 use Rattle.step_relation.specs.Moves.{begin_in_place, poll_gone}
 use Rattle.step_relation.specs.Runs.{answer}
 use Rattle.step_relation.specs.Unjudged.{unjudged}
-use Rattle.table_laws.proofs.Rows.{row_self}
-use Rattle.agree_laws.proofs.MoveTold.{moves_agree}
-use Rattle.headline_laws.proofs.Made.{not_given}
+use Rattle.history_laws.proofs.tables.Rows.{row_self}
+use Rattle.history_laws.proofs.agrees.MoveTold.{moves_agree}
+use Rattle.history_laws.proofs.headline.Made.{not_given}
 use Rattle.case_laws.specs.Tells.{GivenUpIsRetained, InPlaceAgrees, PurgeAgrees}
 use Rattle.heat_plan.specs.declared.calls.Answered.TheVariants as reply
 

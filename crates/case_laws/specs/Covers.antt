@@ -14,8 +14,8 @@ use Rattle.step_relation.specs.Freshness.{IsOverrun}
 use Rattle.step_relation.specs.Nexts.{TakesOver, Works}
 use Rattle.step_relation.specs.Resends.{AwaitsCleanup, AwaitsUpdate, HasGraph}
 use Rattle.step_relation.specs.Writes.{draw_letters, letter_to, unlock}
-use Rattle.soundness.specs.Sound.{Standing}
-use Rattle.soundness.specs.Stir.{Covered}
+use Rattle.step_relation.specs.Sound.{Standing}
+use Rattle.step_relation.specs.Stir.{Covered}
 
 -- a stopped engine's job that is overrun ends: the update node that waits for its row is told
 abbrev pub StaleTakeOverTells : Type 0

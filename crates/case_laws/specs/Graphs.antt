@@ -24,8 +24,8 @@ use Rattle.step_relation.specs.Resends.{Resends}
 use Rattle.step_relation.specs.Rows.{replaced, replacement, unlocked}
 use Rattle.step_relation.specs.Runs.{IsTied, Judges}
 use Rattle.step_relation.specs.Writes.{draw_letters, unlock}
-use Rattle.soundness.specs.Sound.{Standing}
-use Rattle.graph_laws.specs.Laws.{GraphsFit}
+use Rattle.step_relation.specs.Sound.{Standing}
+use Rattle.graph_laws.specs.graphs.Laws.{GraphsFit}
 use Rattle.core_state.specs.declared.change.Change.TheVariants as change_to
 
 -- a row that can't be gone on with is replaced, for the stack's traversal

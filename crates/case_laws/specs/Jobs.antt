@@ -17,8 +17,8 @@ use Rattle.step_relation.specs.Given.{Prepared}
 use Rattle.step_relation.specs.Rows.{deleted_row}
 use Rattle.step_relation.specs.Runs.{IsTied, Judges}
 use Rattle.step_relation.specs.Writes.{with_stage}
-use Rattle.soundness.specs.MailFits.{JobsFit}
-use Rattle.soundness.specs.Sound.{Standing}
+use Rattle.step_relation.specs.MailFits.{JobsFit}
+use Rattle.step_relation.specs.Sound.{Standing}
 
 -- a row that is under way for the stack's traversal is gone on with
 abbrev pub ResumedFits : Type 0

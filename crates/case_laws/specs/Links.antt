@@ -23,8 +23,8 @@ use Rattle.step_relation.specs.Inputs.{AllDone}
 use Rattle.step_relation.specs.Nexts.{IsLowest, Works}
 use Rattle.step_relation.specs.Takes.{HasNoHolder, IsHolder, Releases, Takes, taken_job}
 use Rattle.step_relation.specs.Writes.{draw_letters, job_of, lock, mark_complete, unlock, with_stage}
-use Rattle.soundness.specs.Linked.{Links}
-use Rattle.soundness.specs.Sound.{Standing}
+use Rattle.step_relation.specs.Linked.{Links}
+use Rattle.step_relation.specs.Sound.{Standing}
 use Rattle.core_state.specs.declared.change.Change.TheVariants as change_to
 
 -- a letter is taken whose row a stopped engine's job has: that job ends

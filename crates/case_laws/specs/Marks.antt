@@ -7,9 +7,9 @@ use Rattle.core_state.specs.Reads.{IsDone}
 use Rattle.core_state.specs.State.{StateData}
 use Rattle.step_relation.specs.Finishes.{Finishes, finished_changes, graph_then}
 use Rattle.step_relation.specs.Writes.{mark_complete}
-use Rattle.soundness.specs.GraphFits.{IsNode}
-use Rattle.soundness.specs.MarkFits.{MarksFit}
-use Rattle.soundness.specs.Sound.{Standing}
+use Rattle.step_relation.specs.GraphFits.{IsNode}
+use Rattle.step_relation.specs.MarkFits.{MarksFit}
+use Rattle.step_relation.specs.Sound.{Standing}
 
 -- the last node is finished, behind all update nodes and all clean-up nodes: the stack is marked complete
 abbrev pub CleanedIsMarked : Type 0

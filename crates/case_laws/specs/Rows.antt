@@ -13,8 +13,8 @@ use Rattle.step_relation.specs.Begins.{Begins}
 use Rattle.step_relation.specs.Given.{Prepared}
 use Rattle.step_relation.specs.Runs.{IsTied, Judges}
 use Rattle.step_relation.specs.Writes.{with_stage}
-use Rattle.soundness.specs.Sound.{Standing}
-use Rattle.fit_laws.specs.Laws.{AllRowsFit}
+use Rattle.step_relation.specs.Sound.{Standing}
+use Rattle.graph_laws.specs.fits.Laws.{AllRowsFit}
 
 -- a row at INIT when it is begun: of the item's kind now, whatever plan it was made for
 abbrev pub begun_row : (s : StateData) (e : ℕ) → Begins s e → Members → Row

@@ -18,11 +18,11 @@ use Rattle.step_relation.specs.Given.{Prepared}
 use Rattle.step_relation.specs.Rows.{token_of}
 use Rattle.step_relation.specs.Runs.{IsTied, Judges}
 use Rattle.step_relation.specs.Writes.{call_entry}
-use Rattle.history.specs.Could.{IsPossible}
-use Rattle.history.specs.Opening.{Opening}
-use Rattle.soundness.specs.Agrees.{Agrees}
-use Rattle.soundness.specs.Headline.{MayBeReleased}
-use Rattle.soundness.specs.Sound.{Sound}
+use Rattle.step_relation.specs.Could.{IsPossible}
+use Rattle.step_relation.specs.Opening.{Opening}
+use Rattle.step_relation.specs.Agrees.{Agrees}
+use Rattle.step_relation.specs.Headline.{MayBeReleased}
+use Rattle.step_relation.specs.Sound.{Sound}
 use Rattle.heat_plan.specs.declared.calls.Answered.TheVariants as answer
 use Rattle.heat_plan.specs.declared.calls.Request.TheVariants as request
 

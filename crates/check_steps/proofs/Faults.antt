@@ -22,7 +22,7 @@ use Rattle.step_parts.specs.Turns.{IsTurnRefusal}
 use Rattle.step_parts.specs.Turns as refusal
 use Rattle.step_ends.specs.Marks.{IsBehind, IsBehindRefusal, IsRewritten, RollsBehind}
 use Rattle.step_ends.specs.Marks as behind
-use Rattle.table_laws.proofs.Rows.{row_self, stack-key}
+use Rattle.history_laws.proofs.tables.Rows.{row_self, stack-key}
 use Rattle.check_steps.specs.Founds.{IsFound, begin_of}
 use Rattle.check_steps.specs.Marks.{marked_changes, marked_entries}
 use Rattle.check_steps.proofs.Turned.{wears_out}

@@ -15,7 +15,7 @@ use Rattle.core_state.specs.State.{StateData, graph_at, stack_at}
 use Rattle.core_state.specs.declared.graph.Graph.{Graph}
 use Rattle.core_state.specs.declared.stack.Stack.{Stack}
 use Rattle.step_relation.specs.Freshness.{plan_of}
-use Rattle.table_laws.proofs.Rows.{same_some}
+use Rattle.history_laws.proofs.tables.Rows.{same_some}
 use Rattle.check_steps.specs.AtUpdate.{AtUpdate}
 use Rattle.check_steps.specs.Parts.{IsParts}
 use Rattle.check_steps.specs.declared.parts.Parts.{Parts}

@@ -17,7 +17,7 @@ use Rattle.core_state.specs.declared.graph.Graph.{Graph}
 use Rattle.core_state.specs.declared.stack.Stack.{Stack}
 use Rattle.step_relation.specs.Freshness.{plan_of}
 use Rattle.step_relation.specs.Nexts.{TakesNext, TakesOver, Works}
-use Rattle.table_laws.proofs.Rows.{same_some}
+use Rattle.history_laws.proofs.tables.Rows.{same_some}
 use Rattle.next_laws.proofs.Readings.{names_one, works_one}
 use Rattle.check_steps.specs.AtUpdate.{AtUpdate}
 use Rattle.check_steps.specs.Looks.{HasNext, IsBegin, IsPlain}

@@ -22,7 +22,7 @@ use Rattle.step_parts.specs.Turns.{IsTurn, IsTurnRefusal, memory, worn}
 use Rattle.cleanup_steps.specs.AtCleanup.{AtCleanup, AtRow}
 use Rattle.cleanup_steps.specs.Makes.{IsRefused, Makes, memory as no_memory, worn as wears}
 use Rattle.next_laws.proofs.Worn.{quiet_not_worn}
-use Rattle.table_laws.proofs.Rows.{same_some}
+use Rattle.history_laws.proofs.tables.Rows.{same_some}
 
 -- what a case makes is the engine's turn
 pub turns : (s : StateData) (e : ℕ) (cs : List Change) (es : List Entry) (r : Result Made Refusal)

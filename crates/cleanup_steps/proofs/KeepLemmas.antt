@@ -7,9 +7,9 @@ use Rattle.heat_plan.specs.Plans.{names_of}
 use Rattle.heat_plan.specs.Tables.{at}
 use Rattle.heat_plan.specs.declared.item.Item.{Item}
 use Rattle.core_state.specs.Reads.{item_at}
-use Rattle.table_laws.proofs.Fresh.{item_of}
-use Rattle.table_laws.proofs.Puts.{contains_head, contains_there}
-use Rattle.table_laws.proofs.Tables.{cases}
+use Rattle.history_laws.proofs.tables.Fresh.{item_of}
+use Rattle.history_laws.proofs.tables.Puts.{contains_head, contains_there}
+use Rattle.history_laws.proofs.tables.Tables.{cases}
 
 -- the name of an item that is found is one of the names
 pub named_in : (items : List Item) (name : List ℕ) (item : Item) → item_at items name ≡ Some item

@@ -3,7 +3,7 @@ use Rattle.std.proofs.Common.{◌≡◌, ◌⊎◌, inl, inr, ℕ, List, ◌++�
 use Rattle.std.proofs.Common.{Result, Ok, Err}
 use Rattle.core_state.specs.declared.entry.Entry.{Entry}
 use Rattle.core_state.specs.State.{StateData}
-use Rattle.history.specs.Opening.{Opening}
+use Rattle.step_relation.specs.Opening.{Opening}
 use Rattle.script_lines.specs.declared.line.Line.{Line}
 use Rattle.script_lines.specs.declared.line.Line.TheVariants as form
 use Rattle.driver.specs.declared.ran.Ran.{Ran}

@@ -1,7 +1,7 @@
 -- What the drive of a book came to, over the book that is handed back.
 use Rattle.std.proofs.Common.{◌≡◌, refl, sym, subst}
 use Rattle.heat_value.specs.Counts.{Rose}
-use Rattle.history.specs.Opening.{Opening}
+use Rattle.step_relation.specs.Opening.{Opening}
 use Rattle.provider.specs.Cloud.{Cloud}
 use Rattle.book.specs.Kept.{Shown, IsSameBook, HasRun, HasHeadline, opening_of}
 use Rattle.converge_call.specs.declared.exit.Exit.{Exit}

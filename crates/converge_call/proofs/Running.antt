@@ -7,8 +7,8 @@ use Rattle.core_state.specs.declared.entry.Entry.{Entry}
 use Rattle.core_state.specs.declared.entry.What.{What}
 use Rattle.core_state.specs.declared.entry.What.TheVariants as what
 use Rattle.core_state.specs.State.{StateData}
-use Rattle.history.specs.Opening.{Opening}
-use Rattle.soundness.specs.Headline.{IsSettledAs}
+use Rattle.step_relation.specs.Opening.{Opening}
+use Rattle.step_relation.specs.Headline.{IsSettledAs}
 use Rattle.driver.specs.Below.{IsFullWork}
 use Rattle.provider.specs.Cloud.{Cloud}
 use Rattle.book.specs.Kept.{Shown, IsSameBook, opening_of}

@@ -2,7 +2,7 @@
 use Rattle.std.specs.Prelude.{◌≡◌, ◌⊎◌, ◌<◌, ◌≤◌, ◌+◌, ℕ, List, [], ◌∷◌, ◌++◌, Option, Some, Result, Ok, Err, length}
 use Rattle.core_state.specs.declared.entry.Entry.{Entry}
 use Rattle.core_state.specs.State.{StateData}
-use Rattle.history.specs.Opening.{Opening}
+use Rattle.step_relation.specs.Opening.{Opening}
 use Rattle.heat_io.specs.Lines.{cut_lines, length_of_line, size_of_line, line_limit, script_limit}
 use Rattle.heat_io.specs.Reading.{Reads}
 use Rattle.heat_io.specs.Streams.{grown}

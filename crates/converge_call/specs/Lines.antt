@@ -3,7 +3,7 @@ use Rattle.std.specs.Prelude.{◌≡◌, ◌+◌, ℕ, List, [], ◌∷◌, ◌+
 use Rattle.core_state.specs.declared.entry.Entry.{Entry}
 use Rattle.core_state.specs.declared.entry.ShowWhat.TheVariants as show
 use Rattle.core_state.specs.State.{StateData}
-use Rattle.history.specs.Opening.{Opening}
+use Rattle.step_relation.specs.Opening.{Opening}
 use Rattle.heat_value.specs.Meaning.{data_of}
 use Rattle.script_lines.specs.Readings.{Reads}
 use Rattle.script_lines.specs.Misreads.{misread_code, misread_path}

@@ -9,8 +9,8 @@ use Rattle.core_state.specs.Changes.{applied}
 use Rattle.core_state.specs.State.{StateData, stack_at}
 use Rattle.step_relation.specs.Nexts.{IsLost}
 use Rattle.step_relation.specs.Nexts as next
-use Rattle.history.specs.Opening.{Opening}
-use Rattle.soundness.specs.Headline.{IsSettledAs}
+use Rattle.step_relation.specs.Opening.{Opening}
+use Rattle.step_relation.specs.Headline.{IsSettledAs}
 use Rattle.driver.specs.Below.{IsFullWork}
 use Rattle.book.specs.Quiet.{IsIdle}
 use Rattle.book.specs.Turned.{IsWornBy}

@@ -7,7 +7,7 @@ use Rattle.std.proofs.lemmas.Bool.Decides.{Decides-eqb}
 use Rattle.std.proofs.lemmas.Slice.Eq.{bytes_eq-Decides}
 use Rattle.heat_plan.specs.Tables.{at, cut, put}
 use Rattle.next_laws.proofs.Listings.{cons_cases, in_head, in_tail, no_member}
-use Rattle.table_laws.proofs.Tables.{cases}
+use Rattle.history_laws.proofs.tables.Tables.{cases}
 use Rattle.row_table.specs.Rows.{row_key}
 use Rattle.mail_table.specs.Mails.{job_key, letter_key}
 use Rattle.core_state.specs.Changes.{applied, apply}

@@ -6,7 +6,7 @@ use Rattle.std.proofs.Common.{get_or, take}
 use Rattle.std.proofs.lemmas.List.{map-append, take_all, take_more}
 use Rattle.heat_plan.specs.Tables.{at}
 use Rattle.next_laws.proofs.Listings.{cons_cases, in_head, in_tail, no_member}
-use Rattle.table_laws.proofs.Tables.{cases}
+use Rattle.history_laws.proofs.tables.Tables.{cases}
 use Rattle.bound_laws.specs.Counts.{AreOnce}
 
 module _ {K A : Type 0} (same : K → K → Bool) (decides : (x y : K) → Decides (same x y) (x ≡ y)) (key : A → K) where

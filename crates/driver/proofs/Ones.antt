@@ -2,7 +2,7 @@
 use Rattle.std.proofs.Common.{arith, inl, inr, refl, subst, sym, ◌⊎◌}
 use Rattle.std.specs.Prelude.{Contains, List, [], length, ℕ, ◌++◌, ◌+◌, ◌<◌, ◌∷◌, ◌≡◌}
 use Rattle.std.proofs.lemmas.List.Elements.{Contains-append_cases, Contains-append_left, Contains-append_right}
-use Rattle.table_laws.proofs.Rows.{same_or_not}
+use Rattle.history_laws.proofs.tables.Rows.{same_or_not}
 use Rattle.next_laws.proofs.Listings.{cons_cases, in_head, in_tail, no_member}
 use Rattle.bound_laws.specs.Counts.{AreOnce, Counts}
 use Rattle.bound_laws.proofs.Sets.{joined}

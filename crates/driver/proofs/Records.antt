@@ -10,8 +10,8 @@ use Rattle.mail_table.specs.declared.mail.Stage.{Stage}
 use Rattle.mail_table.specs.declared.mail.Stage.TheVariants.{Asking, Ending, Polling, Taken}
 use Rattle.core_state.specs.State.{StateData, stack_at}
 use Rattle.core_state.specs.declared.stack.Stack.{Stack}
-use Rattle.soundness.specs.MailFits.{IsStale}
-use Rattle.table_laws.proofs.Rows.{same_some}
+use Rattle.step_relation.specs.MailFits.{IsStale}
+use Rattle.history_laws.proofs.tables.Rows.{same_some}
 use Rattle.bound_laws.specs.Rolls.{MayRoll, RollJob, RollLetter, RollRow}
 use Rattle.bound_laws.specs.Work.{IsAt, IsLate, IsLeft}
 use Rattle.driver.specs.Parts.{IsOne, JobWork, none, one, stage_work}

@@ -17,11 +17,11 @@ use Rattle.mail_table.specs.declared.mail.Stage.TheVariants.{Asking, Ending, Pol
 use Rattle.core_state.specs.State.{StateData}
 use Rattle.step_relation.specs.Nexts as next
 use Rattle.next_laws.proofs.Listings.{in_head, no_member}
-use Rattle.table_laws.proofs.Rows.{same_or_not}
+use Rattle.history_laws.proofs.tables.Rows.{same_or_not}
 use Rattle.turn_laws.proofs.Decide.{below_or_not, member_or_not}
-use Rattle.soundness.specs.Headline.{IsIdleBook}
-use Rattle.soundness.specs.MailFits.{IsUnderWay, polls}
-use Rattle.soundness.specs.Sound.{Standing}
+use Rattle.step_relation.specs.Headline.{IsIdleBook}
+use Rattle.step_relation.specs.MailFits.{IsUnderWay, polls}
+use Rattle.step_relation.specs.Sound.{Standing}
 use Rattle.book.specs.Quiet.{IsIdle}
 use Rattle.bound_laws.specs.Bound.{IsWork}
 use Rattle.bound_laws.specs.Counts.{Counts}

@@ -12,7 +12,7 @@ use Rattle.step_relation.specs.Rows.{token_of}
 use Rattle.step_relation.specs.Runs.{IsTied}
 use Rattle.step_relation.specs.Runs as tied
 use Rattle.step_relation.specs.Turns.{Turn}
-use Rattle.soundness.specs.Sound.{Standing}
+use Rattle.step_relation.specs.Sound.{Standing}
 use Rattle.book.specs.Kept.{unjudged}
 use Rattle.book.specs.Scenes.{Makes, Scene, Told}
 use Rattle.book.specs.Turned.{IsQuiet, Requests, Turned}

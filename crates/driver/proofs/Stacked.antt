@@ -14,8 +14,8 @@ use Rattle.step_relation.specs.Freshness.{plan_of}
 use Rattle.step_relation.specs.Orders.{past_of, plan_back}
 use Rattle.step_relation.specs.Targets.{IsTarget}
 use Rattle.step_reads.specs.Rows.{HasNoTarget}
-use Rattle.table_laws.proofs.Rows.{row-key, same_some}
-use Rattle.table_laws.proofs.Targets.{target_once}
+use Rattle.history_laws.proofs.tables.Rows.{row-key, same_some}
+use Rattle.history_laws.proofs.tables.Targets.{target_once}
 use Rattle.bound_laws.specs.Counts.{Counts}
 use Rattle.bound_laws.specs.Rolls.{MayRoll, RollFar, RollItem, RollNode}
 use Rattle.bound_laws.specs.Work.{IsUnready}

@@ -3,7 +3,7 @@ use Rattle.std.specs.Prelude.{List, Some, ◌≡◌, ℕ}
 use Rattle.provider.specs.Cloud.{Cloud}
 use Rattle.core_state.specs.State.{stack_at}
 use Rattle.core_state.specs.declared.stack.Stack.{Stack}
-use Rattle.soundness.specs.Headline.{IsSettledAs}
+use Rattle.step_relation.specs.Headline.{IsSettledAs}
 use Rattle.book.specs.Kept.{Shown, opening_of}
 
 -- each stack is complete, or failed for a cause that the history tells of its newest traversal

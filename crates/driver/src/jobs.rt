@@ -1,7 +1,7 @@
 //! What the jobs stand for.
 ghost use Rattle.std.specs.Prelude.{◌≡◌, ◌≤◌, ◌<◌, ◌^◌, Some};
 ghost use Rattle.mail_table.specs.Mails.{job_at};
-ghost use Rattle.soundness.specs.MailFits.{IsStale};
+ghost use Rattle.step_relation.specs.MailFits.{IsStale};
 ghost use Rattle.driver.specs.Keyed.{AreKeyed};
 ghost use Rattle.driver.specs.Parts.{IsOne, JobWork, JobsWork, stage_work};
 

@@ -1,21 +1,12 @@
-//! Laws of the graphs of stacks: after every step each graph is that of its plan and its rows. Nothing
-//! here is run: each function has an empty body and stands for its clause.
+//! Laws of the graphs of stacks and of all that goes by them: letters, jobs, covered nodes, marks and rows;
+//! and the groups put together. Nothing here is run: each function has an empty body and stands for its
+//! clause.
 #![tactic(auto)]
 
-ghost use Rattle.graph_laws.specs.Laws.{GraphsFit};
-ghost use Rattle.soundness.specs.Groups.{KeptByCommands, KeptByEngines, KeptByMoves};
-
-/// After each move of an engine the graph of every stack is that of its plan and its rows.
-pub fn graphs_kept_by_moves()
-    ensures { KeptByMoves GraphsFit }
-{}
-
-/// After the stop of an engine, the enlisting of one and a restart each graph is as it was.
-pub fn graphs_kept_by_engines()
-    ensures { KeptByEngines GraphsFit }
-{}
-
-/// After each command the graph of every stack is that of its plan and its rows.
-pub fn graphs_kept_by_commands()
-    ensures { KeptByCommands GraphsFit }
-{}
+pub mod covers;
+pub mod fits;
+pub mod graphs;
+pub mod jobs;
+pub mod letters;
+pub mod marks;
+pub mod whole;

@@ -9,7 +9,7 @@ use Rattle.core_state.specs.declared.entry.What.{What}
 use Rattle.core_state.specs.declared.entry.What.TheVariants as what
 use Rattle.provider.specs.Table.{TokenState}
 use Rattle.provider.proofs.Sames.{same_token-other}
-use Rattle.history.specs.Could.{could_by}
+use Rattle.step_relation.specs.Could.{could_by}
 use Rattle.headline_reader.specs.declared.possible.Possible.{Possible}
 use Rattle.headline_reader.specs.Called.{with_states, called_by, called, is_among}
 use Rattle.headline_reader.proofs.Lists.{All-none, All-more, All-both}

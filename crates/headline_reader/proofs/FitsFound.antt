@@ -12,11 +12,11 @@ use Rattle.heat_plan.specs.declared.token.Token.{Token}
 use Rattle.core_state.specs.declared.entry.Entry.{Entry}
 use Rattle.hot_resolve.specs.Resolve.{Fault, Props, Resolved, resolve}
 use Rattle.provider.specs.Table.{Living, TokenState}
-use Rattle.history.specs.Opening.{Opening, first_of, empty_opening}
-use Rattle.history.specs.Could.{could}
-use Rattle.history.specs.Stored.{released}
-use Rattle.history.specs.Tokens.{token_at, MayLive, IsAlive, IsCertain, tokens_of}
-use Rattle.history.specs.Fits.{IsFactOf, HasExactly, Fits}
+use Rattle.step_relation.specs.Opening.{Opening, first_of, empty_opening}
+use Rattle.step_relation.specs.Could.{could}
+use Rattle.step_relation.specs.Stored.{released}
+use Rattle.step_relation.specs.Tokens.{token_at, MayLive, IsAlive, IsCertain, tokens_of}
+use Rattle.step_relation.specs.Fits.{IsFactOf, HasExactly, Fits}
 use Rattle.headline_reader.proofs.Lists.{All-from, All-first, All-rest}
 use Rattle.headline_reader.specs.declared.possible.Possible.{Possible}
 use Rattle.headline_reader.specs.Called.{could_be, called}

@@ -1,7 +1,7 @@
 -- A list of one state.
 use Rattle.std.proofs.Common.{◌≡◌, ◌↔◌, List, [], ◌∷◌, length, refl}
 use Rattle.provider.specs.Table.{TokenState}
-use Rattle.history.specs.Tokens.{IsCertain}
+use Rattle.step_relation.specs.Tokens.{IsCertain}
 
 pub certain : (states : List TokenState) → (length states ≡ 1) ↔ IsCertain states
 certain [] = (λ is. cc, λ is. let none = is.alone in cc)

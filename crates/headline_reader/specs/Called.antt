@@ -8,8 +8,8 @@ use Rattle.core_state.specs.declared.entry.What.{What}
 use Rattle.core_state.specs.declared.entry.What.TheVariants as what
 use Rattle.provider.specs.Same.{same_token}
 use Rattle.provider.specs.Table.{TokenState}
-use Rattle.history.specs.Could.{could}
-use Rattle.history.specs.Stored.{released_by}
+use Rattle.step_relation.specs.Could.{could}
+use Rattle.step_relation.specs.Stored.{released_by}
 use Rattle.headline_reader.specs.declared.possible.Possible.{Possible}
 
 -- the states of a token that was absent at first

@@ -8,7 +8,7 @@ use Rattle.heat_plan.specs.declared.facts.KnownFacts.{KnownFacts}
 use Rattle.heat_plan.specs.declared.item.Item.{Item}
 use Rattle.hot_resolve.specs.Resolve.{Fault, Props, Resolved, resolve}
 use Rattle.provider.specs.Table.{Living, TokenState}
-use Rattle.history.specs.Tokens.{IsCertain, MayLive}
+use Rattle.step_relation.specs.Tokens.{IsCertain, MayLive}
 use Rattle.headline_reader.specs.declared.possible.Possible.{Possible}
 
 -- the resource, where one state alone is possible and it is alive

@@ -3,7 +3,7 @@ use Rattle.std.specs.Prelude.{ℕ, List, Option, None, Some, fold}
 use Rattle.heat_plan.specs.declared.phase.Status.{Status}
 use Rattle.heat_plan.specs.declared.phase.Status.TheVariants.{Complete, Failed, InProgress}
 use Rattle.core_state.specs.declared.entry.Entry.{Entry}
-use Rattle.history.specs.Marked.{Mark, Marked, Unmarked, Completed, FailedFor, marked_by}
+use Rattle.step_relation.specs.Marked.{Mark, Marked, Unmarked, Completed, FailedFor, marked_by}
 use Rattle.headline_reader.specs.declared.marks.Mark.{Mark as mark_type}
 use Rattle.headline_reader.specs.declared.marks.Mark.TheVariants as mark
 use Rattle.headline_reader.specs.declared.marks.Marked.{Marked as marked_type}

@@ -1,6 +1,6 @@
 //! What the states of one token say.
 ghost use Rattle.std.specs.Prelude.{◌≡◌, ◌↔◌, IsTrue, option_map};
-ghost use Rattle.history.specs.Tokens.{IsCertain, MayLive};
+ghost use Rattle.step_relation.specs.Tokens.{IsCertain, MayLive};
 ghost use Rattle.headline_reader.specs.Items.{ready_facts, sole};
 
 use crate::living::Living;

@@ -2,9 +2,9 @@
 ghost use Rattle.std.specs.Prelude.{◌≡◌, ◌↔◌, ℕ, Bool, IsTrue, IfOk, All};
 ghost use Rattle.heat_plan.specs.Plans.{IsPlan};
 ghost use Rattle.heat_plan.specs.declared.token.Token.{Token};
-ghost use Rattle.history.specs.Opening.{empty_opening};
-ghost use Rattle.history.specs.Fits.{Fits};
-ghost use Rattle.history.specs.Tokens.{IsCertain};
+ghost use Rattle.step_relation.specs.Opening.{empty_opening};
+ghost use Rattle.step_relation.specs.Fits.{Fits};
+ghost use Rattle.step_relation.specs.Tokens.{IsCertain};
 ghost use Rattle.headline_reader.specs.Items.{HasItem, IsPlanned, Finds};
 
 use crate::certain::is_certain;

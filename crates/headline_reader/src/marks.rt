@@ -1,8 +1,8 @@
 //! The mark of a stack's newest traversal: what its last command or mark says.
 ghost use Rattle.std.specs.Prelude.{◌≡◌, ℕ, Bool, IfOk, option_map};
 ghost use Rattle.heat_plan.specs.declared.token.Token.{Token as token_type};
-ghost use Rattle.history.specs.Opening.{empty_opening};
-ghost use Rattle.history.specs.Marked.{mark_of, mark_by_cause, marked_again, marked_by};
+ghost use Rattle.step_relation.specs.Opening.{empty_opening};
+ghost use Rattle.step_relation.specs.Marked.{mark_of, mark_by_cause, marked_again, marked_by};
 ghost use Rattle.headline_reader.specs.Marks.{mark_said, marked_after, marked_said, status_said};
 
 use crate::causes::copy_cause;

@@ -1,8 +1,8 @@
 //! The tokens that the engine gave up: each release in its turn.
 ghost use Rattle.std.specs.Prelude.{◌≡◌, ℕ, Bool, IfOk, OnOk};
 ghost use Rattle.heat_plan.specs.declared.token.Token.{Token as token_type};
-ghost use Rattle.history.specs.Opening.{empty_opening};
-ghost use Rattle.history.specs.Stored.{released, released_by};
+ghost use Rattle.step_relation.specs.Opening.{empty_opening};
+ghost use Rattle.step_relation.specs.Stored.{released, released_by};
 ghost use Rattle.headline_reader.specs.Called.{given_up, is_among};
 
 use core_state::{Entry, What};

@@ -1,8 +1,8 @@
 //! The rows that are stored: each row write in its turn.
 ghost use Rattle.std.specs.Prelude.{◌≡◌, ℕ, Bool, IfOk, OnOk, fold};
 ghost use Rattle.heat_plan.specs.declared.token.Token.{Token};
-ghost use Rattle.history.specs.Opening.{empty_opening};
-ghost use Rattle.history.specs.Stored.{stored, stored_by, written};
+ghost use Rattle.step_relation.specs.Opening.{empty_opening};
+ghost use Rattle.step_relation.specs.Stored.{stored, stored_by, written};
 
 use core_state::{Entry, Row, RowWrite, What};
 use heat_value::TryCopy;

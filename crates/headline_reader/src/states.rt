@@ -1,8 +1,8 @@
 //! The states in which a token may be, by its calls alone.
 ghost use Rattle.std.specs.Prelude.{◌≡◌, ℕ, Bool, IfOk};
 ghost use Rattle.heat_plan.specs.declared.token.Token.{Token as token_type};
-ghost use Rattle.history.specs.Opening.{first_of, empty_opening};
-ghost use Rattle.history.specs.Could.{could, could_by};
+ghost use Rattle.step_relation.specs.Opening.{first_of, empty_opening};
+ghost use Rattle.step_relation.specs.Could.{could, could_by};
 ghost use Rattle.headline_reader.specs.Called.{could_be};
 
 use crate::after::after_each;

@@ -1,8 +1,8 @@
 //! A stack's newest traversal: that of its last command.
 ghost use Rattle.std.specs.Prelude.{◌≡◌, ℕ, Bool, IfOk};
 ghost use Rattle.heat_plan.specs.declared.token.Token.{Token};
-ghost use Rattle.history.specs.Opening.{empty_opening};
-ghost use Rattle.history.specs.Newest.{newest, newest_by};
+ghost use Rattle.step_relation.specs.Opening.{empty_opening};
+ghost use Rattle.step_relation.specs.Newest.{newest, newest_by};
 
 use core_state::{Entry, What};
 use heat_plan::{Act, Plan, StackName, TravNo};
@@ -21,7 +21,7 @@ pub struct Latest {
 impl Model for Latest {
     ghost use Rattle.std.specs.Coded.{codes};
     ghost use Rattle.heat_value.specs.Code.{data_code, members_code};
-    ghost use Rattle.history.specs.Newest.{Latest as latest_type};
+    ghost use Rattle.step_relation.specs.Newest.{Latest as latest_type};
 
     ghost Value = { latest_type };
 

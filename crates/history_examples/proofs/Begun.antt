@@ -28,8 +28,8 @@ use Rattle.step_relation.specs.Takes.{Takes}
 use Rattle.step_relation.specs.Targets.{of_u}
 use Rattle.step_relation.specs.Turns.{plain, unfailed}
 use Rattle.step_relation.specs.Unjudged.{unjudged}
-use Rattle.table_laws.proofs.Puts.{contains_head, contains_none}
-use Rattle.table_laws.proofs.Rows.{letter-key}
+use Rattle.history_laws.proofs.tables.Puts.{contains_head, contains_none}
+use Rattle.history_laws.proofs.tables.Rows.{letter-key}
 use Rattle.history_examples.specs.Created.{begin_tells, begun_under, command_tells, commanded_under, graph, one_node}
 use Rattle.history_examples.specs.Created.{past, point, stack_under, take_tells, taken_under, until_begun_under}
 use Rattle.history_examples.specs.Created.{until_taken}

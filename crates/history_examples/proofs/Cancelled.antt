@@ -14,8 +14,8 @@ use Rattle.step_relation.specs.Commands.{Lays}
 use Rattle.step_relation.specs.Freshness.{plan_of}
 use Rattle.step_relation.specs.Orders.{Command, cancel, of_create}
 use Rattle.step_relation.specs.Runs.{Run}
-use Rattle.history.specs.Last.{IsLast}
-use Rattle.soundness.specs.Headline.{EndsFailed, Headline}
+use Rattle.step_relation.specs.Last.{IsLast}
+use Rattle.step_relation.specs.Headline.{EndsFailed, Headline}
 use Rattle.next_laws.proofs.Listings.{in_head}
 use Rattle.history_examples.specs.Cancelled.{IsCancelled, cancel_tells, cancelled, cancelled_by_an_engine, history}
 use Rattle.history_examples.specs.Created.{asked, stack, until_asked}

@@ -31,12 +31,12 @@ use Rattle.step_relation.specs.Runs.{Run, nothing}
 use Rattle.step_relation.specs.Takes.{Takes, done}
 use Rattle.step_relation.specs.Targets.{of_c, of_u}
 use Rattle.step_relation.specs.Turns.{plain, stays, unfailed}
-use Rattle.history.specs.Could.{IsPossible}
-use Rattle.history.specs.Fits.{Fits, HasExactly}
-use Rattle.soundness.specs.Headline.{Headline}
-use Rattle.edge_laws.proofs.Keeping.{last_is}
-use Rattle.table_laws.proofs.Puts.{contains_head, contains_none}
-use Rattle.table_laws.proofs.Rows.{letter-key}
+use Rattle.step_relation.specs.Could.{IsPossible}
+use Rattle.step_relation.specs.Fits.{Fits, HasExactly}
+use Rattle.step_relation.specs.Headline.{Headline}
+use Rattle.history_laws.proofs.edges.Keeping.{last_is}
+use Rattle.history_laws.proofs.tables.Puts.{contains_head, contains_none}
+use Rattle.history_laws.proofs.tables.Rows.{letter-key}
 use Rattle.history_examples.specs.Completed.{IsCompleted, clean_tells, cleaning, cleans, complete_before_clean_up}
 use Rattle.history_examples.specs.Completed.{complete_tells, completed, drop_tells, dropped, facts_two, first_done}
 use Rattle.history_examples.specs.Completed.{going, going_tells, gone, gone_tells, graph, history, leave_tells, leaving}

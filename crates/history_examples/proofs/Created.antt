@@ -22,11 +22,11 @@ use Rattle.step_relation.specs.Rows.{failed_row}
 use Rattle.step_relation.specs.Runs.{Run, nothing}
 use Rattle.step_relation.specs.Steps.{}
 use Rattle.step_relation.specs.Turns.{Turn, plain, stays, unfailed}
-use Rattle.history.specs.Could.{IsPossible}
-use Rattle.soundness.specs.Headline.{Headline}
-use Rattle.table_laws.proofs.Puts.{contains_head, contains_none}
-use Rattle.headline_laws.proofs.Empty.{empty_is_sound}
-use Rattle.whole_laws.proofs.Whole.{runs_headline}
+use Rattle.step_relation.specs.Could.{IsPossible}
+use Rattle.step_relation.specs.Headline.{Headline}
+use Rattle.history_laws.proofs.tables.Puts.{contains_head, contains_none}
+use Rattle.history_laws.proofs.headline.Empty.{empty_is_sound}
+use Rattle.graph_laws.proofs.whole.Whole.{runs_headline}
 use Rattle.history_examples.specs.Created.{IsCreated, ask_tells, asked, begun, begun_under, created, finish_tells}
 use Rattle.history_examples.specs.Created.{graph, history, point, poll_tells, ready, stack, stack_under, until_asked}
 use Rattle.history_examples.specs.Created.{until_begun}

@@ -28,12 +28,12 @@ use Rattle.step_relation.specs.Runs.{Run, nothing}
 use Rattle.step_relation.specs.Takes.{Takes, done}
 use Rattle.step_relation.specs.Targets.{of_c}
 use Rattle.step_relation.specs.Turns.{plain, stays, unfailed}
-use Rattle.history.specs.Could.{IsPossible}
-use Rattle.history.specs.Fits.{Fits}
-use Rattle.soundness.specs.Headline.{Headline}
-use Rattle.edge_laws.proofs.Keeping.{last_is, only_one}
-use Rattle.table_laws.proofs.Puts.{contains_head, contains_none}
-use Rattle.table_laws.proofs.Rows.{letter-key}
+use Rattle.step_relation.specs.Could.{IsPossible}
+use Rattle.step_relation.specs.Fits.{Fits}
+use Rattle.step_relation.specs.Headline.{Headline}
+use Rattle.history_laws.proofs.edges.Keeping.{last_is, only_one}
+use Rattle.history_laws.proofs.tables.Puts.{contains_head, contains_none}
+use Rattle.history_laws.proofs.tables.Rows.{letter-key}
 use Rattle.history_examples.specs.Completed.{row_old}
 use Rattle.history_examples.specs.Deleted.{IsDeleted, between, complete_tells, deleted, drop_tells, dropped, first}
 use Rattle.history_examples.specs.Deleted.{first_asks, first_begins, first_cleaning, first_done, first_goes}

@@ -20,10 +20,10 @@ use Rattle.step_relation.specs.Commands.{IsLeaf, Lays, brief_of}
 use Rattle.step_relation.specs.Freshness.{plan_of}
 use Rattle.step_relation.specs.Orders.{Command, delete}
 use Rattle.step_relation.specs.Runs.{Run}
-use Rattle.soundness.specs.Headline.{Headline}
-use Rattle.edge_laws.proofs.Keeping.{last_is}
-use Rattle.table_laws.proofs.Puts.{all_contains, contains_head, contains_none, contains_there}
-use Rattle.history.specs.Fits.{Fits}
+use Rattle.step_relation.specs.Headline.{Headline}
+use Rattle.history_laws.proofs.edges.Keeping.{last_is}
+use Rattle.history_laws.proofs.tables.Puts.{all_contains, contains_head, contains_none, contains_there}
+use Rattle.step_relation.specs.Fits.{Fits}
 use Rattle.history_examples.specs.DeletedHalfway.{IsDeletedHalfway, delete_tells, deleting, halfway, history}
 use Rattle.history_examples.specs.DeletedHalfway.{marked_while_alive, stack_three, two_rows, until_halfway}
 use Rattle.history_examples.specs.DeletedHalfway.{until_retaken, until_updated}

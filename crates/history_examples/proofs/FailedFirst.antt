@@ -14,8 +14,8 @@ use Rattle.type_catalog.specs.declared.effect.Effect.TheVariants.{Same}
 use Rattle.step_relation.specs.Begins.{given_up}
 use Rattle.step_relation.specs.Rows.{token_of}
 use Rattle.step_relation.specs.Runs.{Run}
-use Rattle.soundness.specs.Headline.{AtPrefix, Headline, MayBeAsked, update}
-use Rattle.history.specs.Marked.{Completed, Mark, Marked, Unmarked, marked_again}
+use Rattle.step_relation.specs.Headline.{AtPrefix, Headline, MayBeAsked, update}
+use Rattle.step_relation.specs.Marked.{Completed, Mark, Marked, Unmarked, marked_again}
 use Rattle.next_laws.proofs.Listings.{in_head, in_tail}
 use Rattle.history_examples.specs.Created.{begun, until_begun}
 use Rattle.history_examples.specs.FailedFirst.{IsUpdatedAfterFailure, asked_of_what_may_be_absent, cause, fail_tells}

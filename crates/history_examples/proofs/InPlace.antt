@@ -29,10 +29,10 @@ use Rattle.step_relation.specs.Rows.{failed_row}
 use Rattle.step_relation.specs.Runs.{Run, begins, goes_on, props}
 use Rattle.step_relation.specs.Turns.{plain, stays, unfailed}
 use Rattle.step_relation.specs.Unjudged.{unjudged}
-use Rattle.history.specs.Tokens.{HasRow, MayLive}
-use Rattle.soundness.specs.Headline.{Headline}
-use Rattle.edge_laws.proofs.Keeping.{only_one}
-use Rattle.table_laws.proofs.Puts.{contains_head, contains_there}
+use Rattle.step_relation.specs.Tokens.{HasRow, MayLive}
+use Rattle.step_relation.specs.Headline.{Headline}
+use Rattle.history_laws.proofs.edges.Keeping.{only_one}
+use Rattle.history_laws.proofs.tables.Puts.{contains_head, contains_there}
 use Rattle.next_laws.proofs.Listings.{in_head}
 use Rattle.history_examples.specs.FirstRow.{row_done}
 use Rattle.history_examples.specs.InPlace.{IsUpdatedInPlace, ask_tells, asked, begin_tells, begun, facts_now, history}

@@ -18,16 +18,16 @@ use Rattle.core_state.specs.declared.entry.RowWrite.{RowWrite}
 use Rattle.step_relation.specs.Freshness.{plan_of}
 use Rattle.step_relation.specs.Rows.{token_of}
 use Rattle.step_relation.specs.Runs.{Judges, Run}
-use Rattle.history.specs.Could.{IsPossible, could_of}
-use Rattle.history.specs.Fits.{Fits}
-use Rattle.history.specs.Marked.{Completed, Marked, Unmarked, mark_of, marked_again, marked_of}
-use Rattle.history.specs.Newest.{Latest, newest}
-use Rattle.history.specs.Stored.{released, stored}
-use Rattle.soundness.specs.Headline.{AtPrefix, FitsIn, IsOfNewest}
-use Rattle.table_laws.proofs.Tables.{cases}
-use Rattle.tell_laws.proofs.Appends.{marked-append, newest-append, released-append, stored-append}
-use Rattle.tell_laws.proofs.Silence.{IsUnmarking, could-silent, marked-silent, newest-silent}
-use Rattle.headline_laws.proofs.Said.{SameOf, fits_on, fits_plain}
+use Rattle.step_relation.specs.Could.{IsPossible, could_of}
+use Rattle.step_relation.specs.Fits.{Fits}
+use Rattle.step_relation.specs.Marked.{Completed, Marked, Unmarked, mark_of, marked_again, marked_of}
+use Rattle.step_relation.specs.Newest.{Latest, newest}
+use Rattle.step_relation.specs.Stored.{released, stored}
+use Rattle.step_relation.specs.Headline.{AtPrefix, FitsIn, IsOfNewest}
+use Rattle.history_laws.proofs.tables.Tables.{cases}
+use Rattle.history_laws.proofs.tells.Appends.{marked-append, newest-append, released-append, stored-append}
+use Rattle.history_laws.proofs.tells.Silence.{IsUnmarking, could-silent, marked-silent, newest-silent}
+use Rattle.history_laws.proofs.headline.Said.{SameOf, fits_on, fits_plain}
 use Rattle.next_laws.proofs.Listings.{in_head, in_tail}
 use Rattle.history_examples.specs.Sentences.{Asked, Causes, CompleteFits, Completes, Follows, Holds, Marks, Named}
 use Rattle.history_examples.specs.Sentences.{Quiet}

@@ -9,8 +9,8 @@ use Rattle.traversal_graph.specs.Nodes.{IsSortedCopy}
 use Rattle.traversal_graph.specs.declared.brief.RowBrief.{RowBrief}
 use Rattle.sync_points.specs.declared.point.Point.{Point}
 use Rattle.step_relation.specs.Inputs.{IsRequired}
-use Rattle.edge_laws.proofs.Keeping.{only_one}
-use Rattle.table_laws.proofs.Puts.{contains_head, contains_none}
+use Rattle.history_laws.proofs.edges.Keeping.{only_one}
+use Rattle.history_laws.proofs.tables.Puts.{contains_head, contains_none}
 
 -- none of the kind
 pub lists_none : (Is : ℕ → Type 0) → ((n : ℕ) → ¬ Is n) → ListsAll Is []

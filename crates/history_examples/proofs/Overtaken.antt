@@ -19,12 +19,12 @@ use Rattle.step_relation.specs.Rows.{failed_row}
 use Rattle.step_relation.specs.Runs.{Run, nothing}
 use Rattle.step_relation.specs.Takes.{Releases}
 use Rattle.step_relation.specs.Turns.{plain, unfailed}
-use Rattle.history.specs.Fits.{Fits, HasExactly}
-use Rattle.history.specs.Newest.{Latest}
-use Rattle.history.specs.Tokens.{token_at}
-use Rattle.soundness.specs.Headline.{AtPrefix, Headline}
-use Rattle.table_laws.proofs.Puts.{contains_head}
-use Rattle.table_laws.proofs.Rows.{same_some}
+use Rattle.step_relation.specs.Fits.{Fits, HasExactly}
+use Rattle.step_relation.specs.Newest.{Latest}
+use Rattle.step_relation.specs.Tokens.{token_at}
+use Rattle.step_relation.specs.Headline.{AtPrefix, Headline}
+use Rattle.history_laws.proofs.tables.Puts.{contains_head}
+use Rattle.history_laws.proofs.tables.Rows.{same_some}
 use Rattle.hot_resolve.specs.Resolve.{Props}
 use Rattle.next_laws.proofs.Listings.{in_head, in_tail}
 use Rattle.history_examples.specs.Created.{poll_tells, until_asked}

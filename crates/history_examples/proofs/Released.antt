@@ -20,9 +20,9 @@ use Rattle.step_relation.specs.Rows.{failed_row}
 use Rattle.step_relation.specs.Runs.{Run, nothing}
 use Rattle.step_relation.specs.Takes.{Releases}
 use Rattle.step_relation.specs.Turns.{plain, unfailed}
-use Rattle.edge_laws.proofs.Keeping.{last_is}
-use Rattle.table_laws.proofs.Puts.{contains_head}
-use Rattle.table_laws.proofs.Rows.{same_some}
+use Rattle.history_laws.proofs.edges.Keeping.{last_is}
+use Rattle.history_laws.proofs.tables.Puts.{contains_head}
+use Rattle.history_laws.proofs.tables.Rows.{same_some}
 use Rattle.history_examples.specs.Completed.{facts_two, row_made, row_old, row_ready}
 use Rattle.history_examples.specs.Deleted.{ask_tells, asked, freed, late, ready, ready_tells, release_tells}
 use Rattle.history_examples.specs.Deleted.{until_asked, until_freed, until_ready}

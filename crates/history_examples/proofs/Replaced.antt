@@ -25,9 +25,9 @@ use Rattle.step_relation.specs.Runs.{Run, nothing, props}
 use Rattle.step_relation.specs.Takes.{Takes}
 use Rattle.step_relation.specs.Targets.{of_u}
 use Rattle.step_relation.specs.Turns.{plain, stays, unfailed}
-use Rattle.edge_laws.proofs.Keeping.{last_is, only_one}
-use Rattle.table_laws.proofs.Puts.{contains_head, contains_none}
-use Rattle.table_laws.proofs.Rows.{letter-key}
+use Rattle.history_laws.proofs.edges.Keeping.{last_is, only_one}
+use Rattle.history_laws.proofs.tables.Puts.{contains_head, contains_none}
+use Rattle.history_laws.proofs.tables.Rows.{letter-key}
 use Rattle.history_examples.specs.Completed.{ask_tells, asked, facts_two, first_done, given, graph, held, made}
 use Rattle.history_examples.specs.Completed.{made_tells, moved, ready, ready_tells, row_made, row_old, row_ready}
 use Rattle.history_examples.specs.Completed.{second_ready, until_asked, until_held, until_made, until_moved}

@@ -16,12 +16,12 @@ use Rattle.step_relation.specs.Given.{Nothing}
 use Rattle.step_relation.specs.Moves.{clean_retained, finish_last}
 use Rattle.step_relation.specs.Runs.{Run, nothing}
 use Rattle.step_relation.specs.Turns.{plain, unfailed}
-use Rattle.history.specs.Could.{IsPossible}
-use Rattle.history.specs.Marked.{Marked}
-use Rattle.soundness.specs.Headline.{AtPrefix, Headline, MayBeReleased}
-use Rattle.table_laws.proofs.Puts.{contains_none, contains_there}
-use Rattle.tell_laws.proofs.Silence.{could-silent, marked-silent, newest-silent}
-use Rattle.headline_laws.proofs.Said.{SameOf, fits_on}
+use Rattle.step_relation.specs.Could.{IsPossible}
+use Rattle.step_relation.specs.Marked.{Marked}
+use Rattle.step_relation.specs.Headline.{AtPrefix, Headline, MayBeReleased}
+use Rattle.history_laws.proofs.tables.Puts.{contains_none, contains_there}
+use Rattle.history_laws.proofs.tells.Silence.{could-silent, marked-silent, newest-silent}
+use Rattle.history_laws.proofs.headline.Said.{SameOf, fits_on}
 use Rattle.next_laws.proofs.Listings.{cons_cases, in_head}
 use Rattle.history_examples.specs.Retained.{IsRetained, give_tells, given, given_up_twice, history, retained}
 use Rattle.history_examples.specs.Retained.{until_given}

@@ -22,9 +22,9 @@ use Rattle.step_relation.specs.Given.{Answer}
 use Rattle.step_relation.specs.Orders.{of_create}
 use Rattle.step_relation.specs.Runs.{Run}
 use Rattle.step_relation.specs.Turns.{FollowsFailure, IsDue, Turn, rolls}
-use Rattle.soundness.specs.Headline.{Headline}
-use Rattle.edge_laws.proofs.Keeping.{only_one}
-use Rattle.table_laws.proofs.Puts.{contains_head, contains_none}
+use Rattle.step_relation.specs.Headline.{Headline}
+use Rattle.history_laws.proofs.edges.Keeping.{only_one}
+use Rattle.history_laws.proofs.tables.Puts.{contains_head, contains_none}
 use Rattle.next_laws.proofs.Listings.{in_head}
 use Rattle.history_examples.specs.Created.{begun_under, stack_under, until_begun, until_begun_under}
 use Rattle.history_examples.specs.FailedFirst.{fail_tells, fail_tells_under, row_failed_under}

@@ -19,8 +19,8 @@ use Rattle.step_relation.specs.Runs.{Run, nothing}
 use Rattle.step_relation.specs.Takes.{Takes}
 use Rattle.step_relation.specs.Targets.{of_c}
 use Rattle.step_relation.specs.Turns.{plain, stays, unfailed}
-use Rattle.table_laws.proofs.Puts.{contains_head, contains_none}
-use Rattle.table_laws.proofs.Rows.{letter-key}
+use Rattle.history_laws.proofs.tables.Puts.{contains_head, contains_none}
+use Rattle.history_laws.proofs.tables.Rows.{letter-key}
 use Rattle.history_examples.specs.Completed.{row_made}
 use Rattle.history_examples.specs.Deleted.{freed, second, second_asks, second_begins, second_cleaning, second_goes}
 use Rattle.history_examples.specs.Deleted.{second_going, second_gone, second_held, second_leaves, second_leaving}

@@ -6,10 +6,10 @@ use Rattle.std.specs.Prelude.{Contains, slice_get}
 use Rattle.core_state.specs.State.{StateData}
 use Rattle.core_state.specs.declared.entry.Entry.{Entry}
 use Rattle.step_relation.specs.Runs.{Judges, Run}
-use Rattle.history.specs.Could.{IsPossible}
-use Rattle.soundness.specs.Headline.{AtPrefix, FitsIn, Headline}
-use Rattle.headline_laws.proofs.Empty.{empty_is_sound}
-use Rattle.whole_laws.proofs.Whole.{runs_headline}
+use Rattle.step_relation.specs.Could.{IsPossible}
+use Rattle.step_relation.specs.Headline.{AtPrefix, FitsIn, Headline}
+use Rattle.history_laws.proofs.headline.Empty.{empty_is_sound}
+use Rattle.graph_laws.proofs.whole.Whole.{runs_headline}
 use Rattle.next_laws.proofs.Listings.{cons_cases, no_member}
 use Rattle.history_examples.specs.Sentences.{Asked, Causes, CompleteFits, Completes, Follows, Holds, Marks, Named}
 use Rattle.history_examples.specs.Sentences.{Quiet}

@@ -15,13 +15,13 @@ use Rattle.row_table.specs.declared.row.Row.{Row}
 use Rattle.core_state.specs.declared.entry.Actor.TheVariants.{Engine}
 use Rattle.core_state.specs.declared.entry.Entry.{Entry}
 use Rattle.core_state.specs.declared.entry.RowWrite.TheVariants.{Purge}
-use Rattle.history.specs.Could.{could_of}
-use Rattle.history.specs.Fits.{Fits, HasExactly}
-use Rattle.history.specs.Marked.{Completed, mark_of}
-use Rattle.history.specs.Tokens.{HasRow, token_at}
-use Rattle.soundness.specs.Headline.{AtPrefix, MayBeAsked, MayBeReleased, poll}
-use Rattle.table_laws.proofs.Puts.{contains_head, contains_none}
-use Rattle.table_laws.proofs.Rows.{same_some}
+use Rattle.step_relation.specs.Could.{could_of}
+use Rattle.step_relation.specs.Fits.{Fits, HasExactly}
+use Rattle.step_relation.specs.Marked.{Completed, mark_of}
+use Rattle.step_relation.specs.Tokens.{HasRow, token_at}
+use Rattle.step_relation.specs.Headline.{AtPrefix, MayBeAsked, MayBeReleased, poll}
+use Rattle.history_laws.proofs.tables.Puts.{contains_head, contains_none}
+use Rattle.history_laws.proofs.tables.Rows.{same_some}
 use Rattle.next_laws.proofs.Listings.{in_head, in_tail}
 use Rattle.history_examples.specs.Created.{asked, created, finish_tells, history, poll_tells, until_asked}
 use Rattle.history_examples.specs.FirstRow.{row_done}

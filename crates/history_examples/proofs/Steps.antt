@@ -13,7 +13,7 @@ use Rattle.step_relation.specs.Steps.{command, turn}
 use Rattle.step_relation.specs.Turns.{Turn}
 use Rattle.step_relation.specs.Unjudged.{unjudged}
 use Rattle.next_laws.proofs.Worn.{call_not_worn, quiet_not_worn}
-use Rattle.table_laws.proofs.Puts.{contains_head}
+use Rattle.history_laws.proofs.tables.Puts.{contains_head}
 use Rattle.history_examples.specs.Setting.{opening, registries}
 use Rattle.history_examples.proofs.Worn.{all_small, unworn}
 use Rattle.heat_plan.specs.declared.calls.Answered.TheVariants as reply

@@ -19,13 +19,13 @@ use Rattle.step_relation.specs.Takes.{IsHolder, Takes}
 use Rattle.step_relation.specs.Targets.{of_u}
 use Rattle.step_relation.specs.Turns.{plain, unfailed}
 use Rattle.step_relation.specs.Unjudged.{unjudged}
-use Rattle.history.specs.Could.{IsPossible}
-use Rattle.history.specs.Fits.{Fits, HasExactly}
-use Rattle.history.specs.Tokens.{token_at}
-use Rattle.soundness.specs.Headline.{Headline}
-use Rattle.edge_laws.proofs.Keeping.{only_one}
-use Rattle.table_laws.proofs.Puts.{contains_head}
-use Rattle.table_laws.proofs.Rows.{job-key, letter-key}
+use Rattle.step_relation.specs.Could.{IsPossible}
+use Rattle.step_relation.specs.Fits.{Fits, HasExactly}
+use Rattle.step_relation.specs.Tokens.{token_at}
+use Rattle.step_relation.specs.Headline.{Headline}
+use Rattle.history_laws.proofs.edges.Keeping.{only_one}
+use Rattle.history_laws.proofs.tables.Puts.{contains_head}
+use Rattle.history_laws.proofs.tables.Rows.{job-key, letter-key}
 use Rattle.history_examples.specs.Created.{until_asked}
 use Rattle.history_examples.specs.FirstRow.{row_begun}
 use Rattle.history_examples.specs.Overtaken.{overtaken}

@@ -23,12 +23,12 @@ use Rattle.step_relation.specs.Takes.{Relays, Takes}
 use Rattle.step_relation.specs.Targets.{of_u}
 use Rattle.step_relation.specs.Turns.{plain, unfailed}
 use Rattle.step_relation.specs.Unjudged.{unjudged}
-use Rattle.history.specs.Could.{could_of}
-use Rattle.history.specs.Tokens.{HasRow}
-use Rattle.soundness.specs.Headline.{Headline}
-use Rattle.edge_laws.proofs.Keeping.{only_one}
-use Rattle.table_laws.proofs.Puts.{contains_head, contains_none}
-use Rattle.table_laws.proofs.Rows.{job-key, letter-key}
+use Rattle.step_relation.specs.Could.{could_of}
+use Rattle.step_relation.specs.Tokens.{HasRow}
+use Rattle.step_relation.specs.Headline.{Headline}
+use Rattle.history_laws.proofs.edges.Keeping.{only_one}
+use Rattle.history_laws.proofs.tables.Puts.{contains_head, contains_none}
+use Rattle.history_laws.proofs.tables.Rows.{job-key, letter-key}
 use Rattle.next_laws.proofs.Listings.{in_head}
 use Rattle.history_examples.specs.Created.{asked, graph, point, stack, until_asked}
 use Rattle.history_examples.specs.FirstRow.{row_begun}

@@ -28,12 +28,12 @@ use Rattle.step_relation.specs.Runs.{Run, nothing}
 use Rattle.step_relation.specs.Takes.{Takes}
 use Rattle.step_relation.specs.Targets.{of_c}
 use Rattle.step_relation.specs.Turns.{plain, stays, unfailed}
-use Rattle.history.specs.Could.{IsPossible}
-use Rattle.history.specs.Fits.{Fits}
-use Rattle.history.specs.Tokens.{IsCertain}
-use Rattle.soundness.specs.Headline.{Headline}
-use Rattle.table_laws.proofs.Puts.{contains_head, contains_none}
-use Rattle.table_laws.proofs.Rows.{letter-key}
+use Rattle.step_relation.specs.Could.{IsPossible}
+use Rattle.step_relation.specs.Fits.{Fits}
+use Rattle.step_relation.specs.Tokens.{IsCertain}
+use Rattle.step_relation.specs.Headline.{Headline}
+use Rattle.history_laws.proofs.tables.Puts.{contains_head, contains_none}
+use Rattle.history_laws.proofs.tables.Rows.{letter-key}
 use Rattle.history_examples.specs.FailedFirst.{row_failed_under}
 use Rattle.history_examples.specs.RolledBack.{going_back, going_back_under, graph_back, stack_back}
 use Rattle.history_examples.specs.Setting.{letter, living, opening, registries, stack_name, token}

@@ -39,9 +39,9 @@ use Rattle.step_relation.specs.Runs.{Run, nothing, props}
 use Rattle.step_relation.specs.Takes.{Takes}
 use Rattle.step_relation.specs.Targets.{IsCurrentOf, of_u}
 use Rattle.step_relation.specs.Turns.{plain, unfailed}
-use Rattle.edge_laws.proofs.Keeping.{last_is, only_one}
-use Rattle.table_laws.proofs.Puts.{contains_head}
-use Rattle.table_laws.proofs.Rows.{letter-key, row-key, same_some}
+use Rattle.history_laws.proofs.edges.Keeping.{last_is, only_one}
+use Rattle.history_laws.proofs.tables.Puts.{contains_head}
+use Rattle.history_laws.proofs.tables.Rows.{letter-key, row-key, same_some}
 use Rattle.history_examples.specs.Created.{commanded, graph, past, stack}
 use Rattle.history_examples.specs.FirstRow.{row_made}
 use Rattle.history_examples.specs.Setting.{item, item_name, job, letter, opening, plan, registries, sized, stack_name}

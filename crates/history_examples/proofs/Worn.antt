@@ -5,7 +5,7 @@ use Rattle.std.proofs.lemmas.Bool.Decides.{Decides-ltb}
 use Rattle.core_state.specs.declared.change.Change.{Change}
 use Rattle.core_state.specs.declared.change.Change.TheVariants.{PutRow}
 use Rattle.step_relation.specs.Turns.{IsWorn, Overflows, engine, key, letter, row, stack, trav}
-use Rattle.table_laws.proofs.Puts.{contains_cases, contains_none}
+use Rattle.history_laws.proofs.tables.Puts.{contains_cases, contains_none}
 use Rattle.core_state.specs.declared.change.Change.TheVariants as change_to
 
 -- no number and no key is near 2^62

@@ -7,12 +7,12 @@ use Rattle.core_state.specs.declared.entry.Entry.{Entry}
 use Rattle.core_state.specs.declared.entry.MailWrite.TheVariants.{Sent}
 use Rattle.step_relation.specs.Freshness.{plan_of}
 use Rattle.step_relation.specs.Runs.{Run}
-use Rattle.history.specs.Could.{could_of}
-use Rattle.history.specs.Last.{IsLast}
-use Rattle.history.specs.Marked.{Unmarked, mark_of}
-use Rattle.history.specs.Newest.{newest}
-use Rattle.history.specs.Stored.{stored}
-use Rattle.soundness.specs.Headline.{Headline}
+use Rattle.step_relation.specs.Could.{could_of}
+use Rattle.step_relation.specs.Last.{IsLast}
+use Rattle.step_relation.specs.Marked.{Unmarked, mark_of}
+use Rattle.step_relation.specs.Newest.{newest}
+use Rattle.step_relation.specs.Stored.{stored}
+use Rattle.step_relation.specs.Headline.{Headline}
 use Rattle.history_examples.specs.Created.{asked, until_asked}
 use Rattle.history_examples.specs.FirstRow.{row_begun}
 use Rattle.history_examples.specs.RolledBack.{graph_back, stack_back}

@@ -18,11 +18,11 @@ use Rattle.core_state.specs.declared.graph.Graph.{Graph}
 use Rattle.core_state.specs.declared.past.Past.{Past}
 use Rattle.core_state.specs.declared.stack.Stack.{Stack}
 use Rattle.step_relation.specs.Runs.{Run}
-use Rattle.history.specs.Could.{could_of}
-use Rattle.history.specs.Fits.{Fits}
-use Rattle.history.specs.Marked.{Completed, mark_of}
-use Rattle.history.specs.Stored.{stored}
-use Rattle.soundness.specs.Headline.{Headline}
+use Rattle.step_relation.specs.Could.{could_of}
+use Rattle.step_relation.specs.Fits.{Fits}
+use Rattle.step_relation.specs.Marked.{Completed, mark_of}
+use Rattle.step_relation.specs.Stored.{stored}
+use Rattle.step_relation.specs.Headline.{Headline}
 use Rattle.history_examples.specs.FirstRow.{row_begun_under, row_done, row_made_under, row_ready, row_taken_under}
 use Rattle.history_examples.specs.Setting.{facts, item_name, job, letter, living, mail_writes, opening, plan}
 use Rattle.history_examples.specs.Setting.{plan_under}

@@ -17,11 +17,11 @@ use Rattle.core_state.specs.declared.entry.RowWrite.TheVariants.{Purge, Set}
 use Rattle.core_state.specs.declared.graph.Graph.{Graph}
 use Rattle.step_relation.specs.Freshness.{plan_of}
 use Rattle.step_relation.specs.Runs.{Run}
-use Rattle.history.specs.Could.{could_of}
-use Rattle.history.specs.Fits.{Fits}
-use Rattle.history.specs.Marked.{Completed, mark_of}
-use Rattle.history.specs.Stored.{stored}
-use Rattle.soundness.specs.Headline.{Headline}
+use Rattle.step_relation.specs.Could.{could_of}
+use Rattle.step_relation.specs.Fits.{Fits}
+use Rattle.step_relation.specs.Marked.{Completed, mark_of}
+use Rattle.step_relation.specs.Stored.{stored}
+use Rattle.step_relation.specs.Headline.{Headline}
 use Rattle.history_examples.specs.Completed.{facts_two, row_made, row_old, row_ready}
 use Rattle.history_examples.specs.DeletedHalfway.{deleting, two_rows}
 use Rattle.history_examples.specs.Sentences.{CompleteFits, Completes}

@@ -11,11 +11,11 @@ use Rattle.core_state.specs.declared.entry.MailWrite.TheVariants.{Sent}
 use Rattle.core_state.specs.declared.graph.Graph.{Graph}
 use Rattle.core_state.specs.declared.stack.Stack.{Stack}
 use Rattle.step_relation.specs.Runs.{Run}
-use Rattle.history.specs.Could.{could_of}
-use Rattle.history.specs.Marked.{Unmarked, mark_of}
-use Rattle.history.specs.Newest.{newest}
-use Rattle.history.specs.Stored.{stored}
-use Rattle.soundness.specs.Headline.{Headline}
+use Rattle.step_relation.specs.Could.{could_of}
+use Rattle.step_relation.specs.Marked.{Unmarked, mark_of}
+use Rattle.step_relation.specs.Newest.{newest}
+use Rattle.step_relation.specs.Stored.{stored}
+use Rattle.step_relation.specs.Headline.{Headline}
 use Rattle.history_examples.specs.FirstRow.{row_done}
 use Rattle.history_examples.specs.Sentences.{CompleteFits, Completes}
 use Rattle.history_examples.specs.Setting.{facts, letter, living, opening, plan, registries, says, stack_name, token}

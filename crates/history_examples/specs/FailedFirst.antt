@@ -12,10 +12,10 @@ use Rattle.core_state.specs.declared.entry.Entry.{Entry}
 use Rattle.core_state.specs.declared.entry.MailWrite.TheVariants.{Ended}
 use Rattle.core_state.specs.declared.entry.RowWrite.TheVariants.{Set}
 use Rattle.step_relation.specs.Runs.{Run}
-use Rattle.history.specs.Could.{could_of}
-use Rattle.history.specs.Marked.{FailedFor, Unmarked, mark_of}
-use Rattle.history.specs.Stored.{stored}
-use Rattle.soundness.specs.Headline.{Headline}
+use Rattle.step_relation.specs.Could.{could_of}
+use Rattle.step_relation.specs.Marked.{FailedFor, Unmarked, mark_of}
+use Rattle.step_relation.specs.Stored.{stored}
+use Rattle.step_relation.specs.Headline.{Headline}
 use Rattle.history_examples.specs.Created.{begun, stack, until_begun}
 use Rattle.history_examples.specs.FirstRow.{row_begun_under}
 use Rattle.history_examples.specs.Sentences.{Asked}

@@ -15,10 +15,10 @@ use Rattle.core_state.specs.declared.entry.MailWrite.TheVariants.{Held}
 use Rattle.core_state.specs.declared.entry.RowWrite.TheVariants.{Set}
 use Rattle.step_relation.specs.Runs.{Judges, Run}
 use Rattle.step_relation.specs.Unjudged.{unjudged}
-use Rattle.history.specs.Could.{could_of}
-use Rattle.history.specs.Marked.{Unmarked, mark_of}
-use Rattle.history.specs.Stored.{stored}
-use Rattle.soundness.specs.Headline.{Headline}
+use Rattle.step_relation.specs.Could.{could_of}
+use Rattle.step_relation.specs.Marked.{Unmarked, mark_of}
+use Rattle.step_relation.specs.Stored.{stored}
+use Rattle.step_relation.specs.Headline.{Headline}
 use Rattle.history_examples.specs.FirstRow.{row_done}
 use Rattle.history_examples.specs.Sentences.{Rows}
 use Rattle.history_examples.specs.Setting.{job, letter, living, mail_writes, opening, plan, row_writes, says, sized}

@@ -8,12 +8,12 @@ use Rattle.core_state.specs.declared.entry.Entry.{Entry}
 use Rattle.core_state.specs.declared.entry.MailWrite.TheVariants.{Ended, Sent}
 use Rattle.core_state.specs.declared.entry.RowWrite.TheVariants.{Set}
 use Rattle.step_relation.specs.Runs.{Run}
-use Rattle.history.specs.Could.{could_of}
-use Rattle.history.specs.Marked.{Unmarked, mark_of}
-use Rattle.history.specs.Newest.{newest}
-use Rattle.history.specs.Stored.{stored}
-use Rattle.soundness.specs.Headline.{Headline}
-use Rattle.soundness.specs.Stir.{EachStirs}
+use Rattle.step_relation.specs.Could.{could_of}
+use Rattle.step_relation.specs.Marked.{Unmarked, mark_of}
+use Rattle.step_relation.specs.Newest.{newest}
+use Rattle.step_relation.specs.Stored.{stored}
+use Rattle.step_relation.specs.Headline.{Headline}
+use Rattle.step_relation.specs.Stir.{EachStirs}
 use Rattle.history_examples.specs.Created.{poll_tells, until_asked}
 use Rattle.history_examples.specs.FirstRow.{row_begun, row_done, row_ready}
 use Rattle.history_examples.specs.Sentences.{Completes, Marks}

@@ -9,11 +9,11 @@ use Rattle.core_state.specs.declared.entry.MailWrite.TheVariants.{Held}
 use Rattle.core_state.specs.declared.entry.RowWrite.TheVariants.{Purge}
 use Rattle.step_relation.specs.Freshness.{plan_of}
 use Rattle.step_relation.specs.Runs.{Run}
-use Rattle.history.specs.Could.{could_of}
-use Rattle.history.specs.Fits.{Fits}
-use Rattle.history.specs.Marked.{Completed, mark_of}
-use Rattle.history.specs.Stored.{released, stored}
-use Rattle.soundness.specs.Headline.{Headline}
+use Rattle.step_relation.specs.Could.{could_of}
+use Rattle.step_relation.specs.Fits.{Fits}
+use Rattle.step_relation.specs.Marked.{Completed, mark_of}
+use Rattle.step_relation.specs.Stored.{released, stored}
+use Rattle.step_relation.specs.Headline.{Headline}
 use Rattle.history_examples.specs.Sentences.{Releases}
 use Rattle.history_examples.specs.Setting.{living, mail_writes, opening, registries, row_writes, says, stack_name}
 use Rattle.history_examples.specs.Setting.{token}

@@ -14,11 +14,11 @@ use Rattle.core_state.specs.declared.graph.Graph.{Graph}
 use Rattle.core_state.specs.declared.stack.Stack.{Stack}
 use Rattle.step_relation.specs.Freshness.{plan_of}
 use Rattle.step_relation.specs.Runs.{Run}
-use Rattle.history.specs.Could.{could_of}
-use Rattle.history.specs.Marked.{Unmarked, mark_of}
-use Rattle.history.specs.Newest.{newest}
-use Rattle.history.specs.Stored.{stored}
-use Rattle.soundness.specs.Headline.{Headline}
+use Rattle.step_relation.specs.Could.{could_of}
+use Rattle.step_relation.specs.Marked.{Unmarked, mark_of}
+use Rattle.step_relation.specs.Newest.{newest}
+use Rattle.step_relation.specs.Stored.{stored}
+use Rattle.step_relation.specs.Headline.{Headline}
 use Rattle.history_examples.specs.Created.{begun_under, until_begun, until_begun_under}
 use Rattle.history_examples.specs.FailedFirst.{fail_tells, fail_tells_under, row_failed, row_failed_under}
 use Rattle.history_examples.specs.Sentences.{Follows}

@@ -15,17 +15,17 @@ use Rattle.core_state.specs.declared.entry.Entry.{Entry}
 use Rattle.step_relation.specs.Freshness.{plan_of}
 use Rattle.step_relation.specs.Rows.{token_of}
 use Rattle.step_relation.specs.Writes.{entry_of}
-use Rattle.history.specs.Caused.{IsCaused}
-use Rattle.history.specs.Could.{could_of}
-use Rattle.history.specs.Fits.{Fits}
-use Rattle.history.specs.Last.{IsLast}
-use Rattle.history.specs.Marked.{Completed, mark_of}
-use Rattle.history.specs.Newest.{Latest, newest}
-use Rattle.history.specs.Opening.{Opening}
-use Rattle.history.specs.Stored.{stored}
-use Rattle.history.specs.Tokens.{IsNamed}
-use Rattle.soundness.specs.Agrees.{StateFits}
-use Rattle.soundness.specs.Headline.{AtPrefix, EndsFailed, FitsIn, IsOfNewest, MayBeAsked, MayBeReleased}
+use Rattle.step_relation.specs.Caused.{IsCaused}
+use Rattle.step_relation.specs.Could.{could_of}
+use Rattle.step_relation.specs.Fits.{Fits}
+use Rattle.step_relation.specs.Last.{IsLast}
+use Rattle.step_relation.specs.Marked.{Completed, mark_of}
+use Rattle.step_relation.specs.Newest.{Latest, newest}
+use Rattle.step_relation.specs.Opening.{Opening}
+use Rattle.step_relation.specs.Stored.{stored}
+use Rattle.step_relation.specs.Tokens.{IsNamed}
+use Rattle.step_relation.specs.Agrees.{StateFits}
+use Rattle.step_relation.specs.Headline.{AtPrefix, EndsFailed, FitsIn, IsOfNewest, MayBeAsked, MayBeReleased}
 use Rattle.core_state.specs.declared.entry.What.TheVariants as what
 
 pub data Sentence : Type 0 where

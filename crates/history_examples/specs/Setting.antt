@@ -20,7 +20,7 @@ use Rattle.core_state.specs.declared.entry.What.{What}
 use Rattle.provider.specs.Table.{Living}
 use Rattle.step_relation.specs.Runs.{Judges}
 use Rattle.step_relation.specs.Unjudged.{unjudged}
-use Rattle.history.specs.Opening.{Opening, empty_opening}
+use Rattle.step_relation.specs.Opening.{Opening, empty_opening}
 use Rattle.core_state.specs.declared.entry.What.TheVariants as what
 
 -- the stack and its resource

@@ -6,8 +6,8 @@ use Rattle.core_state.specs.declared.entry.Actor.TheVariants.{Engine}
 use Rattle.core_state.specs.declared.entry.Entry.{Entry}
 use Rattle.core_state.specs.declared.entry.RowWrite.TheVariants.{Purge}
 use Rattle.step_relation.specs.Runs.{Judges, Run}
-use Rattle.history.specs.Could.{IsPossible}
-use Rattle.soundness.specs.Headline.{Headline}
+use Rattle.step_relation.specs.Could.{IsPossible}
+use Rattle.step_relation.specs.Headline.{Headline}
 use Rattle.history_examples.specs.Created.{history, until_asked}
 use Rattle.history_examples.specs.Sentences.{CompleteFits, Completes, Holds, Marks, Named, Quiet, Releases, Sentence}
 use Rattle.history_examples.specs.Setting.{facts, opening, row_writes, says, stack_name, token}

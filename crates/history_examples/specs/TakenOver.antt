@@ -8,10 +8,10 @@ use Rattle.core_state.specs.declared.entry.Entry.{Entry}
 use Rattle.core_state.specs.declared.entry.MailWrite.TheVariants.{Dropped, Ended, Held, Sent}
 use Rattle.core_state.specs.declared.entry.RowWrite.TheVariants.{Purge, Set}
 use Rattle.step_relation.specs.Runs.{Run}
-use Rattle.history.specs.Could.{could_of}
-use Rattle.history.specs.Marked.{Unmarked, mark_of}
-use Rattle.history.specs.Stored.{stored}
-use Rattle.soundness.specs.Headline.{Headline}
+use Rattle.step_relation.specs.Could.{could_of}
+use Rattle.step_relation.specs.Marked.{Unmarked, mark_of}
+use Rattle.step_relation.specs.Stored.{stored}
+use Rattle.step_relation.specs.Headline.{Headline}
 use Rattle.history_examples.specs.Created.{asked, until_asked}
 use Rattle.history_examples.specs.FirstRow.{row_begun}
 use Rattle.history_examples.specs.Sentences.{Named}

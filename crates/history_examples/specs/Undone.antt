@@ -17,11 +17,11 @@ use Rattle.core_state.specs.declared.graph.Graph.{Graph}
 use Rattle.core_state.specs.declared.stack.Stack.{Stack}
 use Rattle.step_relation.specs.Freshness.{plan_of}
 use Rattle.step_relation.specs.Runs.{Run}
-use Rattle.history.specs.Could.{could_of}
-use Rattle.history.specs.Fits.{Fits}
-use Rattle.history.specs.Marked.{Completed, mark_of}
-use Rattle.history.specs.Stored.{stored}
-use Rattle.soundness.specs.Headline.{Headline}
+use Rattle.step_relation.specs.Could.{could_of}
+use Rattle.step_relation.specs.Fits.{Fits}
+use Rattle.step_relation.specs.Marked.{Completed, mark_of}
+use Rattle.step_relation.specs.Stored.{stored}
+use Rattle.step_relation.specs.Headline.{Headline}
 use Rattle.history_examples.specs.FailedFirst.{row_failed_under}
 use Rattle.history_examples.specs.RolledBack.{going_back_under, one_row, stack_back}
 use Rattle.history_examples.specs.Sentences.{CompleteFits, Completes}

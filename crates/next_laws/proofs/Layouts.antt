@@ -8,7 +8,7 @@ use Rattle.row_table.specs.Rows.{row_key}
 use Rattle.row_table.specs.declared.row.Row.{Row}
 use Rattle.core_state.specs.State.{StateData}
 use Rattle.step_relation.specs.Commands.{AreRowsOf, Chooses, IsLeaf, Lays, brief_of, current, fresh, none}
-use Rattle.table_laws.proofs.Targets.{current_once}
+use Rattle.history_laws.proofs.tables.Targets.{current_once}
 use Rattle.next_laws.specs.OneTurn.{LayoutIsOne}
 use Rattle.next_laws.proofs.Graphs.{graph_one}
 use Rattle.next_laws.proofs.Listings.{listing_one, rising_one}

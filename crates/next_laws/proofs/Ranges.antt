@@ -40,8 +40,8 @@ use Rattle.step_relation.specs.Takes.{relayed_letter, released_changes}
 use Rattle.step_relation.specs.Asks.{failed_changes}
 use Rattle.step_relation.specs.Turns.{IsWorn, Overflows, Turn, engine, key, letter, row, stack, trav}
 use Rattle.step_relation.specs.Writes.{draw_letters, lock, mark_complete, mark_failed, unlock}
-use Rattle.table_laws.proofs.Puts.{all_append, all_contains}
-use Rattle.table_laws.proofs.Rows.{row_cut, row_put, row_self}
+use Rattle.history_laws.proofs.tables.Puts.{all_append, all_contains}
+use Rattle.history_laws.proofs.tables.Rows.{row_cut, row_put, row_self}
 use Rattle.next_laws.specs.Range.{DrawsLast, IsInRange, RaisesLast, StepsStayInRange, Wears, WornLayoutWears}
 use Rattle.next_laws.specs.Range.{WornTurnWears, draws, raises}
 use Rattle.next_laws.proofs.Listings.{cons_cases, in_head, in_tail, no_member}

@@ -18,8 +18,8 @@ use Rattle.step_relation.specs.Nexts.{IsLowest, TakesOver, Works}
 use Rattle.step_relation.specs.Resends.{AwaitsCleanup, AwaitsUpdate, HasGraph, Resends, cleanup, nobody, update}
 use Rattle.step_relation.specs.Takes.{IsHolder}
 use Rattle.step_relation.specs.Targets.{IsTarget}
-use Rattle.table_laws.proofs.Rows.{same_some}
-use Rattle.table_laws.proofs.Targets.{target_once}
+use Rattle.history_laws.proofs.tables.Rows.{same_some}
+use Rattle.history_laws.proofs.tables.Targets.{target_once}
 use Rattle.next_laws.proofs.Listings.{least_one}
 
 pub lowest_one : (letters : List Letter) (l m : Letter) → IsLowest letters l → IsLowest letters m → l ≡ m

@@ -11,7 +11,7 @@ use Rattle.step_relation.specs.Given.{Given}
 use Rattle.step_relation.specs.Moves.{Move}
 use Rattle.step_relation.specs.Orders.{plan_back, rollback_sets}
 use Rattle.step_relation.specs.Turns.{FollowsFailure, IsDue, IsPlain, Turn, plain, rolls, stays, unfailed}
-use Rattle.table_laws.proofs.Rows.{same_some}
+use Rattle.history_laws.proofs.tables.Rows.{same_some}
 use Rattle.next_laws.specs.OneTurn.{TurnIsOne}
 use Rattle.next_laws.proofs.Layouts.{layout_one}
 use Rattle.next_laws.proofs.Outcomes.{move_one}

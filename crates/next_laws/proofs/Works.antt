@@ -27,7 +27,7 @@ use Rattle.step_relation.specs.Finishes.{Finishes}
 use Rattle.step_relation.specs.Freshness.{plan_of}
 use Rattle.step_relation.specs.Inputs.{IsRequired, input_of, passed}
 use Rattle.step_relation.specs.Takes.{HasNoHolder, IsHolder, IsIdleLetter, Takes, done, held, outdated}
-use Rattle.table_laws.proofs.Rows.{same_some}
+use Rattle.history_laws.proofs.tables.Rows.{same_some}
 use Rattle.next_laws.proofs.Listings.{listing_one}
 use Rattle.next_laws.proofs.Readings.{fresh_one, holder_one, lowest_one, meant_one, names_one, resends_one, works_one}
 

@@ -24,7 +24,7 @@ use Rattle.step_relation.specs.Freshness.{plan_of}
 use Rattle.step_relation.specs.Orders.{back_after, past_of, plan_back, rollback_sets, row_limit}
 use Rattle.step_relation.specs.Turns.{FollowsFailure, IsDue}
 use Rattle.step_relation.specs.Writes.{entry_of, mail_entry, rows_entry}
-use Rattle.table_laws.proofs.Rows.{same_some, stack_here}
+use Rattle.history_laws.proofs.tables.Rows.{same_some, stack_here}
 use Rattle.step_ends.specs.Marks.{IsRewritten, marking}
 use Rattle.step_ends.proofs.Rewrites.{length_put, still_chooses, still_rows}
 

@@ -30,7 +30,7 @@ use Rattle.step_relation.specs.Writes.{call_entry}
 use Rattle.step_parts.specs.Turns.{IsTurn, IsTurnRefusal}
 use Rattle.step_parts.specs.Turns.IsTurnRefusal.{memory as turn_memory, worn as turn_worn}
 use Rattle.next_laws.proofs.Worn.{call_not_worn}
-use Rattle.table_laws.proofs.Rows.{same_some}
+use Rattle.history_laws.proofs.tables.Rows.{same_some}
 use Rattle.step_ends.specs.Answers.{AnswersAsk, AnswersPoll, CallLasts, IsAsking, IsBegun, IsCall, IsCallRefusal, IsFailing, IsReason, IsTold, of_code, of_failure, of_quota, waits, readies, goes}
 use Rattle.step_ends.specs.Answers as asking
 use Rattle.step_ends.specs.Answers.IsCallRefusal.{memory as call_memory, worn as call_worn}

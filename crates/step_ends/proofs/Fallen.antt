@@ -21,7 +21,7 @@ use Rattle.step_relation.specs.Freshness.{IsOverrun}
 use Rattle.step_relation.specs.Rows.{failed_row}
 use Rattle.step_relation.specs.Turns.{IsDue, IsWorn, stays, unfailed}
 use Rattle.step_reads.specs.Work.{IsFreshOf, fresh_of}
-use Rattle.table_laws.proofs.Rows.{stack-key}
+use Rattle.history_laws.proofs.tables.Rows.{stack-key}
 use Rattle.step_ends.specs.Falls.{IsEnded, IsFallen, OrWorn, plain, rolls}
 use Rattle.step_ends.specs.Falls.OrWorn.{memory as fall_memory, worn as fall_worn}
 use Rattle.step_ends.specs.Marks.{IsBehindRefusal, IsRewritten, RollsBehind, marking}

@@ -25,7 +25,7 @@ use Rattle.next_laws.proofs.Parts.{Kind, Part, placed, refuses}
 use Rattle.next_laws.proofs.Readings.{works_one}
 use Rattle.next_laws.proofs.Turns.{Whole, by_move, follows, stops}
 use Rattle.next_laws.proofs.Worn.{call_not_worn}
-use Rattle.table_laws.proofs.Rows.{same_some}
+use Rattle.history_laws.proofs.tables.Rows.{same_some}
 use Rattle.step_ends.specs.Falls.{IsEnded, plain as ended_plain, rolls as ended_rolls}
 use Rattle.step_ends.specs.Lost.{LostAnswerIsAStep, broken, ready}
 use Rattle.step_ends.specs.declared.falling.Failure.{Failure}

@@ -25,7 +25,7 @@ use Rattle.step_parts.specs.Rooms.{MayRise}
 use Rattle.step_parts.specs.Turns.{IsTurn, IsTurnRefusal, memory as turn_memory, worn as turn_worn}
 use Rattle.command_steps.specs.Answers.{OrMemory, WearsOutBehind}
 use Rattle.next_laws.proofs.Worn.{quiet_not_worn}
-use Rattle.table_laws.proofs.Puts.{contains_head}
+use Rattle.history_laws.proofs.tables.Puts.{contains_head}
 use Rattle.step_ends.specs.Marks.{IsBehindRefusal, memory as behind_memory, worn as behind_worn}
 use Rattle.step_ends.specs.Releases.{IsAgainRefusal, IsRelease, IsReleaseRefusal}
 use Rattle.step_ends.specs.Releases.IsReleaseRefusal.{memory as release_memory, worn as release_worn}

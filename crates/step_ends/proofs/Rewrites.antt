@@ -11,8 +11,8 @@ use Rattle.row_table.specs.declared.row.Row.{Row}
 use Rattle.core_state.specs.State.{StateData}
 use Rattle.step_relation.specs.Commands.{AreRowsOf, Chooses, brief_of, current, fresh, none}
 use Rattle.step_relation.specs.Targets.{HasNoCurrent, IsCurrentOf}
-use Rattle.table_laws.proofs.Puts.{contains_cases, contains_head, contains_none, contains_there}
-use Rattle.table_laws.proofs.Rows.{row-key, row_else, row_here, row_put, same_or_not, same_some}
+use Rattle.history_laws.proofs.tables.Puts.{contains_cases, contains_head, contains_none, contains_there}
+use Rattle.history_laws.proofs.tables.Rows.{row-key, row_else, row_here, row_put, same_or_not, same_some}
 use Rattle.step_ends.specs.Marks.{IsRewritten}
 
 -- as many rows as before

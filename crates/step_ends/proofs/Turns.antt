@@ -20,7 +20,7 @@ use Rattle.step_relation.specs.Moves.{Move, ask_failed, poll_failed}
 use Rattle.step_relation.specs.Rows.{failed_row}
 use Rattle.step_relation.specs.Turns.{IsWorn, Turn, WearsOut, key, letter, plain, rolls}
 use Rattle.step_relation.specs.Writes.{call_entry, draw_letters, mark_failed}
-use Rattle.table_laws.proofs.Puts.{contains_head, contains_there}
+use Rattle.history_laws.proofs.tables.Puts.{contains_head, contains_there}
 use Rattle.step_ends.specs.Answers.{IsCall}
 use Rattle.step_ends.specs.Falls.{IsEnded, IsFallen, plain as ended_plain, rolls as ended_rolls}
 use Rattle.step_ends.specs.declared.falling.Failure.{Failure}

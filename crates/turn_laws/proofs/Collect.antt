@@ -4,7 +4,7 @@ use Rattle.std.proofs.Common.{Option, Some, None, refl, sym, ap, subst, arith}
 use Rattle.std.specs.Prelude.{Contains}
 use Rattle.std.proofs.lemmas.List.{get_or_default}
 use Rattle.dep_graph.specs.Lists.{IsRising, ListsAll}
-use Rattle.table_laws.proofs.Rows.{same_or_not}
+use Rattle.history_laws.proofs.tables.Rows.{same_or_not}
 use Rattle.next_laws.proofs.Listings.{cons_cases, in_head, in_tail, no_member}
 use Rattle.turn_laws.proofs.Decide.{Decided}
 

@@ -5,8 +5,8 @@ use Rattle.std.specs.Prelude.{Contains, nat_eq}
 use Rattle.std.proofs.lemmas.Bool.Decides.{Decides-eqb}
 use Rattle.heat_plan.specs.Tables.{at}
 use Rattle.dep_graph.specs.Lists.{IsLeast}
-use Rattle.table_laws.proofs.Rows.{same_or_not}
-use Rattle.table_laws.proofs.Tables.{cases}
+use Rattle.history_laws.proofs.tables.Rows.{same_or_not}
+use Rattle.history_laws.proofs.tables.Tables.{cases}
 use Rattle.next_laws.proofs.Listings.{cons_cases, in_head, in_tail, no_member}
 
 abbrev pub Decided : Type 0 → Type 0

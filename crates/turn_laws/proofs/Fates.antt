@@ -20,7 +20,7 @@ use Rattle.type_catalog.specs.declared.effect.Effect.TheVariants.{InPlace, Repla
 use Rattle.step_relation.specs.Begins.{IsSame, IsSoft, changed, given_up, overtaken}
 use Rattle.step_relation.specs.Cleanups.{IsKept, IsStuck}
 use Rattle.step_relation.specs.Freshness.{plan_of}
-use Rattle.table_laws.proofs.Rows.{row_self, same_or_not, text_or_not}
+use Rattle.history_laws.proofs.tables.Rows.{row_self, same_or_not, text_or_not}
 use Rattle.next_laws.proofs.Verdicts.{Clears, Decides, Fate, Lot, creates, deletes, gone, keeps, kept, leaves, purges}
 use Rattle.next_laws.proofs.Verdicts.{replaces, resumes, retains, sticks, updates}
 use Rattle.turn_laws.proofs.Decide.{Decided, both_or_not, exchanged, member_or_not}

@@ -17,7 +17,7 @@ use Rattle.row_table.specs.declared.row.Row.{Row}
 use Rattle.core_state.specs.State.{StateData}
 use Rattle.step_relation.specs.Commands.{AreRowsOf, Chooses, IsLeaf, Lays, brief_of, current, fresh, none}
 use Rattle.step_relation.specs.Rows.{new_row}
-use Rattle.table_laws.proofs.Rows.{row-key, same_or_not, text_or_not}
+use Rattle.history_laws.proofs.tables.Rows.{row-key, same_or_not, text_or_not}
 use Rattle.next_laws.proofs.Graphs.{numbers_same}
 use Rattle.turn_laws.proofs.Collect.{all_below, all_of}
 use Rattle.turn_laws.proofs.Decide.{Decided, both_or_not, bound_at, le_or_not, some_or_none}

@@ -22,7 +22,7 @@ use Rattle.step_relation.specs.Freshness.{Names, Serves, cleans, updates}
 use Rattle.step_relation.specs.Given.{Answer, Faulted, Given, Nothing}
 use Rattle.step_relation.specs.Inputs.{IsRequired}
 use Rattle.step_relation.specs.Nexts.{HasLeft, IsIdle, IsLowest, NoLetters, Works}
-use Rattle.table_laws.proofs.Rows.{letter-key, same_or_not}
+use Rattle.history_laws.proofs.tables.Rows.{letter-key, same_or_not}
 use Rattle.turn_laws.specs.HasTurn.{HasWork, NextExists}
 use Rattle.turn_laws.specs.Suits.{Suits, failed, takes, takes_over}
 use Rattle.turn_laws.proofs.Collect.{all_of}

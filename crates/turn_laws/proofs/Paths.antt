@@ -5,7 +5,7 @@ use Rattle.std.specs.Prelude.{Contains}
 use Rattle.dep_graph.specs.Paths.{HasPath, Leads}
 use Rattle.dep_graph.proofs.PathLemmas.{HasPath-append, HasPath-same, HasPath-step, leads_of}
 use Rattle.traversal_graph.specs.Builds.{Considers, Joins, Keeps, begins, goes_on}
-use Rattle.table_laws.proofs.Rows.{same_or_not}
+use Rattle.history_laws.proofs.tables.Rows.{same_or_not}
 use Rattle.next_laws.proofs.Listings.{cons_cases, in_head, in_tail, no_member}
 use Rattle.turn_laws.proofs.Decide.{Decided, both_or_not}
 

@@ -20,8 +20,8 @@ use Rattle.step_relation.specs.Freshness.{IsFresh, IsMeant, Names, Serves, clean
 use Rattle.step_relation.specs.Resends.{IsOpen}
 use Rattle.step_relation.specs.Takes.{HasNoHolder, IsHolder}
 use Rattle.step_relation.specs.Targets.{IsTarget}
-use Rattle.table_laws.proofs.Rows.{same_or_not, same_some}
-use Rattle.table_laws.proofs.Targets.{target_once}
+use Rattle.history_laws.proofs.tables.Rows.{same_or_not, same_some}
+use Rattle.history_laws.proofs.tables.Targets.{target_once}
 use Rattle.next_laws.proofs.Readings.{names_one}
 use Rattle.turn_laws.proofs.Decide.{Decided, both_or_not, bound_at, each_or_one, exchanged, flag_or_not, implied_or_not}
 use Rattle.turn_laws.proofs.Decide.{least_or_none, not_or, some_or_none}

@@ -9,8 +9,8 @@ use Rattle.row_table.specs.Chains.{IsCurrent, Leads, ends, goes}
 use Rattle.row_table.specs.Rows.{row_at, row_key}
 use Rattle.row_table.specs.declared.row.Row.{Row}
 use Rattle.step_relation.specs.Targets.{HasNoCurrent, IsCurrentOf, IsTarget, of_c, of_u, renewed}
-use Rattle.table_laws.proofs.Rows.{row-key, row_self, same_or_not, same_some, text_or_not}
-use Rattle.table_laws.proofs.Targets.{current_once, leads_stands}
+use Rattle.history_laws.proofs.tables.Rows.{row-key, row_self, same_or_not, same_some, text_or_not}
+use Rattle.history_laws.proofs.tables.Targets.{current_once, leads_stands}
 use Rattle.turn_laws.proofs.Decide.{Decided, below_or_not, bound_at, greatest_or_none}
 
 pub delete_or_not : (act : Act) → Decided (act ≡ Delete)

@@ -45,7 +45,7 @@ use Rattle.step_relation.specs.Nexts.{TakesNext, TakesOver, Works}
 use Rattle.step_relation.specs.Orders.{IsForward, of_create, of_update, past_of, plan_back, rollback_sets}
 use Rattle.step_relation.specs.Takes.{Releases, Takes, done, held, outdated}
 use Rattle.step_relation.specs.Turns.{IsDue, Turn, plain, rolls, stays, unfailed}
-use Rattle.table_laws.proofs.Rows.{same_or_not, stack-key, stack_here}
+use Rattle.history_laws.proofs.tables.Rows.{same_or_not, stack-key, stack_here}
 use Rattle.next_laws.proofs.Verdicts.{Clears, Decides, Fate, Lot, creates, deletes, gone, keeps, kept, leaves, purges}
 use Rattle.next_laws.proofs.Verdicts.{replaces, resumes, retains, sticks, updates}
 use Rattle.turn_laws.specs.HasTurn.{TurnExists}

@@ -14,8 +14,8 @@ use Rattle.core_state.specs.declared.stack.Stack.{Stack}
 use Rattle.step_relation.specs.Asks.{Falls, marked, marks, overrun}
 use Rattle.step_relation.specs.Resends.{AwaitsCleanup, AwaitsUpdate, HasGraph, Resends, cleanup, nobody, update}
 use Rattle.step_relation.specs.Targets.{IsTarget}
-use Rattle.table_laws.proofs.Rows.{same_or_not, same_some}
-use Rattle.table_laws.proofs.Targets.{target_once}
+use Rattle.history_laws.proofs.tables.Rows.{same_or_not, same_some}
+use Rattle.history_laws.proofs.tables.Targets.{target_once}
 use Rattle.turn_laws.proofs.Decide.{Decided, least_or_none}
 use Rattle.turn_laws.proofs.Sights.{fresh_or_not, open_or_not}
 use Rattle.turn_laws.proofs.Targets.{target_or_none}

@@ -22,22 +22,22 @@ use Rattle.step_relation.specs.Asks.{Asks, Polls}
 use Rattle.step_relation.specs.Freshness.{IsFresh, IsMeant, IsOutdated, IsOverrun, Names, cleans, plan_of}
 use Rattle.step_relation.specs.Rows.{token_of}
 use Rattle.step_relation.specs.Targets.{IsTarget, of_c}
-use Rattle.history.specs.Could.{could_of}
-use Rattle.soundness.specs.Agrees.{IsGoing}
-use Rattle.soundness.specs.Headline.{MayBeAsked, create, delete, gone, poll, update}
-use Rattle.soundness.specs.MailFits.{IsNewest, IsStale, IsUnderWay}
-use Rattle.soundness.specs.RowsFit.{RowFits}
-use Rattle.soundness.specs.Sound.{Standing}
+use Rattle.step_relation.specs.Could.{could_of}
+use Rattle.step_relation.specs.Agrees.{IsGoing}
+use Rattle.step_relation.specs.Headline.{MayBeAsked, create, delete, gone, poll, update}
+use Rattle.step_relation.specs.MailFits.{IsNewest, IsStale, IsUnderWay}
+use Rattle.step_relation.specs.RowsFit.{RowFits}
+use Rattle.step_relation.specs.Sound.{Standing}
 use Rattle.turn_laws.proofs.Below.{named_fits}
 use Rattle.turn_laws.proofs.Below.{fresh_of_newest, item_of}
 use Rattle.turn_laws.proofs.Below.{same_some, stack-key}
-use Rattle.headline_laws.proofs.Items.{All-among}
+use Rattle.history_laws.proofs.headline.Items.{All-among}
 use Rattle.turn_laws.specs.HasTurn.{IsAskable}
 use Rattle.work_laws.specs.Found.{CallsMayBeMade, CallsStand, IsAskedAt, OldIsStale, PointsStand, SoundHasWork, asks}
 use Rattle.work_laws.specs.Found.{polls}
 use Rattle.step_relation.specs.Asks as call
 use Rattle.step_relation.specs.Freshness as work
-use Rattle.soundness.specs.MailFits as stages
+use Rattle.step_relation.specs.MailFits as stages
 
 -- a row under way is at CREATE, UPDATE or DELETE, and so something is asked for it
 asked_for : (r : Row) → RowFits r → r.status ≡ InProgress → (asked : Request) × Asks r asked

@@ -19,11 +19,11 @@ use Rattle.step_relation.specs.Asks.{Asks, Polls}
 use Rattle.step_relation.specs.Freshness.{IsOutdated, IsOverrun, Names}
 use Rattle.step_relation.specs.Nexts.{Works}
 use Rattle.step_relation.specs.Rows.{token_of}
-use Rattle.history.specs.Could.{could_of}
-use Rattle.history.specs.Opening.{Opening}
-use Rattle.soundness.specs.Headline.{MayBeAsked}
-use Rattle.soundness.specs.MailFits.{IsStale, IsUnderWay}
-use Rattle.soundness.specs.Sound.{Sound, Standing}
+use Rattle.step_relation.specs.Could.{could_of}
+use Rattle.step_relation.specs.Opening.{Opening}
+use Rattle.step_relation.specs.Headline.{MayBeAsked}
+use Rattle.step_relation.specs.MailFits.{IsStale, IsUnderWay}
+use Rattle.step_relation.specs.Sound.{Sound, Standing}
 use Rattle.turn_laws.specs.HasTurn.{HasWork}
 
 -- what a job at this stage asks for its row

@@ -12,9 +12,9 @@ use Rattle.provider.specs.Table.{TokenState}
 use Rattle.row_table.specs.Rows.{row_at}
 use Rattle.row_table.specs.declared.row.Row.{Row}
 use Rattle.step_relation.specs.Rows.{token_of}
-use Rattle.history.specs.Opening.{Opening, first_of}
-use Rattle.soundness.specs.Agrees.{StateFits}
-use Rattle.soundness.specs.Sound.{Sound}
+use Rattle.step_relation.specs.Opening.{Opening, first_of}
+use Rattle.step_relation.specs.Agrees.{StateFits}
+use Rattle.step_relation.specs.Sound.{Sound}
 use Rattle.next_laws.proofs.Listings.{cons_cases, in_head, in_tail, no_member}
 use Rattle.workable_laws.specs.Admitted.{FindsNothing, IsKnown, IsListed, IsListedReady}
 use Rattle.workable_laws.specs.Laws.{SoundIsAdmitted}

@@ -43,9 +43,9 @@ use Rattle.step_relation.specs.Steps.{close, command, engines_from, enlist, note
 use Rattle.step_relation.specs.Steps.{restart_changes, stop, turn, unstored}
 use Rattle.step_relation.specs.Takes.{Takes, relayed_letter, released_changes}
 use Rattle.step_relation.specs.Turns.{Turn}
-use Rattle.history.specs.Opening.{Opening}
-use Rattle.soundness.specs.Numbered.{AllBelow, EachOnce}
-use Rattle.table_laws.proofs.Rows.{graph-key, row-key, stack_here}
+use Rattle.step_relation.specs.Opening.{Opening}
+use Rattle.step_relation.specs.Numbered.{AllBelow, EachOnce}
+use Rattle.history_laws.proofs.tables.Rows.{graph-key, row-key, stack_here}
 use Rattle.next_laws.proofs.Listings.{cons_cases}
 use Rattle.next_laws.proofs.Turns.{ByMove, Whole, by_move, follows, stops}
 use Rattle.workable_laws.specs.Laws.{StepsApply}

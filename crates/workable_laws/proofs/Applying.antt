@@ -25,11 +25,11 @@ use Rattle.core_state.specs.declared.numbers.Numbers.{Numbers}
 use Rattle.core_state.specs.declared.stack.Stack.{Stack}
 use Rattle.step_relation.specs.Steps.{engines_from}
 use Rattle.step_relation.specs.Writes.{draw_letters, letters_to, lock, mark_complete, mark_failed, unlock}
-use Rattle.soundness.specs.Numbered.{AllBelow, EachOnce}
-use Rattle.link_laws.proofs.Numbers.{once_more}
-use Rattle.table_laws.proofs.Points.{point_here}
-use Rattle.table_laws.proofs.Rows.{letter_put}
-use Rattle.agree_laws.proofs.Called.{filtered, only}
+use Rattle.step_relation.specs.Numbered.{AllBelow, EachOnce}
+use Rattle.history_laws.proofs.links.Numbers.{once_more}
+use Rattle.history_laws.proofs.tables.Points.{point_here}
+use Rattle.history_laws.proofs.tables.Rows.{letter_put}
+use Rattle.history_laws.proofs.agrees.Called.{filtered, only}
 use Rattle.next_laws.proofs.Listings.{cons_cases, in_head, in_tail, no_member}
 use Rattle.workable_laws.proofs.Drawing.{same_falls}
 use Rattle.core_state.specs.declared.change.Change.TheVariants as change_to

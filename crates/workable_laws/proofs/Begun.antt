@@ -21,11 +21,11 @@ use Rattle.step_relation.specs.Begins.{replaced_changes}
 use Rattle.step_relation.specs.Cleanups.{purged_changes, retained_changes}
 use Rattle.step_relation.specs.Rows.{replaced, token_of}
 use Rattle.step_relation.specs.Writes.{mark_failed, with_stage}
-use Rattle.history.specs.Opening.{Opening}
-use Rattle.table_laws.proofs.Rows.{job-key, row-key, row_else, row_gone, row_here}
-use Rattle.tell_laws.proofs.Silence.{AreUncalling, could-silent}
-use Rattle.agree_laws.proofs.Called.{only}
-use Rattle.soundness.specs.Numbered.{EachOnce}
+use Rattle.step_relation.specs.Opening.{Opening}
+use Rattle.history_laws.proofs.tables.Rows.{job-key, row-key, row_else, row_gone, row_here}
+use Rattle.history_laws.proofs.tells.Silence.{AreUncalling, could-silent}
+use Rattle.history_laws.proofs.agrees.Called.{only}
+use Rattle.step_relation.specs.Numbered.{EachOnce}
 use Rattle.workable_laws.specs.Workable.{IsCalledAct, MustLive, RowStands, Workable, creates}
 use Rattle.workable_laws.proofs.Ends.{ended_kept, rows_unlocked, untouched}
 use Rattle.workable_laws.proofs.Kept.{JobsKept, Kept, OwnJob, RowsKept}

@@ -23,15 +23,15 @@ use Rattle.step_relation.specs.Begins.{begun_changes, onward_changes}
 use Rattle.step_relation.specs.Cleanups.{purged_changes}
 use Rattle.step_relation.specs.Rows.{failed_row, ready_row, token_of}
 use Rattle.step_relation.specs.Writes.{call_entry, mark_failed, with_stage}
-use Rattle.history.specs.Could.{could_of}
-use Rattle.history.specs.Opening.{Opening}
-use Rattle.soundness.specs.Agrees.{IsGoing, absent}
-use Rattle.soundness.specs.MailFits.{IsUnderWay}
-use Rattle.table_laws.proofs.Rows.{job-key, row-key, same_some}
-use Rattle.tell_laws.proofs.Silence.{AreUncalling}
-use Rattle.agree_laws.proofs.Called.{after_create_begun, after_delete_begun, after_gone, after_poll, after_update}
-use Rattle.agree_laws.proofs.Called.{after_update_begun, among_after, could_else, could_here}
-use Rattle.agree_laws.proofs.Ends.{failed_end}
+use Rattle.step_relation.specs.Could.{could_of}
+use Rattle.step_relation.specs.Opening.{Opening}
+use Rattle.step_relation.specs.Agrees.{IsGoing, absent}
+use Rattle.step_relation.specs.MailFits.{IsUnderWay}
+use Rattle.history_laws.proofs.tables.Rows.{job-key, row-key, same_some}
+use Rattle.history_laws.proofs.tells.Silence.{AreUncalling}
+use Rattle.history_laws.proofs.agrees.Called.{after_create_begun, after_delete_begun, after_gone, after_poll, after_update}
+use Rattle.history_laws.proofs.agrees.Called.{after_update_begun, among_after, could_else, could_here}
+use Rattle.history_laws.proofs.agrees.Ends.{failed_end}
 use Rattle.work_laws.specs.Found.{IsAskedAt, asks, polls}
 use Rattle.workable_laws.specs.Workable.{IsCalled, IsCalledAct, MayPoll, MustLive, Workable, ready, updating}
 use Rattle.workable_laws.proofs.Drawing.{AllFit, draw_fits, past_drawn, sends_fit}
@@ -41,7 +41,7 @@ use Rattle.workable_laws.proofs.Own.{dead_failed, done, own_is, own_none, still_
 use Rattle.workable_laws.proofs.Tables.{jobs_ended, jobs_restaged, jobs_same, rows_cut_here, rows_put_here}
 use Rattle.workable_laws.proofs.Tables.{rows_untouched}
 use Rattle.step_relation.specs.Asks as call
-use Rattle.soundness.specs.MailFits as stages
+use Rattle.step_relation.specs.MailFits as stages
 use Rattle.heat_plan.specs.declared.calls.Answered.TheVariants as answer
 use Rattle.heat_plan.specs.declared.calls.Request.TheVariants as request
 

@@ -22,11 +22,11 @@ use Rattle.core_state.specs.declared.graph.Graph.{Graph}
 use Rattle.core_state.specs.declared.numbers.Numbers.{Numbers}
 use Rattle.core_state.specs.declared.stack.Stack.{Stack}
 use Rattle.step_relation.specs.Writes.{draw_letters, past_letters}
-use Rattle.table_laws.proofs.Points.{point_found}
-use Rattle.table_laws.proofs.Rows.{graph_cut, graph_put, job_cut, job_put, letter_cut, letter_put, row_cut, row_put}
-use Rattle.table_laws.proofs.Rows.{same_or_not, stack_else, stack_gone, stack_kept, text_or_not}
-use Rattle.table_laws.proofs.Tables.{set_else, set_here}
-use Rattle.agree_laws.proofs.Called.{filtered, only}
+use Rattle.history_laws.proofs.tables.Points.{point_found}
+use Rattle.history_laws.proofs.tables.Rows.{graph_cut, graph_put, job_cut, job_put, letter_cut, letter_put, row_cut, row_put}
+use Rattle.history_laws.proofs.tables.Rows.{same_or_not, stack_else, stack_gone, stack_kept, text_or_not}
+use Rattle.history_laws.proofs.tables.Tables.{set_else, set_here}
+use Rattle.history_laws.proofs.agrees.Called.{filtered, only}
 use Rattle.next_laws.proofs.Listings.{in_head, in_tail}
 use Rattle.workable_laws.specs.Workable.{AreWhole, Drawn, IsWhole}
 use Rattle.core_state.specs.declared.change.Change.TheVariants as change_to

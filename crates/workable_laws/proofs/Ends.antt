@@ -24,12 +24,12 @@ use Rattle.step_relation.specs.Resends.{Resends, cleanup, nobody, update}
 use Rattle.step_relation.specs.Rows.{locked, token_of, unlocked}
 use Rattle.step_relation.specs.Takes.{HasNoHolder, IsHolder, Takes, released_changes, taken_job}
 use Rattle.step_relation.specs.Writes.{letter_to, letters_to, lock, mark_complete, unlock}
-use Rattle.history.specs.Opening.{Opening}
-use Rattle.table_laws.proofs.Rows.{row-key, stack-key}
-use Rattle.tell_laws.proofs.Silence.{AreUncalling, could-silent}
-use Rattle.agree_laws.proofs.Ends.{finished_end, finished_state, released_end, released_state, unlocked_rows}
+use Rattle.step_relation.specs.Opening.{Opening}
+use Rattle.history_laws.proofs.tables.Rows.{row-key, stack-key}
+use Rattle.history_laws.proofs.tells.Silence.{AreUncalling, could-silent}
+use Rattle.history_laws.proofs.agrees.Ends.{finished_end, finished_state, released_end, released_state, unlocked_rows}
 use Rattle.next_laws.proofs.Listings.{cons_cases, no_member}
-use Rattle.soundness.specs.Numbered.{EachOnce}
+use Rattle.step_relation.specs.Numbered.{EachOnce}
 use Rattle.workable_laws.specs.Workable.{Workable}
 use Rattle.workable_laws.proofs.Drawing.{AllFit, draw_fits, past_drawn, points_fit, sends_all, sends_fit}
 use Rattle.workable_laws.proofs.Kept.{JobsKept, Kept, OwnJob, RowsKept}

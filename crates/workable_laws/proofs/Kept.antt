@@ -11,12 +11,12 @@ use Rattle.mail_table.specs.declared.mail.Stage.TheVariants.{Polling}
 use Rattle.core_state.specs.State.{StateData}
 use Rattle.core_state.specs.declared.entry.Entry.{Entry}
 use Rattle.step_relation.specs.Rows.{token_of}
-use Rattle.history.specs.Could.{could_of}
-use Rattle.history.specs.Opening.{Opening}
-use Rattle.soundness.specs.MailFits.{IsUnderWay}
-use Rattle.table_laws.proofs.Rows.{row-key, same_or_not}
+use Rattle.step_relation.specs.Could.{could_of}
+use Rattle.step_relation.specs.Opening.{Opening}
+use Rattle.step_relation.specs.MailFits.{IsUnderWay}
+use Rattle.history_laws.proofs.tables.Rows.{row-key, same_or_not}
 use Rattle.turn_laws.proofs.Decide.{below_or_not}
-use Rattle.soundness.specs.Numbered.{EachOnce}
+use Rattle.step_relation.specs.Numbered.{EachOnce}
 use Rattle.workable_laws.specs.Workable.{CloudFits, Drawn, IsCalled, JobsStand, MayPoll, MustLive, RowStands}
 
 -- a row that the step wrote: at its own number, with its token, or at a new one

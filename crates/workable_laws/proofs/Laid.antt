@@ -26,14 +26,14 @@ use Rattle.core_state.specs.declared.stack.Stack.{Stack}
 use Rattle.step_relation.specs.Commands.{Chooses, Lays, Sets, brief_of, current, first_letters, fresh, laid_changes}
 use Rattle.step_relation.specs.Commands.{laid_entries, none, past_command, settles_at_once, stack_set}
 use Rattle.step_relation.specs.Writes.{letters_to, mark_complete}
-use Rattle.history.specs.Opening.{Opening}
-use Rattle.table_laws.proofs.Rows.{graph_put, row_else, row_put, stack_else, stack_here}
-use Rattle.tell_laws.proofs.Silence.{AreUncalling, could-silent}
-use Rattle.agree_laws.proofs.Ends.{rows_in}
-use Rattle.agree_laws.proofs.Laid.{end_of, laid_end, laid_state, laid_uncalling}
-use Rattle.edge_laws.proofs.Members.{contains_at}
+use Rattle.step_relation.specs.Opening.{Opening}
+use Rattle.history_laws.proofs.tables.Rows.{graph_put, row_else, row_put, stack_else, stack_here}
+use Rattle.history_laws.proofs.tells.Silence.{AreUncalling, could-silent}
+use Rattle.history_laws.proofs.agrees.Ends.{rows_in}
+use Rattle.history_laws.proofs.agrees.Laid.{end_of, laid_end, laid_state, laid_uncalling}
+use Rattle.history_laws.proofs.edges.Members.{contains_at}
 use Rattle.next_laws.proofs.Listings.{cons_cases, in_head, in_tail, no_member}
-use Rattle.soundness.specs.Numbered.{EachOnce}
+use Rattle.step_relation.specs.Numbered.{EachOnce}
 use Rattle.workable_laws.specs.Workable.{AreWhole, IsWhole, Workable}
 use Rattle.workable_laws.proofs.Drawing.{AllFit, drawn_applied, fresh_point, whole_applied, rows_fit, sends_fit}
 use Rattle.workable_laws.proofs.Ends.{letters_to_under, mark_fits}

@@ -30,8 +30,8 @@ use Rattle.step_relation.specs.Takes.{Relays, relayed_letter}
 use Rattle.step_relation.specs.Begins.{left_entries}
 use Rattle.step_relation.specs.Takes.{released_entries}
 use Rattle.step_relation.specs.Writes.{failed_mark, lock_writes, mail_entry, rows_entry, unlock_writes}
-use Rattle.history.specs.Opening.{Opening}
-use Rattle.tell_laws.proofs.Silence.{AreUncalling}
+use Rattle.step_relation.specs.Opening.{Opening}
+use Rattle.history_laws.proofs.tells.Silence.{AreUncalling}
 use Rattle.next_laws.proofs.Listings.{cons_cases, no_member}
 use Rattle.work_laws.specs.Found.{asks, polls}
 use Rattle.workable_laws.specs.Workable.{IsCalledAct, Workable, creates, deletes, ready, updates}

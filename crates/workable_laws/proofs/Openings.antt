@@ -21,20 +21,20 @@ use Rattle.core_state.specs.State.{StateData, stack_at}
 use Rattle.core_state.specs.declared.stack.Stack.{Stack}
 use Rattle.step_relation.specs.Asks.{Asks, Polls}
 use Rattle.step_relation.specs.Rows.{token_of}
-use Rattle.history.specs.Could.{could_of}
-use Rattle.history.specs.Opening.{Opening, first_of}
-use Rattle.soundness.specs.Sound.{Sound}
-use Rattle.soundness.specs.Agrees.{IsGoing}
-use Rattle.soundness.specs.Headline.{MayBeAsked, create, delete, gone, poll, update}
-use Rattle.soundness.specs.GraphFits.{GraphFits}
-use Rattle.soundness.specs.Linked.{Links}
-use Rattle.soundness.specs.MailFits.{IsUnderWay, asks, polls}
-use Rattle.table_laws.proofs.Facts.{graph_here}
-use Rattle.table_laws.proofs.Rows.{job-key, letter-key, row-key, same_some}
-use Rattle.agree_laws.proofs.Called.{only}
+use Rattle.step_relation.specs.Could.{could_of}
+use Rattle.step_relation.specs.Opening.{Opening, first_of}
+use Rattle.step_relation.specs.Sound.{Sound}
+use Rattle.step_relation.specs.Agrees.{IsGoing}
+use Rattle.step_relation.specs.Headline.{MayBeAsked, create, delete, gone, poll, update}
+use Rattle.step_relation.specs.GraphFits.{GraphFits}
+use Rattle.step_relation.specs.Linked.{Links}
+use Rattle.step_relation.specs.MailFits.{IsUnderWay, asks, polls}
+use Rattle.history_laws.proofs.tables.Facts.{graph_here}
+use Rattle.history_laws.proofs.tables.Rows.{job-key, letter-key, row-key, same_some}
+use Rattle.history_laws.proofs.agrees.Called.{only}
 use Rattle.work_laws.proofs.Below.{All-among}
 use Rattle.turn_laws.specs.HasTurn.{IsAskable}
-use Rattle.edge_laws.proofs.Members.{contains_at}
+use Rattle.history_laws.proofs.edges.Members.{contains_at}
 use Rattle.workable_laws.specs.Laws.{AdmittedIsWorkable, SoundIsWorkable, WorkableHasWork, WorkableMayAsk}
 use Rattle.workable_laws.specs.Workable.{AreWhole, Drawn, IsCalled, IsCalledAct, IsWhole, MustLive, creates, deletes}
 use Rattle.workable_laws.specs.Workable.{ready, updates, updating}

@@ -20,11 +20,11 @@ use Rattle.core_state.specs.declared.entry.Entry.{Entry}
 use Rattle.core_state.specs.declared.graph.Graph.{Graph}
 use Rattle.step_relation.specs.Rows.{token_of}
 use Rattle.step_relation.specs.Targets.{IsTarget, of_c, of_u, renewed}
-use Rattle.history.specs.Could.{could_of}
-use Rattle.history.specs.Opening.{Opening}
-use Rattle.soundness.specs.MailFits.{IsUnderWay, asks, polls}
-use Rattle.table_laws.proofs.Rows.{job_gone, job_here, same_some}
-use Rattle.tell_laws.proofs.Silence.{AreUncalling, could-silent}
+use Rattle.step_relation.specs.Could.{could_of}
+use Rattle.step_relation.specs.Opening.{Opening}
+use Rattle.step_relation.specs.MailFits.{IsUnderWay, asks, polls}
+use Rattle.history_laws.proofs.tables.Rows.{job_gone, job_here, same_some}
+use Rattle.history_laws.proofs.tells.Silence.{AreUncalling, could-silent}
 use Rattle.workable_laws.specs.Workable.{AreWhole, Drawn, IsCalled, MustLive, Workable, ready, updating}
 use Rattle.workable_laws.proofs.Drawing.{AllFit, drawn_applied, whole_applied}
 use Rattle.workable_laws.proofs.Kept.{Kept, OwnJob, kept_cloud, kept_jobs}

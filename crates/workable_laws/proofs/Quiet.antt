@@ -9,9 +9,9 @@ use Rattle.core_state.specs.Changes.{applied}
 use Rattle.core_state.specs.State.{StateData}
 use Rattle.core_state.specs.declared.change.Change.{Change}
 use Rattle.core_state.specs.declared.entry.Entry.{Entry}
-use Rattle.history.specs.Opening.{Opening}
-use Rattle.tell_laws.proofs.Silence.{AreUncalling, could-silent}
-use Rattle.soundness.specs.Numbered.{EachOnce}
+use Rattle.step_relation.specs.Opening.{Opening}
+use Rattle.history_laws.proofs.tells.Silence.{AreUncalling, could-silent}
+use Rattle.step_relation.specs.Numbered.{EachOnce}
 use Rattle.workable_laws.specs.Workable.{Workable}
 use Rattle.workable_laws.proofs.Drawing.{AllFit}
 use Rattle.workable_laws.proofs.Kept.{JobsKept, Kept, RowsKept}

@@ -15,10 +15,10 @@ use Rattle.core_state.specs.State.{StateData}
 use Rattle.core_state.specs.declared.change.Change.{Change}
 use Rattle.core_state.specs.declared.change.Change.TheVariants.{Enlist, Stop}
 use Rattle.step_relation.specs.Steps.{engines_from, past_engines, restart_changes}
-use Rattle.history.specs.Opening.{Opening}
-use Rattle.link_laws.proofs.Engines.{links_restarted}
-use Rattle.table_laws.proofs.Rows.{job-key}
-use Rattle.agree_laws.proofs.Called.{filtered, only}
+use Rattle.step_relation.specs.Opening.{Opening}
+use Rattle.history_laws.proofs.links.Engines.{links_restarted}
+use Rattle.history_laws.proofs.tables.Rows.{job-key}
+use Rattle.history_laws.proofs.agrees.Called.{filtered, only}
 use Rattle.work_laws.proofs.Below.{quiet_restart}
 use Rattle.next_laws.proofs.Listings.{cons_cases, no_member}
 use Rattle.workable_laws.specs.Admitted.{FindsNothing, IsAdmitted, IsRead, IsStill, IsTied}

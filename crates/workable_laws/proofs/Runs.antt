@@ -9,7 +9,7 @@ use Rattle.step_relation.specs.Given.{Answer, Faulted, Given, Nothing, Prepared}
 use Rattle.step_relation.specs.Runs.{Judges, Run, begins, goes_on}
 use Rattle.step_relation.specs.Steps.{Step, turn}
 use Rattle.step_relation.specs.Turns.{Turn, WearsOut}
-use Rattle.history.specs.Opening.{Opening}
+use Rattle.step_relation.specs.Opening.{Opening}
 use Rattle.next_laws.proofs.Turns.{turn_one}
 use Rattle.next_laws.proofs.Wearing.{worn_or_not}
 use Rattle.next_laws.proofs.Worn.{call_not_worn, quiet_not_worn}

@@ -21,10 +21,10 @@ use Rattle.step_relation.specs.Orders.{Command, cancel, create, delete, plan_bac
 use Rattle.step_relation.specs.Steps.{BeginsWithCall, IsNote, Step, close, command, engines_from, enlist, note, notes}
 use Rattle.step_relation.specs.Steps.{past_engines, ran, restart, restart_changes, shows, stop, turn, turned, unstored}
 use Rattle.step_relation.specs.Turns.{Turn}
-use Rattle.history.specs.Opening.{Opening}
-use Rattle.table_laws.proofs.Frame.{applied-append}
-use Rattle.tell_laws.proofs.Silence.{IsUncalling}
-use Rattle.agree_laws.proofs.Called.{filtered, only}
+use Rattle.step_relation.specs.Opening.{Opening}
+use Rattle.history_laws.proofs.tables.Frame.{applied-append}
+use Rattle.history_laws.proofs.tells.Silence.{IsUncalling}
+use Rattle.history_laws.proofs.agrees.Called.{filtered, only}
 use Rattle.next_laws.proofs.Turns.{ByMove, Whole, by_move, follows, stops}
 use Rattle.work_laws.specs.Found.{asks, polls}
 use Rattle.workable_laws.specs.Laws.{StepsKeepWorkable}

@@ -11,9 +11,9 @@ use Rattle.core_state.specs.State.{StateData}
 use Rattle.core_state.specs.declared.entry.Entry.{Entry}
 use Rattle.step_relation.specs.Rows.{token_of}
 use Rattle.step_relation.specs.Takes.{HasNoHolder}
-use Rattle.history.specs.Could.{could_of}
-use Rattle.history.specs.Opening.{Opening}
-use Rattle.table_laws.proofs.Rows.{job_cut, job_put, row-key, row_cut, row_else, row_kept, row_put}
+use Rattle.step_relation.specs.Could.{could_of}
+use Rattle.step_relation.specs.Opening.{Opening}
+use Rattle.history_laws.proofs.tables.Rows.{job_cut, job_put, row-key, row_cut, row_else, row_kept, row_put}
 use Rattle.workable_laws.specs.Workable.{CloudFits, Drawn, JobsStand, MustLive, RowStands}
 use Rattle.workable_laws.proofs.Kept.{IsWritten, JobsKept, RowsKept}
 

@@ -16,8 +16,8 @@ use Rattle.row_table.specs.declared.row.Row.{Row}
 use Rattle.core_state.specs.Applies.{IsWithin}
 use Rattle.core_state.specs.State.{StateData}
 use Rattle.step_relation.specs.Commands.{Chooses, Lays, current, fresh, none}
-use Rattle.edge_laws.proofs.Keeping.{kept_are}
-use Rattle.edge_laws.proofs.Members.{between_has, contains_at, need_has, row_has}
+use Rattle.history_laws.proofs.edges.Keeping.{kept_are}
+use Rattle.history_laws.proofs.edges.Members.{between_has, contains_at, need_has, row_has}
 
 -- places below the count of items and of rows
 abbrev Ends : ℕ → ℕ × ℕ → Type 0

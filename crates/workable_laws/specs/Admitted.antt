@@ -11,9 +11,9 @@ use Rattle.core_state.specs.Changes.{applied}
 use Rattle.core_state.specs.State.{StateData}
 use Rattle.step_relation.specs.Rows.{token_of}
 use Rattle.step_relation.specs.Steps.{restart_changes}
-use Rattle.history.specs.Opening.{Opening, first_of}
-use Rattle.soundness.specs.Agrees.{IsAliveAs, IsReadyAs}
-use Rattle.soundness.specs.Linked.{Links}
+use Rattle.step_relation.specs.Opening.{Opening, first_of}
+use Rattle.step_relation.specs.Agrees.{IsAliveAs, IsReadyAs}
+use Rattle.step_relation.specs.Linked.{Links}
 use Rattle.workable_laws.specs.Workable.{AreWhole}
 
 -- what the codec and the tables give of any image

@@ -16,10 +16,10 @@ use Rattle.step_relation.specs.Rows.{token_of}
 use Rattle.step_relation.specs.Runs.{Judges, Run}
 use Rattle.step_relation.specs.Steps.{Step}
 use Rattle.step_relation.specs.Turns.{Turn, WearsOut}
-use Rattle.history.specs.Could.{could_of}
-use Rattle.history.specs.Opening.{Opening}
-use Rattle.soundness.specs.Headline.{MayBeAsked}
-use Rattle.soundness.specs.Sound.{Sound}
+use Rattle.step_relation.specs.Could.{could_of}
+use Rattle.step_relation.specs.Opening.{Opening}
+use Rattle.step_relation.specs.Headline.{MayBeAsked}
+use Rattle.step_relation.specs.Sound.{Sound}
 use Rattle.turn_laws.specs.Fits.{IsKin}
 use Rattle.turn_laws.specs.HasTurn.{HasWork, StepsOrIsIdle}
 use Rattle.turn_laws.specs.Suits.{Suits}

@@ -19,11 +19,11 @@ use Rattle.core_state.specs.State.{StateData, graph_at, stack_at}
 use Rattle.core_state.specs.declared.entry.Entry.{Entry}
 use Rattle.core_state.specs.declared.graph.Graph.{Graph}
 use Rattle.step_relation.specs.Rows.{token_of}
-use Rattle.history.specs.Could.{could_of}
-use Rattle.history.specs.Opening.{Opening}
-use Rattle.soundness.specs.Agrees.{IsGoing}
-use Rattle.soundness.specs.MailFits.{IsUnderWay}
-use Rattle.soundness.specs.Numbered.{EachOnce}
+use Rattle.step_relation.specs.Could.{could_of}
+use Rattle.step_relation.specs.Opening.{Opening}
+use Rattle.step_relation.specs.Agrees.{IsGoing}
+use Rattle.step_relation.specs.MailFits.{IsUnderWay}
+use Rattle.step_relation.specs.Numbered.{EachOnce}
 
 -- the numbers that are drawn, and never again: those of rows, of jobs' and clean-up nodes' rows, of letters and engines
 pub record Drawn (s : StateData) : Type 0 where

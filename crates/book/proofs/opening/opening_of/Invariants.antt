@@ -1,5 +1,5 @@
 use Rattle.std.proofs.Common.{◌≡◌, ◌≤◌}
-use Rattle.history.specs.Opening.{bare}
+use Rattle.step_relation.specs.Opening.{bare}
 use Rattle.step_relation.specs.Steps.{engines_from, past_engines}
 use Rattle.book.proofs.opening.opening_of.Given as goal
 

@@ -1,5 +1,5 @@
 -- Each part of a turn, as a turn.
-use Rattle.soundness.specs.MailFits.{asks, polls}
+use Rattle.step_relation.specs.MailFits.{asks, polls}
 use Rattle.mail_table.specs.declared.mail.Stage.TheVariants.{Asking, Polling}
 use Rattle.book.proofs.Calling.{calling}
 use Rattle.book.proofs.QuietTurns.{nothing_made, nothing_refused, quietly}

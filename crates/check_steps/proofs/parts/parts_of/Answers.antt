@@ -3,7 +3,7 @@ use Rattle.std.specs.Prelude.{option_map}
 use Rattle.core_state.specs.Reads.{item_at}
 use Rattle.core_state.specs.declared.stack.Stack.{Stack}
 use Rattle.step_relation.specs.Freshness.{plan_of}
-use Rattle.table_laws.proofs.Rows.{same_some}
+use Rattle.history_laws.proofs.tables.Rows.{same_some}
 use Rattle.check_steps.proofs.PartsRead.{has_plan, has_point, parts_at}
 use Rattle.check_steps.proofs.parts.parts_of.Goals as goal
 

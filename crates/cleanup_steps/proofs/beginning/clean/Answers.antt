@@ -8,7 +8,7 @@ use Rattle.mail_table.specs.declared.mail.Stage.TheVariants.{Asking}
 use Rattle.step_relation.specs.Begins.{begun_entries, left_entries}
 use Rattle.step_relation.specs.Moves.{clean_deleted, clean_init, clean_kept, clean_retained, clean_stuck}
 use Rattle.step_relation.specs.Rows.{deleted_row}
-use Rattle.table_laws.proofs.Rows.{row_self}
+use Rattle.history_laws.proofs.tables.Rows.{row_self}
 use Rattle.cleanup_steps.proofs.CaseLemmas.{cleans_row, refuses, turns}
 use Rattle.cleanup_steps.proofs.beginning.clean.Goals as goal
 

@@ -4,8 +4,8 @@ use Rattle.std.specs.Prelude.{IsTrue, eqb}
 use Rattle.row_table.specs.Rows.{row_at}
 use Rattle.row_table.specs.declared.row.Row.{Row}
 use Rattle.step_relation.specs.Targets.{IsCurrentOf}
-use Rattle.table_laws.proofs.Rows.{same_some}
-use Rattle.table_laws.proofs.Targets.{current_once}
+use Rattle.history_laws.proofs.tables.Rows.{same_some}
+use Rattle.history_laws.proofs.tables.Targets.{current_once}
 use Rattle.cleanup_steps.proofs.keeping.is_current.Goals as goal
 
 by_number : (rows : List Row) (stack name : List ℕ) (q r : Row) → IsCurrentOf rows stack name q

@@ -1,7 +1,7 @@
 use Rattle.std.proofs.Common.{◌↔◌, ◌∙◌, Bool, Err, List, IsTrue, Ok, Result, subst, sym}
 use Rattle.std.specs.Prelude.{IfOk}
-use Rattle.history.specs.Fits.{Fits}
-use Rattle.history.specs.Opening.{empty_opening}
+use Rattle.step_relation.specs.Fits.{Fits}
+use Rattle.step_relation.specs.Opening.{empty_opening}
 use Rattle.headline_reader.specs.declared.possible.Possible.{Possible}
 use Rattle.headline_reader.specs.Items.{Finds}
 use Rattle.headline_reader.proofs.FitsFound.{finds-fits}

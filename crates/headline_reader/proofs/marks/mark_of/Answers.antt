@@ -1,7 +1,7 @@
 use Rattle.std.proofs.Common.{◌∙◌, Option, sym, ap}
 use Rattle.std.specs.Prelude.{option_map}
 use Rattle.heat_plan.specs.Tables.{at}
-use Rattle.history.specs.Marked.{Mark, Marked}
+use Rattle.step_relation.specs.Marked.{Mark, Marked}
 use Rattle.headline_reader.specs.Marks.{marked_said}
 use Rattle.headline_reader.proofs.marks.mark_of.Goals as goal
 

@@ -1,7 +1,7 @@
 use Rattle.std.proofs.Common.{◌≡◌, ℕ, List, drop, Option, None}
 use Rattle.std.specs.Prelude.{fold, option_map}
 use Rattle.core_state.specs.declared.entry.Entry.{Entry}
-use Rattle.history.specs.Marked.{Marked, marked_by}
+use Rattle.step_relation.specs.Marked.{Marked, marked_by}
 use Rattle.headline_reader.specs.Marks.{marked_said}
 use Rattle.headline_reader.proofs.marks.marked_of.Given as goal
 

@@ -2,7 +2,7 @@ use Rattle.std.proofs.Common.{◌≡◌, List, [], drop}
 use Rattle.std.specs.Prelude.{fold}
 use Rattle.heat_plan.specs.declared.token.Token.{Token}
 use Rattle.core_state.specs.declared.entry.Entry.{Entry}
-use Rattle.history.specs.Stored.{released_by}
+use Rattle.step_relation.specs.Stored.{released_by}
 use Rattle.headline_reader.proofs.releases.given_up.Given as goal
 
 abbrev pub released_on : List Token → List Entry → List Token

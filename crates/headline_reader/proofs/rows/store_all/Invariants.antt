@@ -1,6 +1,6 @@
 use Rattle.std.proofs.Common.{◌≡◌, drop}
 use Rattle.std.specs.Prelude.{fold}
-use Rattle.history.specs.Stored.{written}
+use Rattle.step_relation.specs.Stored.{written}
 use Rattle.headline_reader.proofs.rows.store_all.Given as goal
 
 abbrev pub invariant-loop-write : goal.invariant-loop-write

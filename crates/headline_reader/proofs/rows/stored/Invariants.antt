@@ -2,7 +2,7 @@ use Rattle.std.proofs.Common.{◌≡◌, drop, List, []}
 use Rattle.std.specs.Prelude.{fold}
 use Rattle.row_table.specs.declared.row.Row.{Row}
 use Rattle.core_state.specs.declared.entry.Entry.{Entry}
-use Rattle.history.specs.Stored.{stored_by}
+use Rattle.step_relation.specs.Stored.{stored_by}
 use Rattle.headline_reader.proofs.rows.stored.Given as goal
 
 abbrev pub stored_on : List Row → List Entry → List Row

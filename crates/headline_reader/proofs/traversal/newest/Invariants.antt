@@ -1,7 +1,7 @@
 use Rattle.std.proofs.Common.{◌≡◌, ℕ, List, drop, Option, None}
 use Rattle.std.specs.Prelude.{fold}
 use Rattle.core_state.specs.declared.entry.Entry.{Entry}
-use Rattle.history.specs.Newest.{Latest, newest_by}
+use Rattle.step_relation.specs.Newest.{Latest, newest_by}
 use Rattle.headline_reader.proofs.traversal.newest.Given as goal
 
 abbrev pub newest_on : List ℕ → Option Latest → List Entry → Option Latest

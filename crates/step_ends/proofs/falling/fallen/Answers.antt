@@ -1,7 +1,7 @@
 use Rattle.std.proofs.Common.{refl}
 use Rattle.std.proofs.lemmas.Result.{IfErr-weaker, IfOk-weaker, err_from_is_err_and}
 use Rattle.step_relation.specs.Asks.{overrun}
-use Rattle.table_laws.proofs.Rows.{row_self}
+use Rattle.history_laws.proofs.tables.Rows.{row_self}
 use Rattle.step_ends.proofs.Fallen.{again_fallen, fallen_by, its_stack, marked_fall, not_running, running_fall}
 use Rattle.step_ends.proofs.falling.fallen.Goals as goal
 

@@ -1,7 +1,7 @@
 -- As a turn, where it isn't the fence.
 use Rattle.std.proofs.Common.{refl, subst, sym, ◌∙◌}
 use Rattle.std.specs.Prelude.{◌<◌}
-use Rattle.soundness.specs.Laws.{opening_at}
+use Rattle.step_relation.specs.Laws.{opening_at}
 use Rattle.book.specs.Kept.{Shown}
 use Rattle.book.proofs.Fences.{committed_live, kept_committed}
 use Rattle.book.proofs.Unhalted.{may_go_on, no_commit, unhalted}

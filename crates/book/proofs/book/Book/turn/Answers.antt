@@ -1,7 +1,7 @@
 -- The history is that of a run, whose laws say that the turn finds what it needs.
 use Rattle.std.proofs.Common.{refl, subst, sym, ◌∙◌}
 use Rattle.std.specs.Prelude.{◌<◌}
-use Rattle.soundness.specs.Laws.{opening_at}
+use Rattle.step_relation.specs.Laws.{opening_at}
 use Rattle.book.specs.Kept.{Shown}
 use Rattle.book.proofs.Engined.{turned_live}
 use Rattle.book.proofs.Unhalted.{may_go_on, no_turn, unhalted}

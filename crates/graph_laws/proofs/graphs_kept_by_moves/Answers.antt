@@ -1,5 +1,0 @@
-use Rattle.graph_laws.proofs.Moves.{graphs_moved}
-use Rattle.graph_laws.proofs.graphs_kept_by_moves.Goals as goal
-
-pub returns : goal.returns
-returns c = graphs_moved

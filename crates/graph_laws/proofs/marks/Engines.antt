@@ -1,0 +1,39 @@
+-- Engines that come and go leave all marks and pasts fitting.
+use Rattle.std.proofs.Common.{◌≡◌, ℕ, List, ◌∷◌, Some, sym, ◌∙◌}
+use Rattle.core_state.specs.State.{StateData, past_at}
+use Rattle.core_state.specs.declared.past.Past.{Past}
+use Rattle.step_relation.specs.Elsewhere.{Elsewhere}
+use Rattle.step_relation.specs.Groups.{KeptByEngines}
+use Rattle.step_relation.specs.MarkFits.{MarksFit, PastFits, PastsFit}
+use Rattle.step_relation.specs.Sound.{Standing}
+use Rattle.history_laws.proofs.frames.Engines.{apart_from, on_enlisted, on_restarted, on_stopped}
+use Rattle.history_laws.proofs.frames.Marks.{past_fits_stays}
+use Rattle.history_laws.proofs.frames.Others.{other_mark}
+
+-- where a step leaves every stack
+marks_left : (s t : StateData) → Standing s → ((own : List ℕ) → Elsewhere own s t) → MarksFit t
+marks_left s t S E = record {
+  each = λ name st at.
+      other_mark (0 ∷ name) s t (E (0 ∷ name)) S.links name (apart_from name) st at
+      (S.marks.each name st (sym ((E (0 ∷ name)).stacks name (apart_from name)) ∙ at));
+}
+
+pasts_left : (s t : StateData) → Standing s → ((own : List ℕ) → Elsewhere own s t) → PastsFit t
+pasts_left s t S E = record { each = go } where
+  go : (name : List ℕ) (p : Past) → past_at t.pasts name ≡ Some p → PastFits t p
+  go name p at = past_fits_stays (0 ∷ p.stack) s t (E (0 ∷ p.stack)) p (apart_from p.stack)
+      (S.pasts.each name p (sym ((E (0 ∷ name)).pasts name (apart_from name)) ∙ at))
+
+pub marks_by_engines : KeptByEngines MarksFit
+marks_by_engines = record {
+  stop = λ s e S live. marks_left s _ S (λ own. on_stopped own s e);
+  enlist = λ s S. marks_left s _ S (λ own. on_enlisted own s);
+  restart = λ s count S. marks_left s _ S (λ own. on_restarted own s count);
+}
+
+pub pasts_by_engines : KeptByEngines PastsFit
+pasts_by_engines = record {
+  stop = λ s e S live. pasts_left s _ S (λ own. on_stopped own s e);
+  enlist = λ s S. pasts_left s _ S (λ own. on_enlisted own s);
+  restart = λ s count S. pasts_left s _ S (λ own. on_restarted own s count);
+}

@@ -1,9 +1,0 @@
-pub mod Opening
-pub mod Newest
-pub mod Marked
-pub mod Stored
-pub mod Could
-pub mod Tokens
-pub mod Fits
-pub mod Caused
-pub mod Last

@@ -1,2 +1,0 @@
-//! Definitions alone.
-#![tactic(auto)]

@@ -1,0 +1,17 @@
+//! Laws of the frame: what a step on one stack leaves of all others.
+ghost use Rattle.history_laws.specs.frames.Laws.{CommandsAreOnOne, MovesAreOnOne, OthersStandAsBefore};
+
+/// A step on one stack leaves each other's graph, rows, mark, past and covered nodes as they were.
+pub fn others_stand_as_before()
+    ensures { OthersStandAsBefore }
+{}
+
+/// Each move of an engine is on one stack, that of its letter or its job, and leaves all of the others.
+pub fn moves_are_on_one()
+    ensures { MovesAreOnOne }
+{}
+
+/// Each command is on its stack, and leaves all of the others.
+pub fn commands_are_on_one()
+    ensures { CommandsAreOnOne }
+{}

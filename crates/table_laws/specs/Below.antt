@@ -1,2 +1,0 @@
--- Words of crates below this one that crates above it cite too, passed on.
-pub use Rattle.soundness.specs.Tells.{IsGone, TellsStack, deleted, never}
