@@ -8,26 +8,34 @@ use Rattle.hot_functions.specs.declared.form.Form.{Form}
 use Rattle.hot_eval.specs.declared.function.Function.{Function}
 use Rattle.hot_eval.specs.declared.function.Function.TheVariants as function
 
--- the function of values that a key names; any other key is plain
-abbrev pub function_of : List ℕ → Option Function
-function_of k =
-    if bytes_eq k (codes "get_param") then Some function.Parameter else (
-    if bytes_eq k (codes "get_resource") then Some function.Resource else (
-    if bytes_eq k (codes "get_attr") then Some function.Attribute else (
-    if bytes_eq k (codes "get_file") then Some function.File else (
-    if bytes_eq k (codes "list_join") then Some function.Join else (
-    if bytes_eq k (codes "str_split") then Some function.Split else (
-    if bytes_eq k (codes "str_replace") then Some function.Replace else (
-    if bytes_eq k (codes "str_replace_strict") then Some function.ReplaceStrictly else (
-    if bytes_eq k (codes "repeat") then Some function.Repeat else (
-    if bytes_eq k (codes "digest") then Some function.Digest else (
+-- the function of values, of collections and conditions, that a key names
+abbrev pub collection_function_of : List ℕ → Option Function
+collection_function_of k =
     if bytes_eq k (codes "map_merge") then Some function.MergeMaps else (
     if bytes_eq k (codes "map_replace") then Some function.ReplaceInMap else (
     if bytes_eq k (codes "list_concat") then Some function.Concat else (
     if bytes_eq k (codes "list_concat_unique") then Some function.ConcatUnique else (
     if bytes_eq k (codes "filter") then Some function.Filter else (
     if bytes_eq k (codes "contains") then Some function.Contains else (
-    if bytes_eq k (codes "if") then Some function.If else None))))))))))))))))
+    if bytes_eq k (codes "if") then Some function.If else None))))))
+
+-- the function of values, of texts, else of collections and conditions, that a key names
+abbrev pub text_function_of : List ℕ → Option Function
+text_function_of k =
+    if bytes_eq k (codes "list_join") then Some function.Join else (
+    if bytes_eq k (codes "str_split") then Some function.Split else (
+    if bytes_eq k (codes "str_replace") then Some function.Replace else (
+    if bytes_eq k (codes "str_replace_strict") then Some function.ReplaceStrictly else (
+    if bytes_eq k (codes "repeat") then Some function.Repeat else (
+    if bytes_eq k (codes "digest") then Some function.Digest else collection_function_of k)))))
+
+-- the function of values that a key names; any other key is plain
+abbrev pub function_of : List ℕ → Option Function
+function_of k =
+    if bytes_eq k (codes "get_param") then Some function.Parameter else (
+    if bytes_eq k (codes "get_resource") then Some function.Resource else (
+    if bytes_eq k (codes "get_attr") then Some function.Attribute else (
+    if bytes_eq k (codes "get_file") then Some function.File else text_function_of k)))
 
 -- the function of conditions that a key names
 abbrev pub condition_function_of : List ℕ → Option Function

@@ -4,6 +4,8 @@ ghost use Rattle.heat_value.specs.Meaning.{data_of, members_of};
 ghost use Rattle.hot_forms.specs.Shapes.{members_in};
 ghost use Rattle.hot_functions.specs.Forms.{stands as the_stands};
 ghost use Rattle.hot_eval.specs.Names.{function_of as the_function_of, named_in};
+ghost use Rattle.hot_eval.specs.Names.{text_function_of as the_text_function_of};
+ghost use Rattle.hot_eval.specs.Names.{collection_function_of as the_collection_function_of};
 ghost use Rattle.hot_eval.specs.Names.{condition_function_of as the_condition_function_of};
 ghost use Rattle.hot_eval.specs.Names.{has_form_of as the_has_form_of, is_formed as the_is_formed};
 ghost use Rattle.hot_eval.specs.Names.{is_condition_formed as the_is_condition_formed};
@@ -28,6 +30,13 @@ fn function_of(key: &str) -> Option<Function>
     if key == "get_file" {
         return Some(Function::File);
     }
+    text_function_of(key)
+}
+
+// The function of texts, else of collections and conditions.
+fn text_function_of(key: &str) -> Option<Function>
+    ensures { result ≡ the_text_function_of key.now }
+{
     if key == "list_join" {
         return Some(Function::Join);
     }
@@ -46,6 +55,13 @@ fn function_of(key: &str) -> Option<Function>
     if key == "digest" {
         return Some(Function::Digest);
     }
+    collection_function_of(key)
+}
+
+// The function of collections and conditions.
+fn collection_function_of(key: &str) -> Option<Function>
+    ensures { result ≡ the_collection_function_of key.now }
+{
     if key == "map_merge" {
         return Some(Function::MergeMaps);
     }

@@ -15,26 +15,34 @@ lone no_members = None
 lone (member k d no_members) = Some (k, d)
 lone (member k d (member l e ms)) = None
 
--- the functions that stand in values
-abbrev pub form_of : List ℕ → Option Form
-form_of k =
-    if bytes_eq k (codes "get_param") then Some form.Parameter else (
-    if bytes_eq k (codes "get_resource") then Some form.Resource else (
-    if bytes_eq k (codes "get_attr") then Some form.Attribute else (
-    if bytes_eq k (codes "get_file") then Some form.File else (
-    if bytes_eq k (codes "list_join") then Some form.Joined else (
-    if bytes_eq k (codes "str_split") then Some form.Split else (
-    if bytes_eq k (codes "str_replace") then Some form.Replaced else (
-    if bytes_eq k (codes "str_replace_strict") then Some form.Replaced else (
-    if bytes_eq k (codes "repeat") then Some form.Repeated else (
-    if bytes_eq k (codes "digest") then Some form.Pair else (
+-- the functions that stand in values, of collections and conditions
+abbrev pub collection_form_of : List ℕ → Option Form
+collection_form_of k =
     if bytes_eq k (codes "map_merge") then Some form.AnyList else (
     if bytes_eq k (codes "map_replace") then Some form.Pair else (
     if bytes_eq k (codes "list_concat") then Some form.AnyList else (
     if bytes_eq k (codes "list_concat_unique") then Some form.AnyList else (
     if bytes_eq k (codes "filter") then Some form.Pair else (
     if bytes_eq k (codes "contains") then Some form.Pair else (
-    if bytes_eq k (codes "if") then Some form.Branches else None))))))))))))))))
+    if bytes_eq k (codes "if") then Some form.Branches else None))))))
+
+-- the functions that stand in values, of texts, else of collections and conditions
+abbrev pub text_form_of : List ℕ → Option Form
+text_form_of k =
+    if bytes_eq k (codes "list_join") then Some form.Joined else (
+    if bytes_eq k (codes "str_split") then Some form.Split else (
+    if bytes_eq k (codes "str_replace") then Some form.Replaced else (
+    if bytes_eq k (codes "str_replace_strict") then Some form.Replaced else (
+    if bytes_eq k (codes "repeat") then Some form.Repeated else (
+    if bytes_eq k (codes "digest") then Some form.Pair else collection_form_of k)))))
+
+-- the functions that stand in values
+abbrev pub form_of : List ℕ → Option Form
+form_of k =
+    if bytes_eq k (codes "get_param") then Some form.Parameter else (
+    if bytes_eq k (codes "get_resource") then Some form.Resource else (
+    if bytes_eq k (codes "get_attr") then Some form.Attribute else (
+    if bytes_eq k (codes "get_file") then Some form.File else text_form_of k)))
 
 -- the functions that make conditions
 abbrev pub condition_form_of : List ℕ → Option Form

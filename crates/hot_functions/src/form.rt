@@ -2,6 +2,8 @@
 ghost use Rattle.std.specs.Prelude.{◌≡◌, option_map};
 ghost use Rattle.heat_value.specs.Meaning.{data_of, members_of};
 ghost use Rattle.hot_functions.specs.Forms.{lone as the_lone, form_of as the_form_of};
+ghost use Rattle.hot_functions.specs.Forms.{text_form_of as the_text_form_of};
+ghost use Rattle.hot_functions.specs.Forms.{collection_form_of as the_collection_form_of};
 ghost use Rattle.hot_functions.specs.Forms.{condition_form_of as the_condition_form_of};
 
 use heat_value::Member;
@@ -64,6 +66,13 @@ pub fn form_of(key: &str) -> Option<Form>
     if key == "get_file" {
         return Some(Form::File);
     }
+    text_form_of(key)
+}
+
+// The form of a function of texts, else of collections and conditions.
+fn text_form_of(key: &str) -> Option<Form>
+    ensures { result ≡ the_text_form_of key.now }
+{
     if key == "list_join" {
         return Some(Form::Joined);
     }
@@ -82,6 +91,13 @@ pub fn form_of(key: &str) -> Option<Form>
     if key == "digest" {
         return Some(Form::Pair);
     }
+    collection_form_of(key)
+}
+
+// The form of a function of collections and conditions.
+fn collection_form_of(key: &str) -> Option<Form>
+    ensures { result ≡ the_collection_form_of key.now }
+{
     if key == "map_merge" {
         return Some(Form::AnyList);
     }
