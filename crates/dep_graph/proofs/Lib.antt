@@ -6,6 +6,5 @@ pub mod OrderLemmas
 pub mod SearchLemmas
 pub mod ClosingLemmas
 pub mod CycleLemmas
-pub mod NameLemmas
 pub mod ReadyLemmas
 pub mod CountLemmas

@@ -6,4 +6,3 @@ pub mod Counts
 pub mod Orders
 pub mod Closings
 pub mod Answers
-pub mod Places

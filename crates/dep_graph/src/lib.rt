@@ -1,5 +1,5 @@
 //! Graphs over numbered nodes: edges that are kept both ways, an order that respects them or a
-//! cycle, edges that are refused where they would close a cycle, and numbers for names. It answers
+//! cycle, and edges that are refused where they would close a cycle. It answers
 //! to the paths and cycles of `specs/Paths.antt`, and knows nothing of what its nodes stand for.
 #![tactic(auto)]
 
@@ -7,7 +7,6 @@ mod closing;
 mod edges;
 mod listing;
 mod marks;
-mod numbering;
 mod ready;
 mod rising;
 mod searching;
@@ -17,5 +16,4 @@ pub use closing::Added;
 pub use edges::Graph;
 pub use listing::Order;
 pub use marks::Marks;
-pub use numbering::Names;
 pub use rising::{put_in, with_node};

@@ -1,7 +1,8 @@
 //! Small graphs with their orders, cycles and paths.
 
-use dep_graph::{Added, Graph, Names, Order};
+use dep_graph::{Added, Graph, Order};
 use heat_value::Text;
+use name_numbers::Names;
 use std::process::Abort;
 use std::test::Fail;
 

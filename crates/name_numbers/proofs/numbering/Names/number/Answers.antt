@@ -1,7 +1,7 @@
 -- A name that stands has its place; a new one goes last.
 use Rattle.std.proofs.Common.{arith}
-use Rattle.dep_graph.proofs.NameLemmas.{Numbers-found, Numbers-new}
-use Rattle.dep_graph.proofs.numbering.Names.number.Goals as goal
+use Rattle.name_numbers.proofs.NameLemmas.{Numbers-found, Numbers-new}
+use Rattle.name_numbers.proofs.numbering.Names.number.Goals as goal
 
 pub returns-in-Some-clause-ok : goal.returns-in-Some-clause-ok
 returns-in-Some-clause-ok c =

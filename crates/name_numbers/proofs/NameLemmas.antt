@@ -11,7 +11,7 @@ use Rattle.std.proofs.lemmas.List.Elements.{Contains-get_or}
 use Rattle.std.proofs.lemmas.List.Quantifiers.{position-Some, all_pairs_push}
 use Rattle.std.proofs.lemmas.Map.Keys.{any_passes_from_place}
 use Rattle.std.proofs.lemmas.Option.{slice_get-get_or}
-use Rattle.dep_graph.specs.Places.{AreNames, Numbers}
+use Rattle.name_numbers.specs.Places.{AreNames, Numbers}
 
 bytes_same : (a b : List ℕ) → pointwise eqb a b ≡ true → a ≡ b
 bytes_same a b e = (slice_eq-Decides Decides-eqb a b (pointwise eqb a b) refl).0 e

@@ -1,7 +1,7 @@
 //! Numbers for names, in the order in which they are first asked.
 
 ghost use Rattle.std.specs.Prelude.{◌≡◌, [], IfOk, OnErr};
-ghost use Rattle.dep_graph.specs.Places.{Numbers};
+ghost use Rattle.name_numbers.specs.Places.{Numbers};
 
 use heat_value::{Text, TryCopy};
 use indexmap::IndexSet;
@@ -16,7 +16,7 @@ pub struct Names {
 
 impl Model for Names {
     ghost use Rattle.std.specs.Prelude.{List, ℕ};
-    ghost use Rattle.dep_graph.specs.Places.{AreNames};
+    ghost use Rattle.name_numbers.specs.Places.{AreNames};
 
     ghost Value = { List (List ℕ) };
 
