@@ -22,8 +22,6 @@ mod prepared;
 mod preparing;
 mod replacing;
 mod taking;
-#[cfg(test)]
-mod tests;
 mod with_props;
 
 pub use beginning::begin;

@@ -8,6 +8,3 @@ mod cases;
 mod keeping;
 
 pub use beginning::begin;
-
-#[cfg(test)]
-mod tests;

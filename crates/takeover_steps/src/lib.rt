@@ -13,6 +13,3 @@ pub use enlisting::enlist;
 pub use restarting::restart;
 pub use stopping::stop;
 pub use taking_over::takeover;
-
-#[cfg(test)]
-mod tests;
