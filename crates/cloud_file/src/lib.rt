@@ -12,8 +12,6 @@ mod paths;
 mod reading;
 mod sorts;
 mod tables;
-#[cfg(test)]
-mod tests;
 mod writing;
 
 pub use fault::CloudFileFault;

@@ -1,8 +1,11 @@
-//! Small graphs and graphs of traversals, with their orders, cycles, edges and leaves. There are tests alone
-//! here, of `dep_graph` and `traversal_graph`; nothing stands on this crate.
+//! Small graphs and graphs of traversals, with their orders, cycles, edges and leaves, and
+//! plans of plain templates. There are tests alone here, of `dep_graph`, `traversal_graph`, `name_numbers` and
+//! `plain_templates`; nothing stands on this crate.
 #![tactic(auto)]
 
 #[cfg(test)]
 mod orders;
+#[cfg(test)]
+mod plain_plans;
 #[cfg(test)]
 mod traversals;

@@ -11,8 +11,6 @@ mod fault;
 mod flaw;
 mod properties;
 mod shape;
-#[cfg(test)]
-mod tests;
 
 pub use catalog::Catalog;
 pub use check::{behind_key, behind_name, behind_place, here_unless};

@@ -9,8 +9,6 @@ mod param;
 mod parts;
 mod reading;
 mod res;
-#[cfg(test)]
-mod tests;
 
 pub use constraint::Constraint;
 pub use output::Out;

@@ -9,8 +9,6 @@ mod kind;
 mod naming;
 mod registry;
 mod shipped;
-#[cfg(test)]
-mod tests;
 
 pub use custom::{Ask, Custom, NamedTest};
 pub use judge::{Change, Judge};

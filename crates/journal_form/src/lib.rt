@@ -7,8 +7,6 @@ mod headers;
 mod images;
 mod laws;
 mod records;
-#[cfg(test)]
-mod tests;
 mod version;
 mod word;
 

@@ -9,8 +9,6 @@ mod item;
 mod items;
 mod needs;
 mod plan;
-#[cfg(test)]
-mod tests;
 
 pub use fault::PlanFault;
 pub use plan::plain_plan;

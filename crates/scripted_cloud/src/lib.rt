@@ -6,10 +6,6 @@ mod asks;
 mod cloud;
 mod scripted_answer;
 mod scripted_cloud;
-#[cfg(test)]
-mod setting_tests;
-#[cfg(test)]
-mod tests;
 
 pub use asks::{change, look, make, send, wait};
 pub use scripted_answer::ScriptedAnswer;

@@ -6,6 +6,3 @@ mod effect;
 
 pub use changing::change_of;
 pub use effect::Effect;
-
-#[cfg(test)]
-mod tests;

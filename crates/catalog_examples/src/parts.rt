@@ -1,6 +1,6 @@
 //! What no clause says: objects from outside, in single quotes, read to the end.
-use crate::{Param, Parts, Res};
 use heat_value::{Text, Value, ValueFault};
+use hot_parts::{Param, Parts, Res};
 use std::alloc::{AllocError, Global};
 use std::test::Fail;
 

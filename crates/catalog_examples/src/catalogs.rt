@@ -2,9 +2,9 @@
 //! the next one; the limits. Want of memory is told as such, and asked once more.
 ghost use Rattle.type_catalog.specs.Changes.{ChangeOf};
 
-use crate::{Catalog, CatalogFault};
 use heat_plan::Properties;
 use heat_value::{Seq, Text, Value, ValueFault};
+use hot_catalog::{Catalog, CatalogFault};
 use hot_registry::{Change, Judge, Registry, box_kind};
 use std::alloc::{AllocError, Global};
 use std::test::Fail;

@@ -1,9 +1,9 @@
 //! Each setting of the simulated cloud at each call of a small script: list, create, poll, update, poll,
 //! delete, two questions, list. Each answer is a letter; a poll that is ready tells the size.
-use crate::{change, look, make, send, wait};
 use heat_plan::{Kind, Properties, Token};
 use heat_value::{Props, Seq, Text, Value};
 use provider::{Answer, Gone, Listed, Poll, Provider};
+use scripted_cloud::{change, look, make, send, wait};
 use sim_cloud::{KindDelay, KindQuota, NameCode, Settings, SimCloud};
 use std::alloc::{AllocError, Global};
 use std::test::Fail;

@@ -1,8 +1,8 @@
 //! Each call and each answer once, at the simulated cloud and at the scripted one.
-use crate::{ScriptedAnswer, ScriptedCloud, change, look, make, send, wait};
 use heat_plan::{Facts, Kind, Properties, Token};
 use heat_value::{Props, Seq, Text, TryCopy, Value};
 use provider::{Answer, Gone, Listed, Listing, Poll, Provider, Traced};
+use scripted_cloud::{ScriptedAnswer, ScriptedCloud, change, look, make, send, wait};
 use sim_cloud::{KindQuota, Settings, SimCloud};
 use std::alloc::{AllocError, Global};
 use std::test::Fail;

@@ -1,6 +1,6 @@
 //! What no clause says: plans and faults of bodies from outside.
-use crate::{PlanFault, plain_plan};
 use heat_plan::{Item, Plan, Policy};
+use plain_templates::{PlanFault, plain_plan};
 use script_lines::{Body, Line};
 use std::alloc::{AllocError, Global};
 use std::test::Fail;

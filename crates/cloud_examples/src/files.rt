@@ -1,5 +1,5 @@
 //! Cloud files from outside, and the texts of their clouds.
-use crate::{CloudFileFault, read, text};
+use cloud_file::{CloudFileFault, read, text};
 use heat_plan::{Kind, Properties, Token};
 use heat_value::{Props, Seq, Text, Value};
 use provider::{Answer, Provider};

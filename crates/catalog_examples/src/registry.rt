@@ -5,9 +5,9 @@ ghost use Rattle.type_catalog.specs.Changes.{ChangeOf};
 ghost use Rattle.hot_registry.specs.Names.{is_listed};
 ghost use Rattle.hot_registry.specs.Shipped.{flavor_test as the_flavor_test};
 
-use crate::{Ask, Change, Registry, box_kind, is_flavor, shipped_registry};
 use heat_plan::{Kind, Properties};
 use heat_value::{Seq, Text, Value, ValueFault};
+use hot_registry::{Ask, Change, Registry, box_kind, is_flavor, shipped_registry};
 use std::alloc::{AllocError, Global};
 use std::test::Fail;
 use type_catalog::{Effect, change_of};
