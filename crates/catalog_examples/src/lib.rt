@@ -1,11 +1,9 @@
-//! What a program registers, catalogues, changes of properties and the parts of templates as cases from outside.
+//! What a program registers, catalogues and the parts of templates as cases from outside.
 //! There are tests alone here; nothing stands on this crate.
 #![tactic(auto)]
 
 #[cfg(test)]
 mod catalogs;
-#[cfg(test)]
-mod changes;
 #[cfg(test)]
 mod parts;
 #[cfg(test)]

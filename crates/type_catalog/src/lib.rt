@@ -6,3 +6,6 @@ mod effect;
 
 pub use changing::change_of;
 pub use effect::Effect;
+
+#[cfg(test)]
+mod tests;

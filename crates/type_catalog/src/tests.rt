@@ -1,9 +1,9 @@
 //! What no clause says: that each answer comes; where memory is wanted, it is asked once more.
+use crate::{Effect, change_of};
 use heat_plan::Properties;
 use heat_value::{Text, Value, ValueFault};
 use std::alloc::{AllocError, Global};
 use std::test::Fail;
-use type_catalog::{Effect, change_of};
 
 // Properties of a text; none where it is no map.
 fn properties(alloc: Global, text: &[u8]) -> Result<Option<Properties>, AllocError> {
