@@ -1,7 +1,9 @@
-//! Small graphs and graphs of traversals, with their orders, cycles, edges and leaves. There are tests alone
-//! here, of `dep_graph` and `traversal_graph`; nothing stands on this crate.
+//! Small graphs and graphs of traversals, with their orders, cycles, edges and leaves, and one deep chain. There are
+//! tests alone here, of `dep_graph`, `graph_loops` and `traversal_graph`; nothing stands on this crate.
 #![tactic(auto)]
 
+#[cfg(test)]
+mod loops;
 #[cfg(test)]
 mod orders;
 #[cfg(test)]
