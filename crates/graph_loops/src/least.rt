@@ -1,5 +1,5 @@
 //! The least node that is on a loop.
-ghost use Rattle.std.specs.Prelude.{◌≡◌, ◌↔◌, ◌<◌, ℕ, IfOk, IsTrue, MatchOption, All, length};
+ghost use Rattle.std.specs.Prelude.{◌↔◌, ◌<◌, ℕ, IfOk, IsTrue, MatchOption, All, length};
 ghost use Rattle.dep_graph.specs.Edges.{HasEdge};
 ghost use Rattle.dep_graph.specs.Lists.{IsLeast};
 ghost use Rattle.graph_loops.specs.Loops.{IsOnLoop, HasMarked};

@@ -1,5 +1,5 @@
 //! Ranks of nodes, from 1, such that no edge leads to a higher one: so a loop stays at one rank.
-ghost use Rattle.std.specs.Prelude.{◌≡◌, ◌<◌, ◌+◌, All, IfOk, OnOk, length};
+ghost use Rattle.std.specs.Prelude.{◌<◌, IfOk, OnOk, length};
 ghost use Rattle.dep_graph.specs.Edges.{HasEdge};
 ghost use Rattle.graph_loops.specs.Ranks.{AreRanks};
 
