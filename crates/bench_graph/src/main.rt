@@ -1,8 +1,10 @@
 //! Draws graphs for the clock outside: `order n` lists n nodes of ten edges each, `build n` draws the
 //! traversal's graph of n items of ten needs each and n rows, `needs rising`, `needs falling` and
-//! `needs mixed` that of a thousand items with 190,209 needs. Prints how many came out.
+//! `needs mixed` that of a thousand items with 190,209 needs, `loops n` finds the least node on a loop in a
+//! chain of n nodes. Prints how many came out, or the node.
 #![tactic(auto)]
 
+mod loops;
 mod needs;
 mod order;
 mod traversal;
@@ -15,7 +17,7 @@ fn main(rt: HostRuntime) -> Result<()> {
     let mut words = env::args(&rt)?;
     let _program = words.next();
     let Some(what) = words.next() else {
-        bail!("order, build or needs");
+        bail!("order, build, needs or loops");
     };
     let Some(size) = words.next() else {
         bail!("how many, or in which order");
@@ -33,7 +35,11 @@ fn main(rt: HostRuntime) -> Result<()> {
             "{} edges",
             needs::drawn(rt.alloc(), shape_of(size.as_str())?)?
         )?,
-        _ => bail!("order, build or needs"),
+        "loops" => println!(rt;
+            "node {}",
+            loops::found(rt.alloc(), count_of(size.as_str())?)?
+        )?,
+        _ => bail!("order, build, needs or loops"),
     }
     Ok(())
 }

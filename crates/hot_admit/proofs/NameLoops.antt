@@ -1,27 +1,26 @@
 -- A cycle of names is a loop of places, and the least name that is on one stands at the least such place.
 use Rattle.std.proofs.Common.{◌≡◌, ◌⊎◌, ◌∙◌, ◌<◌, ◌≤◌, ℕ, zero, suc, List, [], ◌∷◌, ◌++◌, Some, None, Result}
 use Rattle.std.proofs.Common.{Ok}
-use Rattle.std.proofs.Common.{Err, Bool, ◌↔◌, slice_get, length, refl, sym, ap, subst, inl, inr, arith}
+use Rattle.std.proofs.Common.{Err, slice_get, length, refl, sym, ap, subst, inl, inr, arith}
 use Rattle.std.proofs.lemmas.Bool.{cases_lt}
 use Rattle.std.specs.Cmp.Lexicographic.{slice_cmp}
 use Rattle.std.specs.List.Sorted.{IsStrictlySortedBy}
 use Rattle.std.specs.Ordering.{nat_cmp}
 use Rattle.std.specs.declared.cmp.Ordering.TheVariants.{Less}
-use Rattle.dep_graph.specs.Edges.{Links, HasEdge, JoinsNodes}
-use Rattle.dep_graph.specs.Lists.{IsLeast, ListsAll}
-use Rattle.dep_graph.specs.Marks.{MarksAll}
+use Rattle.dep_graph.specs.Edges.{Links, HasEdge}
+use Rattle.dep_graph.specs.Lists.{IsLeast}
 use Rattle.dep_graph.specs.Orders.{Orders}
 use Rattle.dep_graph.specs.Paths.{Leads, HasPath, IsAcyclic}
-use Rattle.dep_graph.proofs.MarkLemmas.{IsMarked-within}
 use Rattle.dep_graph.proofs.PathLemmas.{HasPath-refl, HasPath-push, HasPath-first, IsPath-weaker, leads_of}
-use Rattle.dep_graph.proofs.PathLemmas.{Loops-pred, no_loop, acyclic_from}
+use Rattle.dep_graph.proofs.PathLemmas.{no_loop, acyclic_from}
+use Rattle.graph_loops.specs.Loops.{IsOnLoop}
 use Rattle.heat_plan.specs.Order.{Rising}
 use Rattle.heat_value.proofs.Searches.{lookup_placed, at_place}
 use Rattle.heat_value.specs.Data.{Data, Members, keys_of, lookup, Rises}
 use Rattle.heat_value.specs.Meaning.{members_of}
 use Rattle.heat_value.specs.Places.{place}
 use Rattle.heat_value.specs.declared.value.Member.{Member}
-use Rattle.hot_admit.specs.Naming.{IsNamedBy, HasNames, IsOnLoop, HasMarked, IsNamingOrder}
+use Rattle.hot_admit.specs.Naming.{IsNamedBy, HasNames, IsNamingOrder}
 use Rattle.hot_eval.specs.Conditions.{Names, IsChain, IsOnCycle, IsLeastOnCycle}
 use Rattle.hot_admit.proofs.Alike.{orders_alike}
 use Rattle.hot_admit.proofs.Keyed.{named_at, behind_at}
@@ -170,55 +169,6 @@ least_of_loops ms graph p name up has at least = record {
             let same : q ≡ p = omega (arith, le, lowest) in
             inl (one_name (members_of ms) p other name
             (subst (λ (z : ℕ). Stands (members_of ms) z other) same there) at)
-
--- ---- where a loop is looked for
-
--- a node without successors is on no loop
-pub none_on : (graph : Links) (node : ℕ) (succs : List ℕ) → ListsAll (λ succ. HasEdge graph node succ) succs
-    → length succs ≡ 0 → IsOnLoop (HasEdge graph) node → ⊥
-none_on graph node succs lists none loop =
-    let there = (lists.each loop.next).1 loop.edge in absurd (omega (arith, none, there.1))
-
--- nor is one without predecessors
-pub none_back : (graph : Links) (node : ℕ) (preds : List ℕ) → ListsAll (λ pred. HasEdge graph pred node) preds
-    → length preds ≡ 0 → IsOnLoop (HasEdge graph) node → ⊥
-none_back graph node preds lists none loop =
-    let last = Loops-pred (HasEdge graph) node (loop.next, loop.edge, loop.back) in
-    let there = (lists.each last.0).1 last.1 in absurd (omega (arith, none, there.1))
-
--- one of the successors reaches the node exactly where it is on a loop
-pub marked_loops : (graph : Links) (node : ℕ) (succs : List ℕ) (marks : List Bool)
-    → ListsAll (λ succ. HasEdge graph node succ) succs → JoinsNodes graph → length marks ≡ length graph
-    → MarksAll (λ other. HasPath (HasEdge graph) other node) marks
-    → HasMarked succs marks ↔ IsOnLoop (HasEdge graph) node
-marked_loops graph node succs marks lists joins size exact = (there, back)
-  where
-    there : HasMarked succs marks → IsOnLoop (HasEdge graph) node
-    there h = record {
-      next = h.node;
-      edge = (lists.each h.node).0 h.in_nodes;
-      back = (exact h.node (IsMarked-within marks h.node h.marked)).0 h.marked;
-    }
-
-    back : IsOnLoop (HasEdge graph) node → HasMarked succs marks
-    back loop = record {
-      node = loop.next;
-      in_nodes = (lists.each loop.next).1 loop.edge;
-      marked = (exact loop.next (rw size (joins node loop.next loop.edge).1)).1 loop.back;
-    }
-
-pub first_loop : (graph : Links) (node : ℕ) → IsOnLoop (HasEdge graph) node
-    → ((k : ℕ) → k < node → IsOnLoop (HasEdge graph) k → ⊥) → IsLeast (IsOnLoop (HasEdge graph)) node
-first_loop graph node loop earlier = record { is = loop; least = λ other h. by other h (cases_lt other node) }
-  where
-    by : (other : ℕ) → IsOnLoop (HasEdge graph) other → (other < node) ⊎ (node ≤ other) → node ≤ other
-    by other h (inl lt) = absurd (earlier other lt h)
-    by other h (inr le) = le
-
-pub none_loop : (graph : Links) (size : ℕ) → JoinsNodes graph → length graph ≤ size
-    → ((k : ℕ) → k < size → IsOnLoop (HasEdge graph) k → ⊥) → (node : ℕ) → IsOnLoop (HasEdge graph) node → ⊥
-none_loop graph size joins all earlier node loop =
-    earlier node (omega (arith, all, (joins node loop.next loop.edge).0)) loop
 
 -- ---- orders
 

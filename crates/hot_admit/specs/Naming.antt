@@ -1,9 +1,7 @@
 -- The graph of what conditions name: a node for each condition, by its place.
-use Rattle.std.specs.Prelude.{◌≡◌, ◌↔◌, ◌⊎◌, ◌<◌, ℕ, Bool, List, Some, Contains, length, slice_get}
+use Rattle.std.specs.Prelude.{◌≡◌, ◌↔◌, ◌⊎◌, ◌<◌, ℕ, List, Some, Contains, length, slice_get}
 use Rattle.dep_graph.specs.Edges.{Links, HasEdge}
-use Rattle.dep_graph.specs.Marks.{IsMarked}
 use Rattle.dep_graph.specs.Orders.{Orders}
-use Rattle.dep_graph.specs.Paths.{HasPath}
 use Rattle.heat_value.specs.Data.{Members, keys_of}
 use Rattle.hot_eval.specs.Conditions.{Names}
 
@@ -35,18 +33,6 @@ pub record HasNameAt (conds : Members) (names : List (List ℕ)) (place : ℕ) :
 pub record AddsNames (conds : Members) (names : List (List ℕ)) (after : ℕ) (old new : Links) : Type 0 where
   pub same : length new ≡ length old
   pub edges : (x y : ℕ) → HasEdge new x y ↔ (HasEdge old x y ⊎ (HasNameAt conds names x × (y ≡ after)))
-
--- a path leads from the node along an edge, or several, to itself
-pub record IsOnLoop (Edge : ℕ → ℕ → Type 0) (node : ℕ) : Type 0 where
-  pub next : ℕ
-  pub edge : Edge node next
-  pub back : HasPath Edge next node
-
--- one of the nodes has its mark
-pub record HasMarked (nodes : List ℕ) (marks : List Bool) : Type 0 where
-  pub node : ℕ
-  pub in_nodes : Contains nodes node
-  pub marked : IsMarked marks node
 
 -- the places of the conditions, each behind those that it names
 abbrev pub IsNamingOrder : Members → List ℕ → Type 0

@@ -1,16 +1,17 @@
 //! The conditions that a condition names, and cycles among them.
-ghost use Rattle.std.specs.Prelude.{◌≡◌, ◌++◌, ◌↔◌, ◌<◌, ◌^◌, ℕ, IfOk, OnOk, IsTrue, MatchOption, map, length};
-ghost use Rattle.std.specs.Bool.{OnFalse};
+ghost use Rattle.std.specs.Prelude.{◌≡◌, ◌++◌, ◌<◌, ◌^◌, ℕ, IfOk, OnOk, MatchOption, map, length};
 ghost use Rattle.dep_graph.specs.Edges.{HasEdge};
 ghost use Rattle.dep_graph.specs.Lists.{IsLeast};
+ghost use Rattle.graph_loops.specs.Loops.{IsOnLoop};
 ghost use Rattle.heat_value.specs.Data.{keys_of, Rises};
 ghost use Rattle.heat_value.specs.Meaning.{data_of, nodes_of, members_of};
 ghost use Rattle.hot_eval.specs.Conditions.{names_read as the_names_read, names_read_among as the_names_read_among};
 ghost use Rattle.hot_eval.specs.Conditions.{names_read_under as the_names_read_under, name_at as the_name_at};
-ghost use Rattle.hot_admit.specs.Naming.{HasNames, AddsNames, IsOnLoop, HasMarked};
+ghost use Rattle.hot_admit.specs.Naming.{HasNames, AddsNames};
 
 use crate::lookup::place_of;
-use dep_graph::{Graph, Marks};
+use dep_graph::Graph;
+use graph_loops::least_on_loop;
 use heat_value::{Member, Text, Value};
 use hot_functions::{Place, item_place, lone, member_place};
 use std::alloc::{AllocError, Global};
@@ -126,42 +127,5 @@ pub fn least_on_cycle(graph: &Graph) -> Result<Option<u32>, AllocError>
         ((node : ℕ) → ¬ IsOnLoop (HasEdge graph.now) node)
         (λ node. (node < length graph.now) × IsLeast (IsOnLoop (HasEdge graph.now)) node)) }
 {
-    for node in 0..graph.size() {
-        if is_on_cycle(graph, node)? {
-            return Ok(Some(node));
-        }
-    }
-    Ok(None)
-}
-
-// Whether a path leads from a node along at least one edge to itself.
-fn is_on_cycle(graph: &Graph, node: u32) -> Result<bool, AllocError>
-    requires { node < length graph.now }
-    ensures { IfOk result (λ b. IsTrue b ↔ IsOnLoop (HasEdge graph.now) node) }
-{
-    if !is_between(graph, node) {
-        return Ok(false);
-    }
-    let reaching = graph.reaching(node)?;
-    Ok(any_marked(graph.succs(node), &reaching))
-}
-
-// Whether a search is needed: not where no edge leads on from the node, or none to it.
-fn is_between(graph: &Graph, node: u32) -> bool
-    requires { node < length graph.now }
-    ensures { OnFalse result (¬ IsOnLoop (HasEdge graph.now) node) }
-{
-    !graph.succs(node).is_empty() && !graph.preds(node).is_empty()
-}
-
-// Whether one of these nodes has its mark.
-fn any_marked(nodes: &[u32], marks: &Marks) -> bool
-    ensures { IsTrue result ↔ HasMarked nodes.now marks.now }
-{
-    for node in nodes {
-        if marks.has(*node) {
-            return true;
-        }
-    }
-    false
+    least_on_loop(graph)
 }

@@ -3,7 +3,7 @@ use Rattle.std.proofs.Common.{refl, get_or, arith}
 use Rattle.std.proofs.lemmas.Bool.{false≢true}
 use Rattle.std.proofs.lemmas.List.Elements.{Contains-get_or}
 use Rattle.dep_graph.proofs.MarkLemmas.{none_marked}
-use Rattle.hot_admit.proofs.names.any_marked.Goals as goal
+use Rattle.graph_loops.proofs.least.any_marked.Goals as goal
 
 pub returns-then-has : goal.returns-then-has
 returns-then-has c = (

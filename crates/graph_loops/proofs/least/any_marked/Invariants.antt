@@ -1,6 +1,6 @@
 use Rattle.std.proofs.Common.{ℕ, ◌<◌, get_or}
 use Rattle.dep_graph.specs.Marks.{IsMarked}
-use Rattle.hot_admit.proofs.names.any_marked.Given as goal
+use Rattle.graph_loops.proofs.least.any_marked.Given as goal
 
 -- none of the first has its mark
 abbrev pub invariant-loop-node : goal.invariant-loop-node

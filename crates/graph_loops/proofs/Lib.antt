@@ -1,0 +1,4 @@
+pub mod CountLemmas
+pub mod VisitLemmas
+pub mod RankLemmas
+pub mod LoopLemmas
