@@ -1,6 +1,7 @@
 //! Reads and binds a template of so many resources, of about a kilobyte each, for the clock outside. The
-//! words are how far to go (`text`, `value`, `template`, `bind` or `admit`) and how many resources; or `chain`, for
-//! the plan of a template of a chain of conditions, and how many. Prints what came out, which is the same at each run.
+//! words are how far to go (`text`, `value`, `template`, `bind` or `admit`) and how many resources; or `chain` or
+//! `made`, for the plan of a template of a chain of conditions, and how many. Prints what came out, which is the same
+//! at each run.
 #![tactic(auto)]
 
 mod conditions;
@@ -16,7 +17,7 @@ fn main(rt: HostRuntime) -> Result<()> {
     let mut words = env::args(&rt)?;
     let _program = words.next();
     let Some(what) = words.next() else {
-        bail!("text, value, template, bind, admit or chain");
+        bail!("text, value, template, bind, admit, chain or made");
     };
     let Some(size) = words.next() else {
         bail!("how many");
@@ -35,6 +36,7 @@ fn work_of(word: &str) -> Result<Work> {
         "bind" => Ok(Work::Bind),
         "admit" => Ok(Work::Admit),
         "chain" => Ok(Work::Chain),
-        _ => bail!("text, value, template, bind, admit or chain"),
+        "made" => Ok(Work::Made),
+        _ => bail!("text, value, template, bind, admit, chain or made"),
     }
 }

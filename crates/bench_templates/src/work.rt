@@ -5,7 +5,7 @@ ghost use Rattle.heat_value.specs.Meaning.{data_of};
 ghost use Rattle.hot_registry.specs.Names.{is_listed};
 ghost use Rattle.hot_registry.specs.Shipped.{flavor_test as the_flavor_test};
 
-use crate::conditions::{push_chain, push_conditions};
+use crate::conditions::{push_chain, push_conditions, push_made_chain};
 use crate::parameters::{given, push_parameters};
 use crate::resources::{KINDS, push_resources};
 use anyhow::{Result, bail};
@@ -18,7 +18,7 @@ use hot_registry::{Ask, Custom, Registry, flavor_test, is_flavor};
 use hot_tree::Template;
 use std::alloc::Global;
 
-/// Each word but the last does what the one before it does, and one thing more.
+/// Each word but the last two does what the one before it does, and one thing more.
 #[derive(Clone, Copy, Debug, PartialEq, Eq)]
 pub enum Work {
     /// Makes the text.
@@ -33,12 +33,14 @@ pub enum Work {
     Admit,
     /// Makes the plan of a template of a chain of so many conditions, and no resource.
     Chain,
+    /// The same, where a `repeat` makes each name that a condition reads.
+    Made,
 }
 
 /// How many bytes, sections, resources, parameters, items or conditions came out.
 pub fn count(alloc: Global, work: Work, size: u32) -> Result<usize> {
     let text = match work {
-        Work::Chain => chain_of(alloc, size)?,
+        Work::Chain | Work::Made => chain_of(alloc, work, size)?,
         _ => text_of(alloc, size)?,
     };
     if work == Work::Text {
@@ -72,10 +74,13 @@ fn text_of(alloc: Global, size: u32) -> Result<String> {
 }
 
 // A template of a chain of conditions and the hundred parameters as text.
-fn chain_of(alloc: Global, size: u32) -> Result<String> {
+fn chain_of(alloc: Global, work: Work, size: u32) -> Result<String> {
     let mut text = String::new(alloc);
     text.push_str("{\"conditions\":{")?;
-    push_chain(alloc, &mut text, size)?;
+    match work {
+        Work::Made => push_made_chain(alloc, &mut text, size)?,
+        _ => push_chain(alloc, &mut text, size)?,
+    }
     text.push_str("},\"heat_template_version\":\"2018-08-31\",\"parameters\":{")?;
     push_parameters(alloc, &mut text)?;
     text.push_str("}}")?;
@@ -121,7 +126,7 @@ fn bound_on(alloc: Global, work: Work, template: &Template) -> Result<usize>
         return Ok(bound.params.as_slice().len());
     }
     let plan = admitted(alloc, template, &bound, &registry)?;
-    if work == Work::Chain {
+    if work == Work::Chain || work == Work::Made {
         return Ok(plan.conds().as_slice().len());
     }
     Ok(plan.items().len())

@@ -33,3 +33,4 @@ pub mod Finding
 pub mod Adding
 pub mod Found
 pub mod KeyMarks
+pub mod Waits

@@ -14,10 +14,11 @@ ghost use Rattle.hot_eval.specs.Conditions.{first_unvalued, values_of};
 use crate::conds::{Conds, Wanted};
 use crate::fault::CondFault;
 use crate::names::{least_on_cycle, names_graph};
+use crate::waiting::{Due, Waiting};
 use dep_graph::Order;
 use heat_plan::{ByName, Condition};
 use heat_value::{Member, Path, Props, Seq, Step, Text, TryCopy, Value};
-use hot_eval::{ValuedConds, flag_of};
+use hot_eval::{ValuedConds, flag_of, flag_or_missed};
 use hot_params::Bound;
 use hot_parts::{Out, Res};
 use hot_tree::Template;
@@ -106,7 +107,8 @@ fn named(name: &Text, value: bool) -> Result<Condition, AllocError>
 }
 
 // The value of each condition by its place, where it has one. An order in which each comes behind those
-// that it names finds them at once, but for what a `repeat` makes of a name that is written.
+// that it names finds them at once, but for what a `repeat` makes of a name that is written; what waits for
+// such a one is found in the same round.
 fn evaluated(
     alloc: Global,
     params: &Props,
@@ -152,40 +154,98 @@ fn find_more(
     ensures more { IfOk result
         (λ any. any ≡ true → FindsOne (members_of conds.now) values.old.items values.new.items) }
 {
+    let mut waiting = Waiting::new(alloc, conds.len())?;
+    if !find_in_order(alloc, params, conds, order, values, &mut waiting)? {
+        return Ok(false);
+    }
+    find_due(alloc, params, conds, values, &mut waiting)?;
+    Ok(true)
+}
+
+// Tries each condition once; whether any value was found.
+fn find_in_order(
+    alloc: Global,
+    params: &Props,
+    conds: &[Member],
+    order: &[u32],
+    values: &mut Vec<Option<bool>>,
+    waiting: &mut Waiting,
+) -> Result<bool, AllocError>
+    requires rising { Rises (members_of conds.now) }
+    requires order { IsNamingOrder (members_of conds.now) order.now }
+    requires found { AreFound params.now (members_of conds.now) values.old.items }
+    requires count { waiting.old ≡ length conds.now }
+    ensures found { OnOk result (AreFound params.now (members_of conds.now) values.new.items) }
+    ensures round { OnOk result
+        (AddsRound params.now (members_of conds.now) values.old.items values.new.items) }
+    ensures same { IfOk result (λ any. any ≡ false → values.new.items ≡ values.old.items) }
+    ensures more { IfOk result
+        (λ any. any ≡ true → FindsOne (members_of conds.now) values.old.items values.new.items) }
+    ensures count { waiting.new ≡ waiting.old }
+{
     let mut any = false;
     for place in order {
-        if find_at(alloc, params, conds, *place as usize, values)? {
+        if find_at(alloc, params, conds, Due::first(*place), values, waiting)? {
             any = true;
         }
     }
     Ok(any)
 }
 
-// Finds the value of the condition at a place, if it has one where these are known; whether it was found.
+// Tries those that are due, which are more as values are found. Each waits for each other one once at most.
+fn find_due(
+    alloc: Global,
+    params: &Props,
+    conds: &[Member],
+    values: &mut Vec<Option<bool>>,
+    waiting: &mut Waiting,
+) -> Result<(), AllocError>
+    requires rising { Rises (members_of conds.now) }
+    requires found { AreFound params.now (members_of conds.now) values.old.items }
+    requires count { waiting.old ≡ length conds.now }
+    ensures found { OnOk result (AreFound params.now (members_of conds.now) values.new.items) }
+    ensures grows { OnOk result (Grows (members_of conds.now) values.old.items values.new.items) }
+{
+    for _try in 0..conds.len().saturating_mul(conds.len()) {
+        let Some(due) = waiting.take_next() else {
+            return Ok(());
+        };
+        find_at(alloc, params, conds, due, values, waiting)?;
+    }
+    Ok(())
+}
+
+// Finds the value of the condition that is due, if it has one where these are known; whether it was found.
 fn find_at(
     alloc: Global,
     params: &Props,
     conds: &[Member],
-    place: usize,
+    due: Due,
     values: &mut Vec<Option<bool>>,
+    waiting: &mut Waiting,
 ) -> Result<bool, AllocError>
     requires rising { Rises (members_of conds.now) }
-    requires place { place < length conds.now }
+    requires place { due.place < length conds.now }
     requires found { AreFound params.now (members_of conds.now) values.old.items }
+    requires count { waiting.old ≡ length conds.now }
     ensures found { OnOk result (AreFound params.now (members_of conds.now) values.new.items) }
     ensures grows { OnOk result (Grows (members_of conds.now) values.old.items values.new.items) }
     ensures here { OnOk result
-        (IsFoundAt params.now (members_of conds.now) values.old.items values.new.items place) }
+        (IsFoundAt params.now (members_of conds.now) values.old.items values.new.items due.place) }
     ensures same { IfOk result (λ any. any ≡ false → values.new.items ≡ values.old.items) }
     ensures more { IfOk result
         (λ any. any ≡ true → FindsOne (members_of conds.now) values.old.items values.new.items) }
+    ensures count { waiting.new ≡ waiting.old }
 {
+    let place = due.place as usize;
     let cond = &conds[place];
     if values[place].is_some() {
         return Ok(false);
     }
     let known = ValuedConds::so_far(conds, values);
-    match flag_of(alloc, &cond.value, params, known)? {
+    let tried = flag_or_missed(alloc, &cond.value, params, known)?;
+    waiting.note(due, &tried)?;
+    match tried.flag {
         Some(value) => {
             values[place] = Some(value);
             Ok(true)

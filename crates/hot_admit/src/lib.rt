@@ -21,6 +21,7 @@ mod plan;
 mod references;
 mod sought;
 mod unsupported;
+mod waiting;
 
 pub use basis::Basis;
 pub use code::AdmitCode;

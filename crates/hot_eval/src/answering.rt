@@ -97,12 +97,16 @@ pub fn charge(alloc: Global, made: &Value, sum: &mut Sum) -> Result<(), EvalFaul
     sum.charge(alloc, value_size(made))
 }
 
-/// The value of the condition of that name; the text as written where there is none.
-pub fn named_condition(scene: &Scene, name: &Text) -> Result<Value, AllocError>
-    ensures { IfOk result (λ v. data_of v ≡ the_named_condition (scene_data scene.now) name.now) }
+/// The value of the condition of that name; the text as written where there is none, which is noted.
+pub fn named_condition(scene: &Scene, name: &Text, sum: &mut Sum) -> Result<Value, AllocError>
+    ensures value { IfOk result (λ v. data_of v ≡ the_named_condition (scene_data scene.now) name.now) }
+    ensures same { sum.new ≡ sum.old }
 {
     match scene.condition_named(name) {
         Some(flag) => Ok(Value::Flag(flag)),
-        None => Ok(Value::Words(name.copy()?)),
+        None => {
+            sum.miss(scene.conds.place_of(name));
+            Ok(Value::Words(name.copy()?))
+        }
     }
 }

@@ -16,6 +16,14 @@ use crate::{EvalFault, Scene, ValuedConds};
 use heat_value::{Props, Value};
 use std::alloc::{AllocError, Global};
 
+/// What trying a condition expression tells: its flag, if it gives one; else the place of the condition
+/// that was missed first, if one was, without whose value it gives none.
+#[derive(Clone, Copy, Debug)]
+pub struct Tried {
+    pub flag: Option<bool>,
+    pub missed: Option<usize>,
+}
+
 /// The flag that a condition expression gives, from no cost on, where these parameters are bound and
 /// these conditions have values; none where it is at fault. No file and no resource counts as there.
 pub fn flag_of(
@@ -26,9 +34,28 @@ pub fn flag_of(
 ) -> Result<Option<bool>, AllocError>
     ensures { IfOk result (λ o. o ≡ the_flag_of params.now (valued_data known.entry) (data_of given.now)) }
 {
-    match condition(&setting(alloc, params, known), given, &mut Sum::new()) {
-        Ok(made) => Ok(flag_in(&made)),
-        Err(EvalFault::Wrong(_, _)) => Ok(None),
+    Ok(flag_or_missed(alloc, given, params, known)?.flag)
+}
+
+/// The same, and what was missed.
+pub fn flag_or_missed(
+    alloc: Global,
+    given: &Value,
+    params: &Props,
+    known: ValuedConds,
+) -> Result<Tried, AllocError>
+    ensures { IfOk result (λ t. t.flag ≡ the_flag_of params.now (valued_data known.entry) (data_of given.now)) }
+{
+    let mut sum = Sum::new();
+    match condition(&setting(alloc, params, known), given, &mut sum) {
+        Ok(made) => Ok(Tried {
+            flag: flag_in(&made),
+            missed: sum.missed(),
+        }),
+        Err(EvalFault::Wrong(_, _)) => Ok(Tried {
+            flag: None,
+            missed: sum.missed(),
+        }),
         Err(EvalFault::Memory) => Err(AllocError),
     }
 }

@@ -196,7 +196,7 @@ pub fn condition(set: &Setting, given: &Value, sum: &mut Sum) -> Result<Value, E
         (condition_outcome (again set.now) (scene_data set.now.scene) (data_of given.now) sum.old) }
 {
     match given {
-        Value::Words(name) => Ok(named_condition(&set.scene, name)?),
+        Value::Words(name) => Ok(named_condition(&set.scene, name, sum)?),
         Value::Fields(fields) => condition_object(set, fields, sum),
         Value::Null | Value::Flag(_) | Value::Whole(_) | Value::Items(_) => Ok(given.copy()?),
     }

@@ -31,7 +31,7 @@ mod texts;
 mod valued_conds;
 
 pub use code::FaultCode;
-pub use conditions::flag_of;
+pub use conditions::{Tried, flag_of, flag_or_missed};
 pub use fault::{EvalFault, FunctionFault};
 pub use function::Function;
 pub use manner::Manner;

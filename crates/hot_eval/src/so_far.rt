@@ -27,6 +27,11 @@ impl<'a> SoFar<'a> {
             Err(_) => None,
         }
     }
+
+    /// The place of the condition of this name, by binary search.
+    pub(crate) fn place_of(&self, name: &Text) -> Option<usize> {
+        self.conds.binary_search_by(|cond| cond.key.cmp(name)).ok()
+    }
 }
 
 // The value at a place, if there is one.

@@ -1,4 +1,4 @@
-//! The running sum of costs.
+//! The running sum of costs, and the condition that was missed first.
 ghost use Rattle.std.specs.Prelude.{◌≡◌, ◌-◌};
 ghost use Rattle.hot_eval.specs.Answers.{IsOutcome};
 ghost use Rattle.hot_eval.specs.Outcomes.{charged, cost_limit};
@@ -10,10 +10,12 @@ use std::marker::Model;
 /// What one evaluation may cost, in bytes of compact JSON.
 pub const MAX_COST: usize = 16_777_216;
 
-/// The sum of costs so far, which doesn't pass `MAX_COST`.
+/// The sum of costs so far, which doesn't pass `MAX_COST`; beside it, unseen by clauses, the place of the
+/// first condition that was looked for and had no value.
 #[derive(Debug, Drop)]
 pub struct Sum {
     spent: usize,
+    missed: Option<usize>,
 }
 
 impl Model for Sum {
@@ -28,11 +30,14 @@ impl Model for Sum {
 }
 
 impl Sum {
-    /// No cost yet.
+    /// No cost yet, and nothing missed.
     pub fn new() -> Sum
         ensures { result ≡ 0 }
     {
-        Sum { spent: 0 }
+        Sum {
+            spent: 0,
+            missed: None,
+        }
     }
 
     /// What was spent.
@@ -58,5 +63,17 @@ impl Sum {
         }
         self.spent += cost;
         Ok(())
+    }
+
+    /// Notes the place of a condition that has no value, unless one was noted.
+    pub fn miss(&mut self, place: Option<usize>)
+        ensures { self.new ≡ self.old }
+    {
+        self.missed = self.missed.or(place);
+    }
+
+    /// The place that was noted.
+    pub fn missed(&self) -> Option<usize> {
+        self.missed
     }
 }

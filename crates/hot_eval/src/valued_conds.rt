@@ -35,4 +35,12 @@ impl<'a> ValuedConds<'a> {
             ValuedConds::SoFar(found) => found.value_of(name),
         }
     }
+
+    /// The place of the condition of this name, where places are known.
+    pub(crate) fn place_of(&self, name: &Text) -> Option<usize> {
+        match self {
+            ValuedConds::All(_) => None,
+            ValuedConds::SoFar(found) => found.place_of(name),
+        }
+    }
 }

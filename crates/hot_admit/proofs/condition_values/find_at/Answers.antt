@@ -13,7 +13,7 @@ index-requires c =
 pub returns-then-is_some-clause-here : goal.returns-then-is_some-clause-here
 returns-then-is_some-clause-here c =
     found_before
-    (is_at_place c.args.params.now c.args.conds.now _ c.args.place c.index-conds-place.result c.requires.rising
+    (is_at_place c.args.params.now c.args.conds.now _ c.args.due.place c.index-conds-place.result c.requires.rising
     c.requires.found c.requires.place c.index-conds-place.is)
     c.index.result.now c.index.ensures (sym c.is_some.ensures ∙ c.if-is_some.true)
 
@@ -24,57 +24,57 @@ index_mut-requires c =
 pub returns-in-Some-clause-found : goal.returns-in-Some-clause-found
 returns-in-Some-clause-found c =
     found_now
-    (is_at_place c.args.params.now c.args.conds.now _ c.args.place c.index-conds-place.result c.requires.rising
+    (is_at_place c.args.params.now c.args.conds.now _ c.args.due.place c.index-conds-place.result c.requires.rising
     c.requires.found c.requires.place c.index-conds-place.is)
     c.in-Some.value
     (flag_told c.args.params.now c.index-conds-place.result
     (named_values (members_of c.args.conds.now) c.args.values.now.items) _ _
     (c.so_far-known.ensures ∙ ap (named_values (members_of c.args.conds.now)) c.deref.ensures.value)
-    c.in_ok-value.ensures ∙ c.in-Some.is)
+    c.in_ok-tried.ensures ∙ c.in-Some.is)
     c.index.result.now c.index.ensures (sym c.is_some.ensures ∙ c.if-is_some.false)
 
 pub returns-in-Some-clause-grows : goal.returns-in-Some-clause-grows
 returns-in-Some-clause-grows c =
     found_grows
-    (is_at_place c.args.params.now c.args.conds.now _ c.args.place c.index-conds-place.result c.requires.rising
+    (is_at_place c.args.params.now c.args.conds.now _ c.args.due.place c.index-conds-place.result c.requires.rising
     c.requires.found c.requires.place c.index-conds-place.is)
     c.in-Some.value
     (flag_told c.args.params.now c.index-conds-place.result
     (named_values (members_of c.args.conds.now) c.args.values.now.items) _ _
     (c.so_far-known.ensures ∙ ap (named_values (members_of c.args.conds.now)) c.deref.ensures.value)
-    c.in_ok-value.ensures ∙ c.in-Some.is)
+    c.in_ok-tried.ensures ∙ c.in-Some.is)
     c.index.result.now c.index.ensures (sym c.is_some.ensures ∙ c.if-is_some.false)
 
 pub returns-in-Some-clause-here : goal.returns-in-Some-clause-here
 returns-in-Some-clause-here c =
     found_more
-    (is_at_place c.args.params.now c.args.conds.now _ c.args.place c.index-conds-place.result c.requires.rising
+    (is_at_place c.args.params.now c.args.conds.now _ c.args.due.place c.index-conds-place.result c.requires.rising
     c.requires.found c.requires.place c.index-conds-place.is)
     c.in-Some.value
     (flag_told c.args.params.now c.index-conds-place.result
     (named_values (members_of c.args.conds.now) c.args.values.now.items) _ _
     (c.so_far-known.ensures ∙ ap (named_values (members_of c.args.conds.now)) c.deref.ensures.value)
-    c.in_ok-value.ensures ∙ c.in-Some.is)
+    c.in_ok-tried.ensures ∙ c.in-Some.is)
     c.index.result.now c.index.ensures (sym c.is_some.ensures ∙ c.if-is_some.false)
 
 pub returns-in-Some-clause-more : goal.returns-in-Some-clause-more
 returns-in-Some-clause-more c = λ any.
     found_anew
-    (is_at_place c.args.params.now c.args.conds.now _ c.args.place c.index-conds-place.result c.requires.rising
+    (is_at_place c.args.params.now c.args.conds.now _ c.args.due.place c.index-conds-place.result c.requires.rising
     c.requires.found c.requires.place c.index-conds-place.is)
     c.in-Some.value
     (flag_told c.args.params.now c.index-conds-place.result
     (named_values (members_of c.args.conds.now) c.args.values.now.items) _ _
     (c.so_far-known.ensures ∙ ap (named_values (members_of c.args.conds.now)) c.deref.ensures.value)
-    c.in_ok-value.ensures ∙ c.in-Some.is)
+    c.in_ok-tried.ensures ∙ c.in-Some.is)
     c.index.result.now c.index.ensures (sym c.is_some.ensures ∙ c.if-is_some.false)
 
 pub returns-in-None-clause-here : goal.returns-in-None-clause-here
 returns-in-None-clause-here c =
     found_nothing
-    (is_at_place c.args.params.now c.args.conds.now _ c.args.place c.index-conds-place.result c.requires.rising
+    (is_at_place c.args.params.now c.args.conds.now _ c.args.due.place c.index-conds-place.result c.requires.rising
     c.requires.found c.requires.place c.index-conds-place.is)
     (flag_told c.args.params.now c.index-conds-place.result
     (named_values (members_of c.args.conds.now) c.args.values.now.items) _ _
     (c.so_far-known.ensures ∙ ap (named_values (members_of c.args.conds.now)) c.deref.ensures.value)
-    c.in_ok-value.ensures ∙ c.in-None.is)
+    c.in_ok-tried.ensures ∙ c.in-None.is)

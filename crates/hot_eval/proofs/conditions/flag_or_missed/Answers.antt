@@ -6,17 +6,17 @@ use Rattle.hot_eval.specs.Conditions.{in_conditions}
 use Rattle.hot_eval.specs.ValuedConds.{valued_data}
 use Rattle.hot_eval.specs.Scenes.{scene_data}
 use Rattle.hot_eval.proofs.Flags.{flag_is}
-use Rattle.hot_eval.proofs.conditions.flag_of.Goals as goal
+use Rattle.hot_eval.proofs.conditions.flag_or_missed.Goals as goal
 
 pub returns-in-Ok : goal.returns-in-Ok
 returns-in-Ok c =
     c.flag_in.ensures
     ∙ flag_is (again c.setting.result) (in_conditions c.args.params.now (valued_data c.args.known))
     (scene_data c.setting.result.scene) (data_of c.args.given.now) _ _ c.setting.ensures.scene c.setting.ensures.again
-    c.new.ensures c.in-Ok.ensures
+    c.new-sum.ensures c.in-Ok.ensures
 
 pub returns-in-Err-Wrong : goal.returns-in-Err-Wrong
 returns-in-Err-Wrong c =
     flag_is (again c.setting.result) (in_conditions c.args.params.now (valued_data c.args.known))
     (scene_data c.setting.result.scene) (data_of c.args.given.now) _ _ c.setting.ensures.scene c.setting.ensures.again
-    c.new.ensures (rw c.in-Err-Wrong.field-0-is at c.in-Err-Wrong.ensures)
+    c.new-sum.ensures (rw c.in-Err-Wrong.field-0-is at c.in-Err-Wrong.ensures)
