@@ -13,9 +13,10 @@ ghost use Rattle.hot_eval.specs.Conditions.{first_unvalued, values_of};
 
 use crate::conds::{Conds, Wanted};
 use crate::fault::CondFault;
-use crate::names::{least_on_cycle, names_graph};
+use crate::names::names_graph;
 use crate::waiting::{Due, Waiting};
 use dep_graph::Order;
+use graph_loops::least_on_loop;
 use heat_plan::{ByName, Condition};
 use heat_value::{Member, Path, Props, Seq, Step, Text, TryCopy, Value};
 use hot_eval::{ValuedConds, flag_of, flag_or_missed};
@@ -54,7 +55,7 @@ fn order_of(alloc: Global, conds: &[Member]) -> Result<Seq<u32>, CondFault>
     let graph = names_graph(alloc, conds)?;
     match graph.order()? {
         Order::Order(order) => Ok(order),
-        Order::Cycle(_) => match least_on_cycle(&graph)? {
+        Order::Cycle(_) => match least_on_loop(&graph)? {
             Some(place) => Err(CondFault::C01(condition_path(alloc, &conds[place as usize].key)?)),
             None => unreachable!(),
         },

@@ -1,8 +1,5 @@
-//! The conditions that a condition names, and cycles among them.
-ghost use Rattle.std.specs.Prelude.{◌≡◌, ◌++◌, ◌<◌, ◌^◌, ℕ, IfOk, OnOk, MatchOption, map, length};
-ghost use Rattle.dep_graph.specs.Edges.{HasEdge};
-ghost use Rattle.dep_graph.specs.Lists.{IsLeast};
-ghost use Rattle.graph_loops.specs.Loops.{IsOnLoop};
+//! The conditions that a condition names.
+ghost use Rattle.std.specs.Prelude.{◌≡◌, ◌++◌, ◌<◌, ◌^◌, IfOk, OnOk, map, length};
 ghost use Rattle.heat_value.specs.Data.{keys_of, Rises};
 ghost use Rattle.heat_value.specs.Meaning.{data_of, nodes_of, members_of};
 ghost use Rattle.hot_eval.specs.Conditions.{names_read as the_names_read, names_read_among as the_names_read_among};
@@ -11,7 +8,6 @@ ghost use Rattle.hot_admit.specs.Naming.{HasNames, AddsNames};
 
 use crate::lookup::place_of;
 use dep_graph::Graph;
-use graph_loops::least_on_loop;
 use heat_value::{Member, Text, Value};
 use hot_functions::{Place, item_place, lone, member_place};
 use std::alloc::{AllocError, Global};
@@ -119,13 +115,4 @@ fn add_name<'a>(place: Place, name: &'a Text, names: &mut Vec<&'a Text>) -> Resu
         Place::Open | Place::Barred | Place::Conditions => Ok(()),
         Place::Branches | Place::BarredBranches => Ok(()),
     }
-}
-
-/// The least node that is on a cycle.
-pub fn least_on_cycle(graph: &Graph) -> Result<Option<u32>, AllocError>
-    ensures { IfOk result (λ o. MatchOption o
-        ((node : ℕ) → ¬ IsOnLoop (HasEdge graph.now) node)
-        (λ node. (node < length graph.now) × IsLeast (IsOnLoop (HasEdge graph.now)) node)) }
-{
-    least_on_loop(graph)
 }
