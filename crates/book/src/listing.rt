@@ -35,5 +35,5 @@ fn stranger_in(all: Seq<Alive>) -> Listing
         return Listing::Nothing;
     }
     let first = all.remove(0);
-    Listing::Stranger(first.token)
+    Listing::Stranger(first.into_token())
 }

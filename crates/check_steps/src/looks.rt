@@ -23,7 +23,7 @@ pub enum Work {
 
 /// What a begin at an update node is prepared from: the plan and the item, what the node was given,
 /// and the job's row with its properties and its key, which each lock raises.
-#[derive(Debug, Drop)]
+#[derive(Debug)]
 pub struct BeginWork {
     pub plan: SharedPlan,
     pub item: Item,
@@ -31,4 +31,17 @@ pub struct BeginWork {
     pub row: RowNo,
     pub props: Properties,
     pub key: u64,
+}
+
+impl Drop for BeginWork {
+    fn drop(self) {
+        let BeginWork {
+            plan: _,
+            item: _,
+            inputs: _,
+            row: _,
+            props: _,
+            key: _,
+        } = self;
+    }
 }

@@ -6,11 +6,22 @@ use step_reads::Fresh;
 
 // A job with its work, the input that its node gives, the nodes behind the node, and those of them
 // that are ready then, each rising.
-#[derive(Drop)]
 pub(crate) struct Passed<'a> {
     pub job: &'a Job,
     pub fresh: Fresh<'a>,
     pub input: Input,
     pub succs: Seq<u32>,
     pub ready: Seq<u32>,
+}
+
+impl Drop for Passed<'_> {
+    fn drop(self) {
+        let Passed {
+            job: _,
+            fresh: _,
+            input: _,
+            succs: _,
+            ready: _,
+        } = self;
+    }
 }

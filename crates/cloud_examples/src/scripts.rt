@@ -8,11 +8,20 @@ use std::alloc::{AllocError, Global};
 use std::test::Fail;
 
 // A token, its kind, and properties.
-#[derive(Drop)]
 struct Example {
     token: Token,
     kind: Kind,
     props: Properties,
+}
+
+impl Drop for Example {
+    fn drop(self) {
+        let Example {
+            token: _,
+            kind: _,
+            props: _,
+        } = self;
+    }
 }
 
 fn of_size(alloc: Global, size: i64) -> Result<Example, Fail> {
@@ -351,6 +360,7 @@ fn scripted_calls_fail(rt: HostRuntime) -> Result<(), Fail> {
 #[test]
 fn a_call_of_a_trace_is_copied(rt: HostRuntime) -> Result<(), Fail> {
     let call = Traced::Listed(Listing::Failed);
-    assert!(rt; matches!(call.copy()?, Traced::Listed(Listing::Failed)));
+    let copied = call.copy()?;
+    assert!(rt; matches!(&copied, Traced::Listed(Listing::Failed)));
     Ok(())
 }

@@ -73,13 +73,24 @@ fn list_letter(listed: Listed) -> &'static str {
 }
 
 // What the script asks for, and the attribute that polls tell.
-#[derive(Drop)]
 struct Script {
     token: Token,
     kind: Kind,
     small: Properties,
     big: Properties,
     size: Text,
+}
+
+impl Drop for Script {
+    fn drop(self) {
+        let Script {
+            token: _,
+            kind: _,
+            small: _,
+            big: _,
+            size: _,
+        } = self;
+    }
 }
 
 fn example(alloc: Global) -> Result<Script, Fail> {

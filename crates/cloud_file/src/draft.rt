@@ -18,7 +18,6 @@ use std::alloc::{AllocError, Global};
 const MOST_POLLS: u64 = 64;
 
 /// What was read of a resource.
-#[derive(Drop)]
 pub struct Draft {
     pub attrs: Option<Properties>,
     pub id: Option<Text>,
@@ -28,6 +27,21 @@ pub struct Draft {
     pub props: Option<Properties>,
     pub ready: Option<bool>,
     pub token: Option<Token>,
+}
+
+impl Drop for Draft {
+    fn drop(self) {
+        let Draft {
+            attrs: _,
+            id: _,
+            kind: _,
+            leaving: _,
+            left: _,
+            props: _,
+            ready: _,
+            token: _,
+        } = self;
+    }
 }
 
 impl Draft {

@@ -32,7 +32,7 @@ pub enum EngineChange {
 }
 
 /// Why a traversal failed at a row.
-#[derive(Debug, Drop)]
+#[derive(Debug)]
 pub enum Why {
     Quota,
     Failed(Act),
@@ -40,12 +40,33 @@ pub enum Why {
     Resolve(Text, Path),
 }
 
+impl Drop for Why {
+    fn drop(self) {
+        match self {
+            Why::Quota => {}
+            Why::Failed(_) => {}
+            Why::Broken(_, _) => {}
+            Why::Resolve(_, _) => {}
+        }
+    }
+}
+
 /// The resource at which a traversal failed, its row, and why.
-#[derive(Debug, Drop)]
+#[derive(Debug)]
 pub struct Cause {
     pub name: ResName,
     pub row: RowNo,
     pub why: Why,
+}
+
+impl Drop for Cause {
+    fn drop(self) {
+        let Cause {
+            name: _,
+            row: _,
+            why: _,
+        } = self;
+    }
 }
 
 /// A row was written, or is gone.
@@ -56,7 +77,7 @@ pub enum RowWrite {
 }
 
 /// A letter was sent or dropped, or a job was given a form or ended.
-#[derive(Debug, Drop)]
+#[derive(Debug)]
 pub enum MailWrite {
     Sent(Letter),
     Dropped(LetterNo),
@@ -64,9 +85,20 @@ pub enum MailWrite {
     Ended(EngineNo),
 }
 
+impl Drop for MailWrite {
+    fn drop(self) {
+        match self {
+            MailWrite::Sent(_) => {}
+            MailWrite::Dropped(_) => {}
+            MailWrite::Held(_) => {}
+            MailWrite::Ended(_) => {}
+        }
+    }
+}
+
 /// What happened. A command tells whether a failure of it is rolled back. A resource whose token is
 /// released stays, and the engine gives it up. A mark without a cause says that the traversal is complete.
-#[derive(Debug, Drop)]
+#[derive(Debug)]
 pub enum What {
     /// A traversal of a stack began; an update's rollback flag is told with it.
     Command {
@@ -128,6 +160,44 @@ pub enum What {
     },
     /// No more lines are read.
     Closed,
+}
+
+impl Drop for What {
+    fn drop(self) {
+        match self {
+            What::Command {
+                stack: _,
+                trav: _,
+                act: _,
+                plan: _,
+                rollback: _,
+            } => {}
+            What::Call {
+                token: _,
+                request: _,
+                answer: _,
+            } => {}
+            What::Release { token: _ } => {}
+            What::Mark {
+                stack: _,
+                trav: _,
+                act: _,
+                cause: _,
+            } => {}
+            What::Rows { writes: _ } => {}
+            What::Mail { writes: _ } => {}
+            What::Engine { change: _ } => {}
+            What::Show { what: _, stack: _ } => {}
+            What::Note {
+                line: _,
+                code: _,
+                path: _,
+            } => {}
+            What::Ran { idle: _, turns: _ } => {}
+            What::Turned { engine: _, lost: _ } => {}
+            What::Closed => {}
+        }
+    }
 }
 
 /// One entry of the history: who made it, and what happened.

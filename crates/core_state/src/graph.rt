@@ -10,11 +10,21 @@ use std::alloc::{AllocError, Global};
 use traversal_graph::TravGraph;
 
 /// A stack's newest graph, with a point for each of its nodes.
-#[derive(Debug, Drop)]
+#[derive(Debug)]
 pub struct Graph {
     pub stack: StackName,
     pub graph: TravGraph,
     pub points: NodePoints,
+}
+
+impl Drop for Graph {
+    fn drop(self) {
+        let Graph {
+            stack: _,
+            graph: _,
+            points: _,
+        } = self;
+    }
 }
 
 /// A point for each node of a graph on which nothing has been done.

@@ -8,11 +8,21 @@ use std::alloc::AllocError;
 
 /// Whether a failure of the stack's newest traversal is rolled back, and the plan that a rollback goes
 /// back to: none is the empty plan. A stack without a past has no rollback and no such plan.
-#[derive(Debug, Drop)]
+#[derive(Debug)]
 pub struct Past {
     pub stack: StackName,
     pub rollback: bool,
     pub back: Option<SharedPlan>,
+}
+
+impl Drop for Past {
+    fn drop(self) {
+        let Past {
+            stack: _,
+            rollback: _,
+            back: _,
+        } = self;
+    }
 }
 
 impl Keyed for Past {

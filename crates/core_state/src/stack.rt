@@ -8,7 +8,7 @@ use std::alloc::AllocError;
 
 /// A stack: the number of its newest traversal, what that does and how far it is, and its plan. A plan
 /// of None means a delete.
-#[derive(Debug, Drop)]
+#[derive(Debug)]
 pub struct Stack {
     pub name: StackName,
     pub no: StackNo,
@@ -16,6 +16,19 @@ pub struct Stack {
     pub act: Act,
     pub status: Status,
     pub plan: Option<SharedPlan>,
+}
+
+impl Drop for Stack {
+    fn drop(self) {
+        let Stack {
+            name: _,
+            no: _,
+            trav: _,
+            act: _,
+            status: _,
+            plan: _,
+        } = self;
+    }
 }
 
 impl Keyed for Stack {

@@ -28,7 +28,7 @@ use sync_points::Point;
 /// The stacks with their newest graphs and their pasts, the rows, the waiting letters, the jobs, the live
 /// engines by rising number, the tokens that were released, and the next numbers. Stacks, graphs, pasts,
 /// rows, letters and jobs are found through indexes.
-#[derive(Debug, Drop)]
+#[derive(Debug)]
 pub struct State {
     stacks: Table<Stack>,
     graphs: Table<Graph>,
@@ -38,6 +38,21 @@ pub struct State {
     live: ListTable<EngineNo>,
     released: Roomed<Token>,
     next: Numbers,
+}
+
+impl Drop for State {
+    fn drop(self) {
+        let State {
+            stacks: _,
+            graphs: _,
+            pasts: _,
+            rows: _,
+            mail: _,
+            live: _,
+            released: _,
+            next: _,
+        } = self;
+    }
 }
 
 impl Model for State {

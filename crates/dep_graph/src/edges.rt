@@ -12,10 +12,15 @@ use std::alloc::{AllocError, Global};
 use std::marker::Model;
 
 /// Nodes 0 to n - 1 and a set of edges between them.
-#[derive(Drop)]
 pub struct Graph {
     preds: Vec<Seq<u32>>,
     succs: Vec<Seq<u32>>,
+}
+
+impl Drop for Graph {
+    fn drop(self) {
+        let Graph { preds: _, succs: _ } = self;
+    }
 }
 
 impl Model for Graph {

@@ -22,10 +22,15 @@ fn makes<D: Disk>(journal: &mut Journal<D>, step: &[u8]) -> Result<bool, AllocEr
 }
 
 // What a journal may hold: what was acknowledged, and what it is if the call that failed took effect.
-#[derive(Drop)]
 struct Told {
     sure: Vec<u8>,
     maybe: Vec<u8>,
+}
+
+impl Drop for Told {
+    fn drop(self) {
+        let Told { sure: _, maybe: _ } = self;
+    }
 }
 
 impl Told {

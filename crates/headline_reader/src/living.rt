@@ -9,12 +9,23 @@ use std::alloc::AllocError;
 use std::marker::Model;
 
 /// Its kind's name, its properties, its facts where it is ready, and whether it is leaving.
-#[derive(Debug, Drop)]
+#[derive(Debug)]
 pub struct Living {
     pub(crate) kind: Text,
     pub(crate) props: Properties,
     pub(crate) facts: Option<Facts>,
     pub(crate) leaving: bool,
+}
+
+impl Drop for Living {
+    fn drop(self) {
+        let Living {
+            kind: _,
+            props: _,
+            facts: _,
+            leaving: _,
+        } = self;
+    }
 }
 
 impl Model for Living {

@@ -12,10 +12,19 @@ use heat_value::{Seq, TryCopy};
 use std::alloc::{AllocError, Global};
 
 // A token and its states.
-#[derive(Debug, Drop)]
+#[derive(Debug)]
 pub(crate) struct Possible {
     pub(crate) token: Token,
     pub(crate) states: Seq<Option<Living>>,
+}
+
+impl Drop for Possible {
+    fn drop(self) {
+        let Possible {
+            token: _,
+            states: _,
+        } = self;
+    }
 }
 
 // For each call on the stack, its token with the states in which that may be at the end, where it was

@@ -8,13 +8,24 @@ use crate::bytes::overwrite;
 use std::alloc::{AllocError, Global};
 use std::marker::Model;
 
-#[derive(Drop)]
 pub(crate) struct Content {
     start: Vec<u8>,
     held: Vec<u8>,
     end: u64,
     bytes: u64,
     calls: u64,
+}
+
+impl Drop for Content {
+    fn drop(self) {
+        let Content {
+            start: _,
+            held: _,
+            end: _,
+            bytes: _,
+            calls: _,
+        } = self;
+    }
 }
 
 impl Model for Content {

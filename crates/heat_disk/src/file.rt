@@ -15,11 +15,20 @@ use heat_value::Text;
 use std::alloc::AllocError;
 use std::io;
 
-#[derive(Drop)]
 pub struct FileDisk {
     first: Opened,
     second: Opened,
     faults: u64,
+}
+
+impl Drop for FileDisk {
+    fn drop(self) {
+        let FileDisk {
+            first: _,
+            second: _,
+            faults: _,
+        } = self;
+    }
 }
 
 impl FileDisk {

@@ -69,10 +69,18 @@ pub(crate) struct Event {
 }
 
 // The bytes of all writes stand in one store, in the order of the events.
-#[derive(Drop)]
 pub(crate) struct History {
     events: Vec<Event>,
     store: Vec<u8>,
+}
+
+impl Drop for History {
+    fn drop(self) {
+        let History {
+            events: _,
+            store: _,
+        } = self;
+    }
 }
 
 impl Model for History {

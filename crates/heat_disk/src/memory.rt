@@ -15,7 +15,6 @@ use crate::history::History;
 use std::alloc::{AllocError, Global};
 use std::marker::Model;
 
-#[derive(Drop)]
 pub struct MemDisk {
     first: Content,
     second: Content,
@@ -23,6 +22,19 @@ pub struct MemDisk {
     fails: Vec<u64>,
     numbered: u64,
     faults: u64,
+}
+
+impl Drop for MemDisk {
+    fn drop(self) {
+        let MemDisk {
+            first: _,
+            second: _,
+            history: _,
+            fails: _,
+            numbered: _,
+            faults: _,
+        } = self;
+    }
 }
 
 impl Model for MemDisk {

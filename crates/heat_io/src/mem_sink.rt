@@ -9,11 +9,20 @@ use crate::sink::{Put, Sink};
 use std::alloc::{AllocError, Global};
 use std::marker::Model;
 
-#[derive(Drop)]
 pub struct MemSink {
     held: Vec<u8>,
     piece: usize,
     calls: Calls,
+}
+
+impl Drop for MemSink {
+    fn drop(self) {
+        let MemSink {
+            held: _,
+            piece: _,
+            calls: _,
+        } = self;
+    }
 }
 
 impl Model for MemSink {

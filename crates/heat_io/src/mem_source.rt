@@ -9,12 +9,22 @@ use crate::source::{Got, Source};
 use std::alloc::{AllocError, Global};
 use std::marker::Model;
 
-#[derive(Drop)]
 pub struct MemSource {
     all: Vec<u8>,
     read: usize,
     piece: usize,
     calls: Calls,
+}
+
+impl Drop for MemSource {
+    fn drop(self) {
+        let MemSource {
+            all: _,
+            read: _,
+            piece: _,
+            calls: _,
+        } = self;
+    }
 }
 
 impl Model for MemSource {

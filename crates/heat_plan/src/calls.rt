@@ -5,7 +5,7 @@ use heat_value::{Equals, Text, TryCopy};
 use std::alloc::AllocError;
 
 /// A request for a token; a create names the kind, and a create and an update the properties.
-#[derive(Debug, Drop)]
+#[derive(Debug)]
 pub enum Request {
     Create(Text, Properties),
     Update(Properties),
@@ -14,8 +14,20 @@ pub enum Request {
     Gone,
 }
 
+impl Drop for Request {
+    fn drop(self) {
+        match self {
+            Request::Create(_, _) => {}
+            Request::Update(_) => {}
+            Request::Delete => {}
+            Request::Poll => {}
+            Request::Gone => {}
+        }
+    }
+}
+
 /// An answer that a trace keeps; `Broken` carries the provider's code.
-#[derive(Debug, Drop)]
+#[derive(Debug)]
 pub enum Answered {
     Begun,
     Quota,
@@ -24,6 +36,20 @@ pub enum Answered {
     Ready(Facts),
     Broken(Text),
     Gone,
+}
+
+impl Drop for Answered {
+    fn drop(self) {
+        match self {
+            Answered::Begun => {}
+            Answered::Quota => {}
+            Answered::Failed => {}
+            Answered::NotYet => {}
+            Answered::Ready(_) => {}
+            Answered::Broken(_) => {}
+            Answered::Gone => {}
+        }
+    }
 }
 
 impl TryCopy for Request {

@@ -4,17 +4,29 @@ use heat_value::{Equals, Seq, Text, TryCopy};
 use std::alloc::AllocError;
 
 /// A ready resource's id and attributes.
-#[derive(Debug, Drop)]
+#[derive(Debug)]
 pub struct Facts {
     pub id: Text,
     pub attrs: Properties,
 }
 
+impl Drop for Facts {
+    fn drop(self) {
+        let Facts { id: _, attrs: _ } = self;
+    }
+}
+
 /// The facts of one name.
-#[derive(Debug, Drop)]
+#[derive(Debug)]
 pub struct KnownFacts {
     pub name: ResName,
     pub facts: Facts,
+}
+
+impl Drop for KnownFacts {
+    fn drop(self) {
+        let KnownFacts { name: _, facts: _ } = self;
+    }
 }
 
 /// The facts that an item's functions may read, by name.

@@ -7,10 +7,19 @@ use heat_value::{Equals, Text, TryCopy};
 use std::alloc::AllocError;
 
 /// A file that a template reads, with its text.
-#[derive(Debug, Drop)]
+#[derive(Debug)]
 pub struct File {
     pub name: Text,
     pub content: Text,
+}
+
+impl Drop for File {
+    fn drop(self) {
+        let File {
+            name: _,
+            content: _,
+        } = self;
+    }
 }
 
 impl HasName for File {

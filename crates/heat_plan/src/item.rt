@@ -11,13 +11,25 @@ pub enum Policy {
 }
 
 /// A resource that a plan asks for; `needs` names the items that have to be there before it.
-#[derive(Debug, Drop)]
+#[derive(Debug)]
 pub struct Item {
     pub name: ResName,
     pub kind: Kind,
     pub props: Properties,
     pub needs: Needs,
     pub policy: Policy,
+}
+
+impl Drop for Item {
+    fn drop(self) {
+        let Item {
+            name: _,
+            kind: _,
+            props: _,
+            needs: _,
+            policy: _,
+        } = self;
+    }
 }
 
 impl TryCopy for Item {

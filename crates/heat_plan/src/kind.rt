@@ -3,11 +3,21 @@ use heat_value::{Equals, Seq, Text, TryCopy};
 use std::alloc::AllocError;
 
 /// A resource type: its name, its attributes, and in `soft` the properties that change in place.
-#[derive(Debug, Drop)]
+#[derive(Debug)]
 pub struct Kind {
     pub name: Text,
     pub attrs: Seq<Text>,
     pub soft: Seq<Text>,
+}
+
+impl Drop for Kind {
+    fn drop(self) {
+        let Kind {
+            name: _,
+            attrs: _,
+            soft: _,
+        } = self;
+    }
 }
 
 impl TryCopy for Kind {

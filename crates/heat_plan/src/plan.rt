@@ -7,16 +7,22 @@ use std::alloc::AllocError;
 use std::marker::Model;
 
 /// An output of a template, which is evaluated when it is listed.
-#[derive(Debug, Drop)]
+#[derive(Debug)]
 pub struct Output {
     pub name: Text,
     pub value: Expression,
 }
 
+impl Drop for Output {
+    fn drop(self) {
+        let Output { name: _, value: _ } = self;
+    }
+}
+
 /// Items in byte order of their names, each name once, whose needs are names of items and have no
 /// cycle; outputs; bound parameters; conditions; files; and the names of resources whose condition
 /// is false, none of which is an item's.
-#[derive(Debug, Drop)]
+#[derive(Debug)]
 pub struct Plan {
     items: Seq<Item>,
     outputs: Seq<Output>,
@@ -24,6 +30,19 @@ pub struct Plan {
     conds: ByName<Condition>,
     files: ByName<File>,
     absent: Seq<ResName>,
+}
+
+impl Drop for Plan {
+    fn drop(self) {
+        let Plan {
+            items: _,
+            outputs: _,
+            params: _,
+            conds: _,
+            files: _,
+            absent: _,
+        } = self;
+    }
 }
 
 impl Model for Plan {

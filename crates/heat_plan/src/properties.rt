@@ -73,9 +73,15 @@ impl Equals for Properties {
 }
 
 /// A value that nests at most 64 deep and may hold functions that are yet to be evaluated.
-#[derive(Debug, Drop)]
+#[derive(Debug)]
 pub struct Expression {
     value: Value,
+}
+
+impl Drop for Expression {
+    fn drop(self) {
+        let Expression { value: _ } = self;
+    }
 }
 
 impl Model for Expression {

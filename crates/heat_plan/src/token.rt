@@ -8,11 +8,21 @@ use heat_value::{Equals, Text, TryCopy};
 use std::alloc::{AllocError, Global};
 
 /// The stack, the resource's name and the row that a resource belongs to.
-#[derive(Debug, PartialEq, Eq, PartialOrd, Ord, Hash, Drop)]
+#[derive(Debug, PartialEq, Eq, PartialOrd, Ord, Hash)]
 pub struct Token {
     pub stack: StackName,
     pub name: ResName,
     pub row: RowNo,
+}
+
+impl Drop for Token {
+    fn drop(self) {
+        let Token {
+            stack: _,
+            name: _,
+            row: _,
+        } = self;
+    }
 }
 
 impl Token {

@@ -35,10 +35,15 @@ impl Due {
 /// The conditions that wait, by the place of the one that they wait for; and those that are due, which
 /// come out by how often they were tried. So none is tried again and again while what it needs would be found
 /// by few tries. Clauses see how many conditions there are.
-#[derive(Drop)]
 pub struct Waiting {
     lists: Vec<Vec<Due>>,
     due: BTreeSet<Due>,
+}
+
+impl Drop for Waiting {
+    fn drop(self) {
+        let Waiting { lists: _, due: _ } = self;
+    }
 }
 
 impl Model for Waiting {

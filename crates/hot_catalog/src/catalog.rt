@@ -18,10 +18,19 @@ use std::alloc::{AllocError, Global};
 const MOST_KINDS: u128 = 256;
 
 /// The kinds of the registry, and those that lines have given.
-#[derive(Debug, Drop)]
+#[derive(Debug)]
 pub struct Catalog {
     registered: Seq<KindDef>,
     given: Seq<KindDef>,
+}
+
+impl Drop for Catalog {
+    fn drop(self) {
+        let Catalog {
+            registered: _,
+            given: _,
+        } = self;
+    }
 }
 
 impl Catalog {

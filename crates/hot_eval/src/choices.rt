@@ -30,11 +30,20 @@ pub struct Repetition<'a> {
 }
 
 /// A choice: what each key stands for, as a text and as the item itself, and the index of the keys.
-#[derive(Drop)]
 pub struct Choice<'a> {
     pub texts: Vec<(Text, Text)>,
     pub items: Vec<&'a Value>,
     pub index: KeyIndex,
+}
+
+impl Drop for Choice<'_> {
+    fn drop(self) {
+        let Choice {
+            texts: _,
+            items: _,
+            index: _,
+        } = self;
+    }
 }
 
 /// What the argument asks for, once `for_each` is evaluated; F01 for what is no object of lists, F03

@@ -10,10 +10,19 @@ use hot_forms::{Rule, rule_of};
 use std::alloc::{AllocError, Global};
 
 /// What is asked of a parameter's value, with the argument as written.
-#[derive(Debug, Drop)]
+#[derive(Debug)]
 pub struct Constraint {
     pub rule: Rule,
     pub argument: Value,
+}
+
+impl Drop for Constraint {
+    fn drop(self) {
+        let Constraint {
+            rule: _,
+            argument: _,
+        } = self;
+    }
 }
 
 /// The constraints of a list, in order. An entry that asks nothing is left out; no right template has one.

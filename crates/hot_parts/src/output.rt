@@ -9,11 +9,21 @@ use heat_value::{Member, Props, Seq, Text, TryCopy, Value};
 use std::alloc::{AllocError, Global};
 
 /// An output: its value as written, and its condition where it has one.
-#[derive(Debug, Drop)]
+#[derive(Debug)]
 pub struct Out {
     pub name: Text,
     pub value: Value,
     pub cond: Option<Value>,
+}
+
+impl Drop for Out {
+    fn drop(self) {
+        let Out {
+            name: _,
+            value: _,
+            cond: _,
+        } = self;
+    }
 }
 
 /// The outputs of the entries, in their order.

@@ -12,12 +12,23 @@ use hot_forms::{Sort, found, section, sort_in};
 use std::alloc::{AllocError, Global};
 
 /// A parameter: its type, its default that isn't null, and its constraints in the order as written.
-#[derive(Debug, Drop)]
+#[derive(Debug)]
 pub struct Param {
     pub name: Text,
     pub sort: Sort,
     pub default: Option<Value>,
     pub constraints: Seq<Constraint>,
+}
+
+impl Drop for Param {
+    fn drop(self) {
+        let Param {
+            name: _,
+            sort: _,
+            default: _,
+            constraints: _,
+        } = self;
+    }
 }
 
 /// The parameters of the entries, in their order.

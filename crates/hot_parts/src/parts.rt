@@ -13,12 +13,23 @@ use heat_value::{Props, Seq, TryCopy};
 use std::alloc::{AllocError, Global};
 
 /// Parameters, resources and outputs, each in byte order of the names, and the section `conditions`.
-#[derive(Debug, Drop)]
+#[derive(Debug)]
 pub struct Parts {
     pub params: Seq<Param>,
     pub conds: Props,
     pub resources: Seq<Res>,
     pub outputs: Seq<Out>,
+}
+
+impl Drop for Parts {
+    fn drop(self) {
+        let Parts {
+            params: _,
+            conds: _,
+            resources: _,
+            outputs: _,
+        } = self;
+    }
 }
 
 impl Parts {

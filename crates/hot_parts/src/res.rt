@@ -11,7 +11,7 @@ use std::alloc::{AllocError, Global};
 
 /// A resource. Absent and null objects are empty; `depends_on` is the value as written, null where
 /// absent; `policy` is the text as written, `Delete` where absent.
-#[derive(Debug, Drop)]
+#[derive(Debug)]
 pub struct Res {
     pub name: Text,
     pub kind: Text,
@@ -22,6 +22,22 @@ pub struct Res {
     pub update_policy: Props,
     pub external_id: Option<Value>,
     pub cond: Option<Value>,
+}
+
+impl Drop for Res {
+    fn drop(self) {
+        let Res {
+            name: _,
+            kind: _,
+            props: _,
+            metadata: _,
+            depends_on: _,
+            policy: _,
+            update_policy: _,
+            external_id: _,
+            cond: _,
+        } = self;
+    }
 }
 
 /// The resources of the entries, in their order, which is that of their names.

@@ -8,10 +8,19 @@ use heat_value::{Seq, Text};
 pub type Ask = Box<dyn Fn(&Text) -> bool + Send + Sync>;
 
 /// A name, with the texts of which the test of this name is true.
-#[derive(Debug, Drop)]
+#[derive(Debug)]
 pub struct NamedTest {
     pub name: Text,
     pub allowed: Seq<Text>,
+}
+
+impl Drop for NamedTest {
+    fn drop(self) {
+        let NamedTest {
+            name: _,
+            allowed: _,
+        } = self;
+    }
 }
 
 /// A test under a name, which is true exactly of the texts of its list.

@@ -15,11 +15,21 @@ pub struct PropDef {
 }
 
 /// A kind: its name, its properties and its attributes.
-#[derive(Debug, Drop)]
+#[derive(Debug)]
 pub struct KindDef {
     pub name: Text,
     pub props: Seq<PropDef>,
     pub attrs: Seq<Text>,
+}
+
+impl Drop for KindDef {
+    fn drop(self) {
+        let KindDef {
+            name: _,
+            props: _,
+            attrs: _,
+        } = self;
+    }
 }
 
 impl KindDef {

@@ -17,12 +17,22 @@ const FEW: usize = 32;
 /// Whether some key is empty and whether the keys rise in byte order: where they do, for each how many
 /// end with the longest that begins it and is shorter; for a long list of keys that don't, for each byte
 /// the places of those that begin with it.
-#[derive(Drop)]
 pub struct KeyIndex {
     empty: bool,
     rise: bool,
     shorter: Seq<usize>,
     lists: Option<Seq<Seq<usize>>>,
+}
+
+impl Drop for KeyIndex {
+    fn drop(self) {
+        let KeyIndex {
+            empty: _,
+            rise: _,
+            shorter: _,
+            lists: _,
+        } = self;
+    }
 }
 
 impl KeyIndex {

@@ -14,10 +14,16 @@ use std::alloc::{AllocError, Global};
 use std::marker::Model;
 
 /// Jobs in the order in which their engines came, and their places, sorted by row, stack and engine.
-#[derive(Debug, Drop)]
+#[derive(Debug)]
 pub(crate) struct JobTable {
     jobs: Table<Job>,
     by_row: Roomed<usize>,
+}
+
+impl Drop for JobTable {
+    fn drop(self) {
+        let JobTable { jobs: _, by_row: _ } = self;
+    }
 }
 
 impl Model for JobTable {

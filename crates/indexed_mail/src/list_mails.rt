@@ -10,11 +10,21 @@ use std::alloc::{AllocError, Global};
 use std::marker::Model;
 
 /// Letters and jobs in lists.
-#[derive(Debug, Drop)]
+#[derive(Debug)]
 pub struct ListMails {
     letters: ListTable<Letter>,
     jobs: ListTable<Job>,
     next: u64,
+}
+
+impl Drop for ListMails {
+    fn drop(self) {
+        let ListMails {
+            letters: _,
+            jobs: _,
+            next: _,
+        } = self;
+    }
 }
 
 impl Model for ListMails {

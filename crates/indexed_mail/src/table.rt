@@ -11,11 +11,21 @@ use std::alloc::{AllocError, Global};
 use std::marker::Model;
 
 /// Letters found by number, and jobs found by engine and by row and stack.
-#[derive(Debug, Drop)]
+#[derive(Debug)]
 pub struct MailTable {
     letters: Table<Letter>,
     jobs: JobTable,
     next: u64,
+}
+
+impl Drop for MailTable {
+    fn drop(self) {
+        let MailTable {
+            letters: _,
+            jobs: _,
+            next: _,
+        } = self;
+    }
 }
 
 impl Model for MailTable {

@@ -10,12 +10,18 @@ use std::alloc::{AllocError, Global};
 use sync_points::{Input, Point};
 
 /// What one node waits for and was given.
-#[derive(Debug, Drop)]
+#[derive(Debug)]
 pub struct SyncPoint {
     /// What it was given so far, and whether it is done.
     pub point: Point,
     /// The nodes from which an edge leads to it.
     pub preds: Seq<u32>,
+}
+
+impl Drop for SyncPoint {
+    fn drop(self) {
+        let SyncPoint { point: _, preds: _ } = self;
+    }
 }
 
 /// What a gathering tells: whether the input is a new one, and whether each node before has given one now.

@@ -5,7 +5,7 @@ use heat_value::Seq;
 use row_table::Row;
 
 /// One call of a table of rows.
-#[derive(Debug, Drop)]
+#[derive(Debug)]
 pub enum RowOp {
     Get(RowNo),
     Current(StackName, ResName),
@@ -17,6 +17,23 @@ pub enum RowOp {
     Lock(RowNo, EngineNo),
     Unlock(RowNo),
     Reserve(usize),
+}
+
+impl Drop for RowOp {
+    fn drop(self) {
+        match self {
+            RowOp::Get(_) => {}
+            RowOp::Current(_, _) => {}
+            RowOp::Head(_) => {}
+            RowOp::OfStack(_) => {}
+            RowOp::Put(_) => {}
+            RowOp::Set(_) => {}
+            RowOp::Purge(_) => {}
+            RowOp::Lock(_, _) => {}
+            RowOp::Unlock(_) => {}
+            RowOp::Reserve(_) => {}
+        }
+    }
 }
 
 /// What a call gives, copied; `Done` where it gives nothing, and `Barred` where its condition doesn't hold

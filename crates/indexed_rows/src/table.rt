@@ -20,11 +20,21 @@ use std::marker::Model;
 
 /// Rows in the order in which their numbers came, found by number, by stack and name, and by stack: the
 /// places of the rows, sorted by stack, name and number, and by stack and number.
-#[derive(Debug, Drop)]
+#[derive(Debug)]
 pub struct RowTable {
     rows: Table<Row>,
     by_name: Roomed<usize>,
     by_stack: Roomed<usize>,
+}
+
+impl Drop for RowTable {
+    fn drop(self) {
+        let RowTable {
+            rows: _,
+            by_name: _,
+            by_stack: _,
+        } = self;
+    }
 }
 
 impl Model for RowTable {

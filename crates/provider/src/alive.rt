@@ -1,16 +1,46 @@
 //! A resource that a cloud has.
+ghost use Rattle.std.specs.Prelude.{◌≡◌};
+
 use heat_plan::{Facts, Properties, Token};
 use heat_value::{Text, TryCopy};
 use std::alloc::AllocError;
 
 /// An alive resource, under its kind's name. Its facts are told where it is ready, and free before.
-#[derive(Debug, Drop)]
+#[derive(Debug)]
 pub struct Alive {
     pub token: Token,
     pub kind: Text,
     pub props: Properties,
     pub facts: Facts,
     pub ready: bool,
+}
+
+impl Drop for Alive {
+    fn drop(self) {
+        let Alive {
+            token: _,
+            kind: _,
+            props: _,
+            facts: _,
+            ready: _,
+        } = self;
+    }
+}
+
+impl Alive {
+    /// Its token alone.
+    pub fn into_token(self) -> Token
+        ensures { result ≡ self.token }
+    {
+        let Alive {
+            token,
+            kind: _,
+            props: _,
+            facts: _,
+            ready: _,
+        } = self;
+        token
+    }
 }
 
 impl TryCopy for Alive {

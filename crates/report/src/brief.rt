@@ -10,7 +10,7 @@ use std::alloc::AllocError;
 use std::cmp::Ordering;
 
 // What is shown of a row, and its facts, which outputs may read.
-#[derive(Debug, Drop)]
+#[derive(Debug)]
 pub(crate) struct SeenRow {
     pub(crate) stack: StackName,
     pub(crate) name: ResName,
@@ -23,14 +23,42 @@ pub(crate) struct SeenRow {
     pub(crate) replaced_by: Option<RowNo>,
 }
 
+impl Drop for SeenRow {
+    fn drop(self) {
+        let SeenRow {
+            stack: _,
+            name: _,
+            no: _,
+            kind: _,
+            act: _,
+            status: _,
+            facts: _,
+            replaces: _,
+            replaced_by: _,
+        } = self;
+    }
+}
+
 // What is shown of a stack: its newest traversal, how it stands, and the plan whose outputs it has.
-#[derive(Debug, Drop)]
+#[derive(Debug)]
 pub(crate) struct SeenStack {
     pub(crate) name: StackName,
     pub(crate) trav: TravNo,
     pub(crate) act: Act,
     pub(crate) status: Status,
     pub(crate) plan: Option<SharedPlan>,
+}
+
+impl Drop for SeenStack {
+    fn drop(self) {
+        let SeenStack {
+            name: _,
+            trav: _,
+            act: _,
+            status: _,
+            plan: _,
+        } = self;
+    }
 }
 
 impl SeenRow {

@@ -15,10 +15,16 @@ use std::alloc::{AllocError, Global};
 use std::cmp::Ordering;
 
 // The line of the output of this name.
-#[derive(Debug, Drop)]
+#[derive(Debug)]
 pub(crate) struct OutputLine {
     pub(crate) name: Text,
     pub(crate) text: Text,
+}
+
+impl Drop for OutputLine {
+    fn drop(self) {
+        let OutputLine { name: _, text: _ } = self;
+    }
 }
 
 impl OutputLine {

@@ -15,10 +15,16 @@ use sorted_list::SortedList;
 use std::alloc::{AllocError, Global};
 
 // All that is seen, rows by their numbers and stacks by their names.
-#[derive(Debug, Drop)]
+#[derive(Debug)]
 pub(crate) struct Seen {
     pub(crate) rows: SortedList<SeenRow>,
     pub(crate) stacks: SortedList<SeenStack>,
+}
+
+impl Drop for Seen {
+    fn drop(self) {
+        let Seen { rows: _, stacks: _ } = self;
+    }
 }
 
 impl Seen {

@@ -11,7 +11,7 @@ use std::alloc::AllocError;
 /// those that it is to get, its facts once it is ready, the rows that it requires, the rows before and
 /// behind it in a chain of replacement, and the engine whose job has it. `key` counts its locks and
 /// unlocks and stays below 2^62.
-#[derive(Debug, Drop)]
+#[derive(Debug)]
 pub struct Row {
     /// Its number, drawn once and never again.
     pub no: RowNo,
@@ -45,6 +45,29 @@ pub struct Row {
     pub key: u64,
     /// What is done where its resource is to go: deleted, or kept and released.
     pub policy: Policy,
+}
+
+impl Drop for Row {
+    fn drop(self) {
+        let Row {
+            no: _,
+            stack: _,
+            name: _,
+            kind: _,
+            act: _,
+            status: _,
+            trav: _,
+            props: _,
+            target: _,
+            facts: _,
+            requires_: _,
+            replaces: _,
+            replaced_by: _,
+            engine: _,
+            key: _,
+            policy: _,
+        } = self;
+    }
 }
 
 impl TryCopy for Row {

@@ -17,12 +17,23 @@ use std::marker::Model;
 
 /// What a body gives: any value as its template, parameters, texts of files, and whether a failure
 /// is rolled back.
-#[derive(Debug, Drop)]
+#[derive(Debug)]
 pub struct Body {
     template: Value,
     params: Props,
     files: Props,
     rollback: bool,
+}
+
+impl Drop for Body {
+    fn drop(self) {
+        let Body {
+            template: _,
+            params: _,
+            files: _,
+            rollback: _,
+        } = self;
+    }
 }
 
 impl Model for Body {

@@ -7,11 +7,21 @@ use sim_cloud::{Inventory, KindQuota};
 use std::alloc::Global;
 
 /// A cloud whose calls take one scripted answer each.
-#[derive(Debug, Drop)]
+#[derive(Debug)]
 pub struct ScriptedCloud {
     pub(crate) all: Inventory,
     pub(crate) answers: Seq<ScriptedAnswer>,
     pub(crate) next: usize,
+}
+
+impl Drop for ScriptedCloud {
+    fn drop(self) {
+        let ScriptedCloud {
+            all: _,
+            answers: _,
+            next: _,
+        } = self;
+    }
 }
 
 impl ScriptedCloud {

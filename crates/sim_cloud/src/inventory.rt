@@ -12,12 +12,23 @@ use provider::{Answer, Traced};
 use std::alloc::{AllocError, Global};
 
 /// The resources, quotas, trace and count of faults of a cloud in memory.
-#[derive(Debug, Drop)]
+#[derive(Debug)]
 pub struct Inventory {
     pub held: Holdings,
     pub quotas: Seq<KindQuota>,
     pub trace: Seq<Traced>,
     pub faults: u64,
+}
+
+impl Drop for Inventory {
+    fn drop(self) {
+        let Inventory {
+            held: _,
+            quotas: _,
+            trace: _,
+            faults: _,
+        } = self;
+    }
 }
 
 impl Inventory {

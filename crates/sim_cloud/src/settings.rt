@@ -18,10 +18,16 @@ pub struct KindDelay {
 }
 
 /// The code with which polls of a resource's name are Broken.
-#[derive(Debug, Drop)]
+#[derive(Debug)]
 pub struct NameCode {
     pub name: Text,
     pub code: Text,
+}
+
+impl Drop for NameCode {
+    fn drop(self) {
+        let NameCode { name: _, code: _ } = self;
+    }
 }
 
 /// The resources from the start, the quotas and delays of kinds, the broken names, and the numbers of

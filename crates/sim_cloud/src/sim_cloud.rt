@@ -10,10 +10,16 @@ use heat_plan::Token;
 use std::alloc::AllocError;
 
 /// A cloud in memory, with its trace, and how its calls go.
-#[derive(Debug, Drop)]
+#[derive(Debug)]
 pub struct SimCloud {
     pub(crate) all: Inventory,
     pub(crate) conduct: Conduct,
+}
+
+impl Drop for SimCloud {
+    fn drop(self) {
+        let SimCloud { all: _, conduct: _ } = self;
+    }
 }
 
 impl SimCloud {

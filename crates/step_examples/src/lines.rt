@@ -6,10 +6,16 @@ use heat_plan::Token;
 use std::alloc::{AllocError, Global};
 
 // A record: which one it is, and what it says.
-#[derive(Debug, Drop)]
+#[derive(Debug)]
 pub(crate) struct Record {
     key: String,
     words: String,
+}
+
+impl Drop for Record {
+    fn drop(self) {
+        let Record { key: _, words: _ } = self;
+    }
 }
 
 // A record of this name.

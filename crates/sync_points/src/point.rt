@@ -5,7 +5,7 @@ use heat_value::{Seq, TryCopy, copy_option};
 use std::alloc::AllocError;
 
 /// What the node at the place `from` gave: the name and the facts are those of an update node.
-#[derive(Debug, Drop)]
+#[derive(Debug)]
 pub struct Input {
     pub from: u32,
     pub name: Option<ResName>,
@@ -13,13 +13,35 @@ pub struct Input {
     pub facts: Option<Facts>,
 }
 
+impl Drop for Input {
+    fn drop(self) {
+        let Input {
+            from: _,
+            name: _,
+            row: _,
+            facts: _,
+        } = self;
+    }
+}
+
 /// What one node of a stack's graph was given, and whether it is done.
-#[derive(Debug, Drop)]
+#[derive(Debug)]
 pub struct Point {
     pub stack: StackName,
     pub node: u32,
     pub inputs: Seq<Input>,
     pub done: bool,
+}
+
+impl Drop for Point {
+    fn drop(self) {
+        let Point {
+            stack: _,
+            node: _,
+            inputs: _,
+            done: _,
+        } = self;
+    }
 }
 
 impl TryCopy for Input {

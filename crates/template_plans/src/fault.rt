@@ -9,7 +9,7 @@ use hot_tree::HotFault;
 use std::alloc::AllocError;
 
 /// What is wrong with a body's template, its parameters, or both.
-#[derive(Debug, Drop)]
+#[derive(Debug)]
 pub enum PlanFault {
     /// It is no template: the first of H01 to H24.
     Template(Flaw),
@@ -19,6 +19,17 @@ pub enum PlanFault {
     Admission(AdmitFlaw),
     /// There was no memory.
     Memory,
+}
+
+impl Drop for PlanFault {
+    fn drop(self) {
+        match self {
+            PlanFault::Template(_) => {}
+            PlanFault::Parameters(_) => {}
+            PlanFault::Admission(_) => {}
+            PlanFault::Memory => {}
+        }
+    }
 }
 
 impl PlanFault {

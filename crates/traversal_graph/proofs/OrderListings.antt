@@ -161,7 +161,7 @@ module _ (items : List Item) (d : Item) (order : List ℕ) (met : Met items) (or
         named = sym its_name;
       }
 
-  listing : IsListing items listed
+  pub listing : IsListing items listed
   listing = record {
     same = same;
     behind = λ p i at k e lt. (let from = node_of p i at in

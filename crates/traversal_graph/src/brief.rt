@@ -5,12 +5,23 @@ use heat_value::{Equals, Seq, TryCopy};
 use std::alloc::AllocError;
 
 /// A row as the graph sees it.
-#[derive(Debug, Drop)]
+#[derive(Debug)]
 pub struct RowBrief {
     pub no: RowNo,
     pub name: ResName,
     pub requires_: Seq<RowNo>,
     pub replaces: Option<RowNo>,
+}
+
+impl Drop for RowBrief {
+    fn drop(self) {
+        let RowBrief {
+            no: _,
+            name: _,
+            requires_: _,
+            replaces: _,
+        } = self;
+    }
 }
 
 impl TryCopy for RowBrief {

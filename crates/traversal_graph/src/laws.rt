@@ -1,11 +1,11 @@
 //! Laws on candidates and on the edges that are kept. Each function has an empty body and stands for its
 //! clauses, which hold of all items and rows.
 
-ghost use Rattle.std.specs.Prelude.{◌≡◌, ◌↔◌, ◌+◌, ◌++◌, ℕ, List, All, Contains, length};
+ghost use Rattle.std.specs.Prelude.{◌≡◌, ◌↔◌, ◌+◌, ◌++◌, ℕ, List, All, Contains, get_or, length, map};
 ghost use Rattle.dep_graph.specs.Paths.{IsAcyclic};
 ghost use Rattle.dep_graph.specs.Orders.{Orders};
 ghost use Rattle.heat_plan.specs.Order.{Rising};
-ghost use Rattle.heat_plan.specs.Plans.{HasNoCycle, IsPlan, names_of};
+ghost use Rattle.heat_plan.specs.Plans.{HasNoCycle, IsListing, IsPlan, names_of};
 ghost use Rattle.heat_plan.specs.declared.item.Item.{Item as item_type};
 ghost use Rattle.traversal_graph.specs.declared.brief.RowBrief.{RowBrief as brief_type};
 ghost use Rattle.traversal_graph.specs.declared.shape.TravGraph.{TravGraph as graph_type};
@@ -39,9 +39,13 @@ pub fn replaced_are_candidates()
         → ListsPairs (IsBehind first (IsReplaced rows)) (replace_edges first rows) }
 {}
 
-/// An order of the items by what needs what is a listing in which each stands behind its needs.
+/// An order of the items by what needs what lists them so that each stands behind its needs.
 pub fn orders_are_listings()
-    ensures { (items : List item_type) (order : List ℕ)
+    ensures listing { (items : List item_type) (default : item_type) (order : List ℕ)
+        → All (λ (i : item_type). All (Contains (names_of items)) i.needs) items
+        → Orders (IsNeeded items) (length items) order
+        → IsListing items (map (λ k. get_or items k default) order) }
+    ensures acyclic { (items : List item_type) (order : List ℕ)
         → All (λ (i : item_type). All (Contains (names_of items)) i.needs) items
         → Orders (IsNeeded items) (length items) order → HasNoCycle items }
 {}

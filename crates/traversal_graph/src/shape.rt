@@ -12,10 +12,16 @@ pub enum Node {
 }
 
 /// Nodes, and edges from a node to one behind it, by their places.
-#[derive(Debug, Drop)]
+#[derive(Debug)]
 pub struct TravGraph {
     pub nodes: Seq<Node>,
     pub edges: Seq<(u32, u32)>,
+}
+
+impl Drop for TravGraph {
+    fn drop(self) {
+        let TravGraph { nodes: _, edges: _ } = self;
+    }
 }
 
 impl TryCopy for Node {
