@@ -1,17 +1,25 @@
 #!/bin/sh
 # Prints processor seconds, peak memory and growth of driving a script that creates, runs and lists one
-# stack of 125, 250, 500 and 1,000 resources. It judges nothing. python3 makes the scripts.
+# stack of 125, 250, 500 and 1,000 resources; then of a script that creates one of 1,000 resources with 190,209
+# needs, as many as a line of 1 MiB can name, and no more. It judges nothing. python3 makes the scripts.
 set -e
 cd "$(dirname "$0")/../crates/heat_converge"
 rt run -- drive </dev/null >/dev/null 2>&1
 python3 - out/heat_converge <<'END'
-import json, subprocess, sys
+import json, string, subprocess, sys
 
 def script(count):
     box = {"type": "Test::Box", "properties": {"size": 1}}
     resources = {f"r{i:04}": box for i in range(count)}
     template = {"heat_template_version": "2018-08-31", "resources": resources}
     return "create s " + json.dumps({"template": template}) + "\nrun\nresources s\n"
+
+def needing():
+    names = sorted(a + b for a in string.ascii_lowercase for b in string.ascii_letters)[:1000]
+    resources = {name: {"type": "Test::Box", "depends_on": names[max(0, i - 213):i]}
+                 for i, name in enumerate(names)}
+    template = {"heat_template_version": "2018-08-31", "resources": resources}
+    return "create s " + json.dumps({"template": template}, separators=(",", ":")) + "\n"
 
 def measure(text):
     command = ["/usr/bin/time", "-f", "%U %S %M", sys.argv[1], "drive"]
@@ -26,4 +34,6 @@ for count in (125, 250, 500, 1000):
     growth = f"{seconds / before:6.1f}" if before else "     -"
     print(f"{count:9}  {seconds:7.2f}  {growth}  {peak:8.1f}  {lines:13}")
     before = seconds
+seconds, peak, lines = measure(needing())
+print(f"190,209 needs, created alone: {seconds:.2f} seconds, {peak:.1f} MiB, {lines} line of text")
 END

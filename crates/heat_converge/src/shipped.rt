@@ -1,10 +1,16 @@
 //! The top call with what the program registers: the judge of `Test::Box`, and the test `nova.flavor`.
-ghost use Rattle.std.specs.Prelude.{◌≡◌, IfOk};
+ghost use Rattle.std.specs.Prelude.{◌≡◌, ◌≢◌, ◌↔◌, [], IfOk};
 ghost use Rattle.type_catalog.specs.Changes.{ChangeOf};
 ghost use Rattle.hot_registry.specs.Kinds.{softs_of};
 ghost use Rattle.hot_registry.specs.Names.{is_listed};
 ghost use Rattle.hot_registry.specs.Shipped.{box_kind as the_box_kind};
 ghost use Rattle.hot_registry.specs.Shipped.{flavor_test as the_flavor_test};
+ghost use Rattle.provider.specs.Calls.{Lists};
+ghost use Rattle.book.specs.Kept.{Shown};
+ghost use Rattle.program_words.specs.Words.{IsForm};
+ghost use Rattle.program_words.specs.declared.setup.Mode.{Mode as mode_type};
+ghost use Rattle.converge_call.specs.Ends.{outside, HasDriven, IsUntouched, OpensFor};
+ghost use Rattle.heat_converge.specs.Shipped.{shipped_stock};
 
 use converge_call::{End, Exit, Outcome, converge};
 use heat_io::{Sink, Source};
@@ -22,7 +28,29 @@ pub(crate) fn converge_shipped<S: Source, K: Sink, P: Provider>(
     source: &mut S,
     sink: &mut K,
     cloud: P,
-) -> Outcome<P> {
+) -> Outcome<P>
+    // But for want of memory, Usage comes exactly where the words are none of the forms; nothing is then read or
+    // written.
+    ensures usage { result.status ≢ Exit.Memory
+        → (result.status ≡ Exit.Usage) ↔ ((m : mode_type) → ¬ IsForm words.now m) }
+    ensures source { result.status ≡ Exit.Usage → source.new ≡ source.old }
+    ensures sink { result.status ≡ Exit.Usage → sink.new ≡ sink.old }
+
+    // No book is opened for the words, for want of memory, or for what the cloud's list is alone; nothing is then
+    // read or written.
+    ensures unopened { (p : P) → result.end ≡ End.Unopened p
+        → IsUntouched P.cloud source.old source.new sink.old sink.new cloud p result.status }
+
+    // A book is opened with as many engines as the words say, over a cloud that has nothing, as its list says.
+    ensures opened { (b : Shown P) → result.end ≡ End.Book b → OpensFor words.now b.opening }
+    ensures listed { (b : Shown P) → result.end ≡ End.Book b → Lists [] (P.cloud cloud) (P.cloud b.origin) }
+
+    // A book that is handed back was driven by the lines, with what the program registers in stock before the first.
+    ensures driven { (b : Shown P) → result.end ≡ End.Book b → HasDriven P.cloud shipped_stock
+        (outside (S.left source.old) (S.faults source.old) (K.holds sink.old) (K.faults sink.old))
+        (outside (S.left source.new) (S.faults source.new) (K.holds sink.new) (K.faults sink.new))
+        result.status b }
+{
     let Ok(softs) = box_softs(alloc) else {
         return unopened(cloud);
     };
@@ -55,7 +83,10 @@ fn box_softs(alloc: Global) -> Result<Seq<Text>, AllocError>
 }
 
 // There was no memory.
-fn unopened<P: Provider>(cloud: P) -> Outcome<P> {
+fn unopened<P: Provider>(cloud: P) -> Outcome<P>
+    ensures status { result.status ≡ Exit.Memory }
+    ensures end { result.end ≡ End.Unopened cloud }
+{
     Outcome {
         status: Exit::Memory,
         end: End::Unopened(cloud),

@@ -1,0 +1,8 @@
+-- What stands before the first line of the program's script.
+use Rattle.std.specs.Prelude.{[], ◌∷◌}
+use Rattle.hot_registry.specs.Shipped.{box_kind, flavor_test}
+use Rattle.converge_call.specs.Stocks.{Stock, first_stock}
+
+-- the kind `Test::Box` and the test `nova.flavor`, and no other
+abbrev pub shipped_stock : Stock
+shipped_stock = first_stock (box_kind ∷ []) (flavor_test ∷ [])
