@@ -14,7 +14,7 @@ use Rattle.hot_forms.specs.declared.sort.Sort.{Sort}
 use Rattle.hot_forms.specs.declared.sort.Sort.TheVariants as sort
 use Rattle.hot_tree.specs.Functions.{members_there}
 use Rattle.hot_params.specs.Bindings.{chosen, type_of, IsValueOf, AreBound}
-use Rattle.hot_params.specs.Bound.{IsBoundTo, params_of}
+use Rattle.hot_params.specs.Bound.{params_of}
 use Rattle.hot_params.specs.Conversions.{ConvertsTo, string_in, flag_in, list_in, texts_of, nodes_with, IsNumberOf}
 use Rattle.hot_params.specs.Identity.{with_pseudo}
 use Rattle.hot_params.specs.Texts.{listed_in}
@@ -147,11 +147,9 @@ word_depth : (k s : List ℕ) (ms : Members) → members_depth ms ≤ 64 → mem
 word_depth k s ms below = omega (arith, put_depth k (words s) ms, below)
 
 -- what is given and the template within the depth, the bound values are too
-pub bound_depth : (tests : List NamedTest) (ids : Ids) (template given bound : Members)
-    → IsBoundTo tests ids template given bound → members_depth given ≤ 64 → members_depth template ≤ 64
-    → members_depth bound ≤ 64
-bound_depth tests ids template given bound is below all =
-    subst (λ (ms : Members). members_depth ms ≤ 64) (sym is.all)
-    (word_depth _ _ _ (word_depth _ _ _ (word_depth _ _ _
-    (values_depth tests given (params_of template) is.values below (omega (arith, params_depth template, all))
-    is.each))))
+pub bound_depth : (tests : List NamedTest) (ids : Ids) (template given values : Members)
+    → members_depth given ≤ 64 → members_depth template ≤ 64 → AreBound tests given (params_of template) values
+    → members_depth (with_pseudo ids values) ≤ 64
+bound_depth tests ids template given values below all is =
+    word_depth _ _ _ (word_depth _ _ _ (word_depth _ _ _
+    (values_depth tests given (params_of template) values below (omega (arith, params_depth template, all)) is)))

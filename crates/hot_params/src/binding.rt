@@ -16,6 +16,7 @@ ghost use Rattle.hot_params.specs.Typed.{SaysTheSame};
 use crate::identity::with_pseudo;
 use crate::parameter::{entry_value, fault_at};
 use crate::{Bound, Ids, ParamCode, ParamFault};
+use heat_plan::Parameters;
 use heat_value::{Props, Text, TryCopy, Value};
 use hot_forms::section;
 use hot_registry::Registry;
@@ -32,14 +33,15 @@ pub fn bind(
     ids: &Ids,
     registry: &Registry,
 ) -> Result<Bound, ParamFault>
+    requires given { members_depth given.now ≤ 64 }
+    requires template { members_depth template.now ≤ 64 }
     ensures ok { IfOk result (λ b. IsBoundTo (map (λ t. t.test) registry.now.customs) ids.now
         template.now given.now b.params) }
     ensures fault { IfErr result (λ e. IsFaultOf (map (λ t. t.test) registry.now.customs)
         template.now given.now e) }
 
-    // Where what is given and the template nest at most 64 deep, each bound value does too.
-    ensures depth { IfOk result (λ b. members_depth given.now ≤ 64
-        → members_depth template.now ≤ 64 → members_depth b.params ≤ 64) }
+    // Each bound value nests at most 64 deep, as what is given and the template do.
+    ensures depth { IfOk result (λ b. members_depth b.params ≤ 64) }
 
     // A value converts to one value alone, so what a parameter is bound to is one value.
     ensures one { (s : Option sort_type) (d v w : Data) → ConvertsTo s d v → ConvertsTo s d w → v ≡ w }
@@ -57,6 +59,8 @@ fn bound_to(
     ids: &Ids,
     registry: &Registry,
 ) -> Result<Bound, ParamFault>
+    requires given { members_depth given.now ≤ 64 }
+    requires template { members_depth template.now ≤ 64 }
     ensures ok { IfOk result (λ b. IsBoundTo (map (λ t. t.test) registry.now.customs) ids.now
         template.now given.now b.params) }
     ensures fault { IfErr result (λ e. IsFaultOf (map (λ t. t.test) registry.now.customs)
@@ -68,10 +72,19 @@ fn bound_to(
         return Err(fault_at(alloc, name, ParamCode::P02));
     }
     match values_of(alloc, registry, params, given) {
-        Ok(values) => Ok(Bound {
-            params: with_pseudo(alloc, ids, values)?,
-        }),
+        Ok(values) => Ok(bound_of(with_pseudo(alloc, ids, values)?)),
         Err(fault) => Err(fault),
+    }
+}
+
+// Values that nest at most 64 deep, as bound parameters.
+fn bound_of(values: Props) -> Bound
+    requires { members_depth values ≤ 64 }
+    ensures { result.params ≡ values }
+{
+    match Parameters::from_props(values) {
+        Some(params) => Bound { params },
+        None => unreachable!(),
     }
 }
 

@@ -1,13 +1,6 @@
-use Rattle.std.proofs.lemmas.Result.{IfOk-weaker}
-use Rattle.hot_params.proofs.Depths.{bound_depth}
 use Rattle.hot_params.proofs.OneValue.{one_conversion}
 use Rattle.hot_params.proofs.Typed.{says_the_same}
 use Rattle.hot_params.proofs.binding.bind.Goals as goal
-
-pub returns-clause-depth : goal.returns-clause-depth
-returns-clause-depth g c =
-    IfOk-weaker c.bound_to.result _ _ (λ b is given template. bound_depth _ _ _ _ _ is given template)
-    c.bound_to.ensures.ok
 
 pub returns-clause-one : goal.returns-clause-one
 returns-clause-one g c = λ s d v w a b. one_conversion s d v w a b
