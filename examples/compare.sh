@@ -4,7 +4,8 @@
 #
 # A scenario NAME is a script, NAME.script, and the whole output, NAME.out. Where they aren't `drive`, nothing
 # and 0, NAME.words has the words, one a line, NAME.err what stands on standard error, and NAME.status the
-# status. NAME.cloud is the file cloud.json of the folder that the program runs in.
+# status. NAME.cloud is the file cloud.json of the folder that the program runs in, and NAME.back what that
+# file is once the program has ended. Each is compared byte for byte.
 
 scenarios=$(cd "$(dirname "$0")" && pwd) || exit 1
 program=$(cd "$(dirname "$1")" && pwd)/$(basename "$1") || exit 1
@@ -14,6 +15,11 @@ trap 'rm -rf "$folder"' EXIT
 # the first line in which what came differs from what was wanted
 tell_difference() {
   local name=$1 wanted=$2 came=$3 number=0 want have left right
+  if [ ! -e "$came" ]; then
+    echo "$name: no such file"
+    return
+  fi
+  ! cmp -s "$wanted" "$came" || return
   exec 3<"$wanted" 4<"$came"
   while true; do
     number=$((number + 1))
@@ -26,7 +32,10 @@ tell_difference() {
       [ -n "$right" ] && echo "  came:   $have" || echo "  came:   the end"
       break
     fi
-    [ -n "$left" ] || break
+    if [ -z "$left" ]; then
+      echo "$name: no line, but the LF at the end or a NUL"
+      break
+    fi
   done
   exec 3<&- 4<&-
 }
@@ -46,6 +55,7 @@ compare() {
   status=$?
   tell_difference "$(basename "$name")" "$name.out" "$folder/out"
   tell_difference "$(basename "$name"), on standard error" "$wanted_err" "$folder/err"
+  [ ! -e "$name.back" ] || tell_difference "$(basename "$name"), cloud.json" "$name.back" "$folder/run/cloud.json"
   [ "$status" = "$wanted_status" ] || echo "$(basename "$name"): status $status in place of $wanted_status"
 }
 

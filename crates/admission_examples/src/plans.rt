@@ -1,7 +1,7 @@
 //! Bodies of creates: their plans, or the first of their faults.
 use crate::cases::{Case, Teller, wrong_among};
 use crate::given::{catalog_of, fault_words, ids_of, registry_of};
-use heat_plan::Plan;
+use crate::words::bound_plan_words;
 use hot_catalog::Catalog;
 use hot_registry::Registry;
 use script_lines::{Body, Line};
@@ -12,24 +12,6 @@ use template_plans::plan_of;
 // A box with a property.
 const KINDS: &str = "{'Box':{'properties':{'size':{}}}}";
 
-// The names of the items and of what stands beside them.
-fn plan_words(alloc: Global, plan: &Plan) -> Result<String, AllocError> {
-    let mut words = String::new(alloc);
-    for item in plan.items() {
-        words.push_str(item.name.as_str())?;
-        words.push_str(" ")?;
-    }
-    for param in plan.params().as_props().as_slice() {
-        words.push_str(param.key.as_str())?;
-        words.push_str("! ")?;
-    }
-    for file in plan.files().as_slice() {
-        words.push_str(file.name.as_str())?;
-        words.push_str("@ ")?;
-    }
-    Ok(words)
-}
-
 // What the plan of a body is among these kinds, in words.
 fn plan_with(
     alloc: Global,
@@ -39,7 +21,7 @@ fn plan_with(
 ) -> Result<String, AllocError> {
     let ids = ids_of(alloc)?;
     match plan_of(alloc, body, catalog, &ids, registry) {
-        Ok(plan) => plan_words(alloc, &plan),
+        Ok(plan) => bound_plan_words(alloc, &plan),
         Err(fault) => fault_words(alloc, fault.code(), fault.path()),
     }
 }
@@ -78,7 +60,7 @@ const BODIES: &[Case] = &[
     (
         ",'parameters':{'p':{'type':'number'}},'resources':{'b':{'type':'Box'},'a':{'type':'Box'}}",
         ",'parameters':{'p':1},'files':{'f':'F'}",
-        "a b OS::project_id! OS::stack_id! OS::stack_name! p! f@ ",
+        "a:Box b:Box f@F OS::project_id! OS::stack_id! OS::stack_name! p! ",
     ),
     (
         ",'resource':{}",

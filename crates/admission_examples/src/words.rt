@@ -1,4 +1,4 @@
-//! A plan in words: its items, outputs, conditions, files, and absent names.
+//! A plan in words: its items, outputs, conditions, files, absent names, and the names of its parameters.
 use heat_plan::{Condition, File, Item, Output, Plan, Policy, ResName};
 use std::alloc::{AllocError, Global};
 
@@ -71,4 +71,14 @@ pub(crate) fn plan_words(alloc: Global, plan: &Plan) -> Result<String, AllocErro
     let mut words = String::new(alloc);
     add_plan(alloc, plan, &mut words)?;
     words.replace(alloc, "\"", "'")
+}
+
+/// The same, and behind it the names of the parameters.
+pub(crate) fn bound_plan_words(alloc: Global, plan: &Plan) -> Result<String, AllocError> {
+    let mut words = plan_words(alloc, plan)?;
+    for param in plan.params().as_props().as_slice() {
+        words.push_str(param.key.as_str())?;
+        words.push_str("! ")?;
+    }
+    Ok(words)
 }

@@ -1,7 +1,8 @@
 //! Cloud files from outside, and the texts of their clouds.
+use crate::fixtures::{boxes, sized};
 use cloud_file::{CloudFileFault, read, text};
 use heat_plan::{Kind, Properties, Token};
-use heat_value::{Props, Seq, Text, Value};
+use heat_value::Text;
 use provider::{Answer, Provider};
 use sim_cloud::SimCloud;
 use std::alloc::{AllocError, Global};
@@ -179,20 +180,6 @@ fn clouds_are_written_whole(rt: HostRuntime) -> Result<(), Fail> {
     Ok(())
 }
 
-fn sized(alloc: Global, size: i64) -> Result<Properties, Fail> {
-    let mut props = Props::new(alloc);
-    props.put(Text::from_str(alloc, "size")?, Value::Whole(size))?;
-    Ok(Properties::from_props(props).ok_or("shallow")?)
-}
-
-fn boxes(alloc: Global) -> Result<Kind, AllocError> {
-    Ok(Kind {
-        name: Text::from_str(alloc, "Test::Box")?,
-        attrs: Seq::new(alloc),
-        soft: Seq::new(alloc),
-    })
-}
-
 // Creates, which is begun of what is alive, and updates to this size.
 fn update(cloud: &mut SimCloud, token: &Token, kind: &Kind, props: &Properties) -> bool {
     match cloud.create(token, kind, props) {
@@ -208,7 +195,7 @@ const HELD: &str =
 
 fn asked(alloc: Global, size: i64) -> Result<Text, Fail> {
     let token = Token::read(alloc, b"s/a/7")?.ok_or("a token")?;
-    let kind = boxes(alloc)?;
+    let kind = boxes(alloc, &[])?;
     let props = sized(alloc, size)?;
     Ok(text_behind(alloc, &token, &kind, &props)?)
 }

@@ -1,6 +1,7 @@
 //! Each call and each answer once, at the simulated cloud and at the scripted one.
+use crate::fixtures::{boxes, sized};
 use heat_plan::{Facts, Kind, Properties, Token};
-use heat_value::{Props, Seq, Text, TryCopy, Value};
+use heat_value::{Seq, Text, TryCopy, Value};
 use provider::{Answer, Gone, Listed, Listing, Poll, Provider, Traced};
 use scripted_cloud::{ScriptedAnswer, ScriptedCloud, change, look, make, send, wait};
 use sim_cloud::{KindQuota, Settings, SimCloud};
@@ -30,31 +31,9 @@ fn of_size(alloc: Global, size: i64) -> Result<Example, Fail> {
 }
 
 fn with_kind(alloc: Global, token: Token, size: i64) -> Result<Example, Fail> {
-    let kind = boxes(alloc)?;
+    let kind = boxes(alloc, &["addr", "link", "size"])?;
     let props = sized(alloc, size)?;
     Ok(Example { token, kind, props })
-}
-
-fn boxes(alloc: Global) -> Result<Kind, AllocError> {
-    Ok(Kind {
-        name: Text::from_str(alloc, "Test::Box")?,
-        attrs: texts(alloc, &["addr", "link", "size"])?,
-        soft: Seq::new(alloc),
-    })
-}
-
-fn texts(alloc: Global, names: &[&str]) -> Result<Seq<Text>, AllocError> {
-    let mut all = Seq::new(alloc);
-    for name in names {
-        all.push(Text::from_str(alloc, name)?)?;
-    }
-    Ok(all)
-}
-
-fn sized(alloc: Global, size: i64) -> Result<Properties, Fail> {
-    let mut props = Props::new(alloc);
-    props.put(Text::from_str(alloc, "size")?, Value::Whole(size))?;
-    Ok(Properties::from_props(props).ok_or("shallow")?)
 }
 
 fn sim(alloc: Global) -> Result<SimCloud, AllocError> {

@@ -1,7 +1,8 @@
 //! Each setting of the simulated cloud at each call of a small script: list, create, poll, update, poll,
 //! delete, two questions, list. Each answer is a letter; a poll that is ready tells the size.
+use crate::fixtures::{boxes, sized};
 use heat_plan::{Kind, Properties, Token};
-use heat_value::{Props, Seq, Text, Value};
+use heat_value::{Text, Value};
 use provider::{Answer, Gone, Listed, Poll, Provider};
 use scripted_cloud::{change, look, make, send, wait};
 use sim_cloud::{KindDelay, KindQuota, NameCode, Settings, SimCloud};
@@ -10,22 +11,6 @@ use std::test::Fail;
 
 fn token(alloc: Global) -> Result<Token, Fail> {
     Ok(Token::read(alloc, b"s/a/1")?.ok_or("a token")?)
-}
-
-fn boxes(alloc: Global) -> Result<Kind, AllocError> {
-    let mut attrs = Seq::new(alloc);
-    attrs.push(Text::from_str(alloc, "size")?)?;
-    Ok(Kind {
-        name: Text::from_str(alloc, "Test::Box")?,
-        attrs,
-        soft: Seq::new(alloc),
-    })
-}
-
-fn sized(alloc: Global, size: i64) -> Result<Properties, Fail> {
-    let mut props = Props::new(alloc);
-    props.put(Text::from_str(alloc, "size")?, Value::Whole(size))?;
-    Ok(Properties::from_props(props).ok_or("shallow")?)
 }
 
 fn size_letter(size: Option<&Value>) -> &'static str {
@@ -99,7 +84,7 @@ fn example(alloc: Global) -> Result<Script, Fail> {
 }
 
 fn with_token(alloc: Global, token: Token) -> Result<Script, Fail> {
-    let kind = boxes(alloc)?;
+    let kind = boxes(alloc, &["size"])?;
     let small = sized(alloc, 1)?;
     let big = sized(alloc, 2)?;
     let size = Text::from_str(alloc, "size")?;

@@ -172,7 +172,7 @@ fn crashes(rt: &(impl Abort + AllocGlobal), disk: &MemDisk, told: &Told) -> Resu
 }
 
 // First's bytes, what they stand for, perhaps only after a crash, and what stands there at the end.
-struct Row {
+struct Scenario {
     first: &'static [u8],
     sure: &'static [u8],
     maybe: &'static [u8],
@@ -185,15 +185,15 @@ const MOST: u64 = 50;
 // Each disk call after so many fails, then one more, and so on, up to none.
 fn stops(
     rt: &(impl Abort + AllocGlobal),
-    row: &Row,
+    scenario: &Scenario,
     scripts: [&[u8]; 2],
 ) -> Result<(), AllocError> {
     for passes in 0..=MOST {
-        let mut told = Told::new(rt.alloc(), row.sure, row.maybe)?;
-        let disk = MemDisk::holding(rt.alloc(), row.first, b"", &[])?;
+        let mut told = Told::new(rt.alloc(), scenario.sure, scenario.maybe)?;
+        let disk = MemDisk::holding(rt.alloc(), scenario.first, b"", &[])?;
         let disk = sessions(rt, Fuse::new(disk, passes), scripts, &mut told)?.inner();
         crashes(rt, &disk, &told)?;
-        assert!(rt; passes < MOST || told.sure.as_slice() == row.end);
+        assert!(rt; passes < MOST || told.sure.as_slice() == scenario.end);
     }
     Ok(())
 }
@@ -201,28 +201,28 @@ fn stops(
 // Each disk call fails alone, so an opening behind it goes on from there.
 fn failures(
     rt: &(impl Abort + AllocGlobal),
-    row: &Row,
+    scenario: &Scenario,
     scripts: [&[u8]; 2],
 ) -> Result<(), AllocError> {
     for number in 1..=MOST {
-        let mut told = Told::new(rt.alloc(), row.sure, row.maybe)?;
-        let disk = MemDisk::holding(rt.alloc(), row.first, b"", &[number])?;
+        let mut told = Told::new(rt.alloc(), scenario.sure, scenario.maybe)?;
+        let disk = MemDisk::holding(rt.alloc(), scenario.first, b"", &[number])?;
         let disk = sessions(rt, disk, scripts, &mut told)?;
         crashes(rt, &disk, &told)?;
-        assert!(rt; number < MOST || told.sure.as_slice() == row.end);
+        assert!(rt; number < MOST || told.sure.as_slice() == scenario.end);
     }
     Ok(())
 }
 
 // An empty journal, and a closed one.
-const EMPTY: [Row; 2] = [
-    Row {
+const EMPTY: [Scenario; 2] = [
+    Scenario {
         first: b"",
         sure: b"",
         maybe: b"",
         end: b"s.d.",
     },
-    Row {
+    Scenario {
         first: b"HEATJ002\0",
         sure: b"",
         maybe: b"",
@@ -230,14 +230,14 @@ const EMPTY: [Row; 2] = [
     },
 ];
 
-const OF_ONE: Row = Row {
+const OF_ONE: Scenario = Scenario {
     first: ONE,
     sure: b"abc.",
     maybe: b"abc.",
     end: b"u.",
 };
 
-const OF_TORN: Row = Row {
+const OF_TORN: Scenario = Scenario {
     first: TORN,
     sure: b"",
     maybe: b"abc.",
@@ -246,8 +246,8 @@ const OF_TORN: Row = Row {
 
 #[test]
 fn stops_in_an_empty_journal(rt: HostRuntime) -> Result<(), Fail> {
-    for row in &EMPTY {
-        stops(&rt, row, [b"+b+c*s", b"+d"])?;
+    for scenario in &EMPTY {
+        stops(&rt, scenario, [b"+b+c*s", b"+d"])?;
     }
     Ok(())
 }
@@ -266,8 +266,8 @@ fn stops_where_a_gate_was_torn(rt: HostRuntime) -> Result<(), Fail> {
 
 #[test]
 fn failures_in_an_empty_journal(rt: HostRuntime) -> Result<(), Fail> {
-    for row in &EMPTY {
-        failures(&rt, row, [b"+b+c*s", b"+d"])?;
+    for scenario in &EMPTY {
+        failures(&rt, scenario, [b"+b+c*s", b"+d"])?;
     }
     Ok(())
 }

@@ -1,5 +1,5 @@
 //! Clouds that refuse, fail and break, and what is written then.
-use crate::tests::{BEGUN, COMPLETED, CREATE, CREATED, drives, joined, texts};
+use crate::fixtures::{BEGUN, COMPLETED, CREATE, CREATED, drives, joined, texts};
 use heat_io::{MemSink, MemSource};
 use heat_value::{Seq, Text};
 use scripted_cloud::{ScriptedAnswer, ScriptedCloud};

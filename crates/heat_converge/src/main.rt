@@ -7,11 +7,11 @@
 #[cfg(test)]
 mod cloud_tests;
 mod ended;
+#[cfg(test)]
+mod fixtures;
 mod kept_cloud;
 #[cfg(test)]
 mod kept_cloud_tests;
-#[cfg(test)]
-mod kept_scenarios;
 #[cfg(test)]
 mod pairs;
 #[cfg(test)]
@@ -19,15 +19,9 @@ mod readings;
 #[cfg(test)]
 mod rollback_tests;
 mod said;
-#[cfg(test)]
-mod scenarios;
 mod shipped;
 #[cfg(test)]
 mod stream_tests;
-#[cfg(test)]
-mod template_scenarios;
-#[cfg(test)]
-mod tests;
 
 use converge_call::{Exit, Outcome, WordsFault, words_of};
 use ended::Ended;

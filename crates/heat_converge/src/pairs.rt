@@ -1,9 +1,8 @@
 //! Each stage of a job against each next line, for one resource and for two that depend: the script ends
 //! idle, what is alive is as the last plan says, and the histories are read by the plain program.
+use crate::fixtures::{NOTHING, SIZE_1, SIZE_2, ZONE_Y, joined, texts};
 use crate::readings::{Reading, read};
-use crate::scenarios::{NOTHING, SIZE_1, SIZE_2, ZONE_Y};
 use crate::shipped::converge_shipped;
-use crate::tests::{joined, texts};
 use book::Book;
 use converge_call::{End, Outcome};
 use heat_io::{MemSink, MemSource};

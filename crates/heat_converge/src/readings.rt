@@ -1,8 +1,8 @@
-//! The histories that the top call writes for the rows, as the plain program for the headline's words
+//! The histories that the top call writes for scenarios, as the plain program for the headline's words
 //! reads them.
 use crate::empty_cloud;
+use crate::fixtures::{CREATE, joined, texts};
 use crate::shipped::converge_shipped;
-use crate::tests::{CREATE, joined, texts};
 use book::Book;
 use converge_call::{End, Outcome};
 use core_state::Entry;
@@ -82,7 +82,7 @@ fn read_behind(
     Ok(read_end(alloc, end, stack))
 }
 
-// A row, its script, and what is read of the stack `s`.
+// A scenario, its script, and what is read of the stack `s`.
 const READINGS: &[(&str, &[&str], Reading)] = &[
     ("empty_script", &[], NOTHING),
     (
@@ -107,7 +107,7 @@ const READINGS: &[(&str, &[&str], Reading)] = &[
 ];
 
 #[test]
-fn rows_are_read_as_by_hand(rt: HostRuntime) -> Result<(), Fail> {
+fn scenarios_are_read_as_by_hand(rt: HostRuntime) -> Result<(), Fail> {
     let stack = StackName::read(rt.alloc(), b"s")?.ok_or("a name")?;
     for (name, script, reading) in READINGS {
         let seen = read_behind(rt.alloc(), script, &stack)?;

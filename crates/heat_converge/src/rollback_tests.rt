@@ -1,6 +1,6 @@
 //! A rollback past 4,000 rows isn't made: what failed stays as it is.
 use crate::cloud_tests::scripted;
-use crate::tests::{drives, texts};
+use crate::fixtures::{drives, texts};
 use heat_io::{MemSink, MemSource};
 use std::alloc::{AllocError, Global};
 use std::test::Fail;

@@ -1,8 +1,51 @@
-//! A source and a sink that fail at each call in turn, and lines that are too long.
-use crate::tests::{CREATE, joined, sim_drives, written};
+//! A source and a sink in memory: the text of a run, each call that fails in turn, and lines that are too long.
+ghost use Rattle.std.specs.Prelude.{◌<◌};
+
+use crate::empty_cloud;
+use crate::fixtures::{BEGUN, COMPLETED, CREATE, CREATED, drives, joined, texts};
 use heat_io::{MemSink, MemSource};
 use std::alloc::{AllocError, Global};
 use std::test::Fail;
+
+// How a drive of an empty simulated cloud ends.
+fn sim_drives(alloc: Global, source: &mut MemSource, sink: &mut MemSink) -> Result<u8, AllocError> {
+    let words = texts(alloc, &["drive"])?;
+    let (status, _cloud) = drives(alloc, &words, source, sink, empty_cloud(alloc)?);
+    Ok(status)
+}
+
+// How it ends, and what it writes, with a source that moves so many bytes at a time and fails at these calls.
+fn written(
+    alloc: Global,
+    script: &[u8],
+    piece: usize,
+    fails: &[u64],
+) -> Result<(u8, MemSink), AllocError>
+    requires { 0 < piece }
+{
+    let mut source = MemSource::new(alloc, script, piece, fails)?;
+    let mut sink = MemSink::new(alloc, 4096, &[])?;
+    let status = sim_drives(alloc, &mut source, &mut sink)?;
+    Ok((status, sink))
+}
+
+// Whether a create and its run, in pieces of so many bytes, end well and write so.
+fn runs_in_pieces(alloc: Global, piece: usize) -> Result<bool, AllocError>
+    requires { 0 < piece }
+{
+    let script = joined(alloc, &[CREATE, "run\n"])?;
+    let (status, sink) = written(alloc, script.as_bytes(), piece, &[])?;
+    let out = joined(alloc, &[CREATED, BEGUN, COMPLETED, "idle 5\n"])?;
+    Ok(status == 0 && sink.held() == out.as_bytes())
+}
+
+#[test]
+fn a_run_has_its_text_in_pieces_of_any_size(rt: HostRuntime) -> Result<(), Fail> {
+    assert!(rt; runs_in_pieces(rt.alloc(), 4096)?);
+    assert!(rt; runs_in_pieces(rt.alloc(), 30)?);
+    assert!(rt; runs_in_pieces(rt.alloc(), 1)?);
+    Ok(())
+}
 
 // How many bytes the whole lines among the first ones take.
 fn whole_lines(script: &[u8], first: usize) -> usize {
@@ -17,10 +60,10 @@ fn whole_lines(script: &[u8], first: usize) -> usize {
 
 // Whether a source of 30 bytes a call that fails at this call leaves the text of the whole lines that came.
 fn read_fails_at(alloc: Global, script: &[u8], call: u64) -> Result<bool, AllocError> {
-    let (status, sink) = written(alloc, &["drive"], script, 30, &[call])?;
+    let (status, sink) = written(alloc, script, 30, &[call])?;
     let came = (call as usize).saturating_sub(1).saturating_mul(30);
     let whole = script.get(..whole_lines(script, came)).unwrap_or(script);
-    let (_, before) = written(alloc, &["drive"], whole, 4096, &[])?;
+    let (_, before) = written(alloc, whole, 4096, &[])?;
     Ok(status == 4 && sink.held() == before.held())
 }
 
@@ -44,14 +87,14 @@ fn a_source_fails_at_each_call(rt: HostRuntime) -> Result<(), Fail> {
 fn write_fails_at(alloc: Global, script: &[u8], call: u64) -> Result<(u8, MemSink), AllocError> {
     let mut source = MemSource::new(alloc, script, 4096, &[])?;
     let mut sink = MemSink::new(alloc, 10, &[call])?;
-    let status = sim_drives(alloc, &["drive"], &mut source, &mut sink)?;
+    let status = sim_drives(alloc, &mut source, &mut sink)?;
     Ok((status, sink))
 }
 
 #[test]
 fn a_sink_fails_at_each_call(rt: HostRuntime) -> Result<(), Fail> {
     let script = joined(rt.alloc(), MIXED)?;
-    let (_, all) = written(rt.alloc(), &["drive"], script.as_bytes(), 4096, &[])?;
+    let (_, all) = written(rt.alloc(), script.as_bytes(), 4096, &[])?;
     for call in 1..=22 {
         let (status, sink) = write_fails_at(rt.alloc(), script.as_bytes(), call)?;
         assert_eq!(rt; status, 5, "{}", call);
@@ -65,7 +108,7 @@ fn a_sink_fails_at_each_call(rt: HostRuntime) -> Result<(), Fail> {
 fn long_line_ends(alloc: Global, length: usize, end: &[u8]) -> Result<u8, AllocError> {
     let mut script = Vec::from_elem(alloc, b'#', length)?;
     script.extend_from_slice(end)?;
-    Ok(written(alloc, &["drive"], &script, 4096, &[])?.0)
+    Ok(written(alloc, &script, 4096, &[])?.0)
 }
 
 // A line's length, its end, and the status.

@@ -39,3 +39,5 @@ mod takes;
 mod turns;
 #[cfg(test)]
 mod update_nodes;
+#[cfg(test)]
+mod worn_keys;

@@ -1,4 +1,5 @@
-//! What no step of a short script leads to: a letter that nobody waits for, full tables, worn numbers.
+//! What no step of a short script leads to: a letter that nobody waits for, full tables, worn numbers, a worn
+//! key.
 
 use crate::halt::Halt;
 use core_state::{ApplyFault, Change, Letter, Next, Row, Stack, State};
@@ -16,6 +17,7 @@ pub(crate) fn put(alloc: Global, s: &mut State, words: &str) -> Result<(), Halt>
         "worn rows" => wear_rows(alloc, s),
         "worn engines" => wear_engines(alloc, s),
         "worn letters" => wear_letters(alloc, s),
+        "worn key" => wear_key(alloc, s),
         _ => Err(Halt::Words),
     }
 }
@@ -128,6 +130,16 @@ fn wear_letters(alloc: Global, s: &mut State) -> Result<(), Halt> {
     let mut next = *s.next();
     next.letter = worn(next.letter);
     change(alloc, s, Change::Numbers(next))
+}
+
+// Lets the key of the first row be one that can rise no more.
+fn wear_key(alloc: Global, s: &mut State) -> Result<(), Halt> {
+    let Some(row) = s.rows().first() else {
+        return Err(Halt::Words);
+    };
+    let mut row = row.copy()?;
+    row.key = WORN - 1;
+    change(alloc, s, Change::PutRow(row))
 }
 
 // A number of which no other is left.

@@ -121,16 +121,6 @@ choice_values-loop-places-preserved t c =
     (data_of c.in_ok-choice_value.field-0) c.loop-places.sum c.choice_value.new.sum c.if-not-go_on.false
     c.loop-places.invariant.0 c.in_ok-push.ensures.ok c.in_ok-choice_value.ensures c.go_on.ensures
 
--- the same where the choice that is dropped lists places of its keys
-pub choice_values-loop-places-preserved-else-not-go_on : goal.choice_values-loop-places-preserved-else-not-go_on
-choice_values-loop-places-preserved-else-not-go_on t c =
-    turn_goes_on (again c.args.set.now) (data_of c.args.repetition.now.template.now)
-    (choices_outcome (again c.args.set.now) (data_of c.args.repetition.now.template.now) (choices (lists_of c.args.repetition.now.lists.items)) c.args.sum.now)
-    (lists_of c.as_slice-lists.result.now) c.loop-places.places.items (choice_of c.in_ok-choice.choice) c.in_ok-choice.ensures.choice
-    c.go_on.result c.go_on.new.places.items c.loop-places.items c.push.new.self
-    (data_of c.in_ok-choice_value.field-0) c.loop-places.sum c.choice_value.new.sum c.if-not-go_on.false
-    c.loop-places.invariant.0 c.in_ok-push.ensures.ok c.in_ok-choice_value.ensures c.go_on.ensures
-
 pub repeated-returns-in_ok-items-in-Ok : goal.repeated-returns-in_ok-items-in-Ok
 repeated-returns-in_ok-items-in-Ok t c =
     outcome_is data_of c.answered.result c.answered.new.sum _ _
