@@ -103,8 +103,7 @@ fn plan_in(
     template: &Template,
     bound: &Bound,
 ) -> Result<Result<Plan, AdmitFault>, AllocError>
-    requires template { members_depth template.now ≤ 64 }
-    requires bound { members_depth bound.now.params ≤ 64 }
+    requires { members_depth template.now ≤ 64 }
 {
     let catalog = kinds_of(alloc)?;
     Ok(admit(alloc, template, bound, &Props::new(alloc), &catalog))

@@ -40,8 +40,7 @@ fn admitted_with(
     bound: &Bound,
     files: &Props,
 ) -> Result<String, AllocError>
-    requires template { members_depth template.now ≤ 64 }
-    requires bound { members_depth bound.now.params ≤ 64 }
+    requires { members_depth template.now ≤ 64 }
 {
     let catalog = kinds_of(alloc)?;
     words_of(alloc, admit(alloc, template, bound, files, &catalog))
@@ -49,8 +48,7 @@ fn admitted_with(
 
 // The same with the files f and g.
 fn admitted_as(alloc: Global, template: &Template, bound: &Bound) -> Result<String, AllocError>
-    requires template { members_depth template.now ≤ 64 }
-    requires bound { members_depth bound.now.params ≤ 64 }
+    requires { members_depth template.now ≤ 64 }
 {
     let files = props_of(alloc, "{'f':'F','g':'G'}")?;
     admitted_with(alloc, template, bound, &files)

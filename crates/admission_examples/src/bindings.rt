@@ -1,5 +1,6 @@
 //! What the parameters of a template are bound to, where the test `nova.flavor` is registered.
-ghost use Rattle.std.specs.Prelude.{◌≡◌};
+ghost use Rattle.std.specs.Prelude.{◌≡◌, ◌≤◌};
+ghost use Rattle.heat_value.specs.Data.{members_depth};
 ghost use Rattle.hot_registry.specs.Names.{is_listed};
 ghost use Rattle.hot_registry.specs.Shipped.{flavor_test as the_flavor_test};
 
@@ -26,7 +27,7 @@ fn flavors_of(alloc: Global) -> Result<Registry, AllocError> {
 
 /// What a parameter is bound to, in words.
 pub(crate) fn value_words(alloc: Global, bound: &Bound, name: &str) -> Result<String, AllocError> {
-    match bound.params.get(&Text::from_str(alloc, name)?) {
+    match bound.params.as_props().get(&Text::from_str(alloc, name)?) {
         Some(value) => value.text(alloc)?.as_str().replace(alloc, "\"", "'"),
         None => String::from_str(alloc, "nothing"),
     }
@@ -38,7 +39,10 @@ fn bound_words(
     template: &Template,
     given: &Props,
     registry: &Registry,
-) -> Result<String, AllocError> {
+) -> Result<String, AllocError>
+    requires template { members_depth template.now ≤ 64 }
+    requires given { members_depth given.now ≤ 64 }
+{
     let ids = ids_of(alloc)?;
     match bind(alloc, template, given, &ids, registry) {
         Ok(bound) => value_words(alloc, &bound, "x"),
@@ -47,7 +51,10 @@ fn bound_words(
 }
 
 // The same where the test of flavours is registered.
-fn told_of(alloc: Global, template: &Template, given: &Props) -> Result<String, AllocError> {
+fn told_of(alloc: Global, template: &Template, given: &Props) -> Result<String, AllocError>
+    requires template { members_depth template.now ≤ 64 }
+    requires given { members_depth given.now ≤ 64 }
+{
     let registry = flavors_of(alloc)?;
     bound_words(alloc, template, given, &registry)
 }

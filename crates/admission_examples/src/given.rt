@@ -79,7 +79,6 @@ fn take_kinds(alloc: Global, catalog: &mut Catalog, kinds: &str) -> Result<(), A
 /// What the parameters of a template are bound to by what is given.
 pub(crate) fn bound_of(alloc: Global, template: &Template, given: &str) -> Result<Bound, AllocError>
     requires { members_depth template.now ≤ 64 }
-    ensures { IfOk result (λ b. members_depth b.params ≤ 64) }
 {
     let given = props_of(alloc, given)?;
     bound_to(alloc, template, &given)
@@ -88,7 +87,6 @@ pub(crate) fn bound_of(alloc: Global, template: &Template, given: &str) -> Resul
 fn bound_to(alloc: Global, template: &Template, given: &Props) -> Result<Bound, AllocError>
     requires template { members_depth template.now ≤ 64 }
     requires given { members_depth given.now ≤ 64 }
-    ensures { IfOk result (λ b. members_depth b.params ≤ 64) }
 {
     let ids = ids_of(alloc)?;
     let registry = registry_of(alloc)?;

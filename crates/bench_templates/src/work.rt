@@ -123,7 +123,7 @@ fn bound_on(alloc: Global, work: Work, template: &Template) -> Result<usize>
     };
     let bound = bound(alloc, template, &registry)?;
     if work == Work::Bind {
-        return Ok(bound.params.as_slice().len());
+        return Ok(bound.params.as_props().as_slice().len());
     }
     let plan = admitted(alloc, template, &bound, &registry)?;
     if work == Work::Chain || work == Work::Made {
@@ -135,7 +135,6 @@ fn bound_on(alloc: Global, work: Work, template: &Template) -> Result<usize>
 // What the parameters are bound to.
 fn bound(alloc: Global, template: &Template, registry: &Registry) -> Result<Bound>
     requires { members_depth template.now ≤ 64 }
-    ensures { IfOk result (λ b. members_depth b.params ≤ 64) }
 {
     let Some(stack) = StackName::read(alloc, b"s")? else {
         bail!("a name");
@@ -154,8 +153,7 @@ fn bound(alloc: Global, template: &Template, registry: &Registry) -> Result<Boun
 
 // The plan, where no file stands beside the template.
 fn admitted(alloc: Global, template: &Template, bound: &Bound, registry: &Registry) -> Result<Plan>
-    requires template { members_depth template.now ≤ 64 }
-    requires bound { members_depth bound.now.params ≤ 64 }
+    requires { members_depth template.now ≤ 64 }
 {
     let mut catalog = Catalog::new(alloc, registry)?;
     match catalog.read(alloc, &read(alloc, KINDS)?) {

@@ -35,9 +35,10 @@ pub fn conditions(alloc: Global, template: &Template, bound: &Bound) -> Result<C
     let parts = template.parts();
     let members = parts.conds.as_slice();
     let order = order_of(alloc, members)?;
-    let conds = values_in(alloc, &bound.params, members, order.as_slice())?;
-    let resources = wanted_resources(alloc, &bound.params, &conds, parts.resources.as_slice())?;
-    let outputs = wanted_outputs(alloc, &bound.params, &conds, parts.outputs.as_slice())?;
+    let params = bound.params.as_props();
+    let conds = values_in(alloc, params, members, order.as_slice())?;
+    let resources = wanted_resources(alloc, params, &conds, parts.resources.as_slice())?;
+    let outputs = wanted_outputs(alloc, params, &conds, parts.outputs.as_slice())?;
     Ok(Conds {
         conds,
         resources,

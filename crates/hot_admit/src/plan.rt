@@ -17,7 +17,7 @@ use crate::cycle::needs_cycle;
 use crate::entries::entries_flaw;
 use crate::items::{items_of, names_where};
 use crate::{AdmitCode, AdmitFault, Basis, Conds, Wanted};
-use heat_plan::{ByName, Expression, File, Item, Output, Parameters, Plan};
+use heat_plan::{ByName, Expression, File, Item, Output, Plan};
 use heat_value::{Props, Seq, Text, TryCopy, Value};
 use hot_catalog::Catalog;
 use hot_params::Bound;
@@ -36,7 +36,6 @@ pub fn admit(
     catalog: &Catalog,
 ) -> Result<Plan, AdmitFault>
     requires template { members_depth template.now ≤ 64 }
-    requires bound { members_depth bound.now.params ≤ 64 }
     ensures ok { IfOk result (λ p. IsAdmitted template.now
         (record { params = bound.now.params; files = files.now; kinds = standing catalog.now }) p) }
     ensures fault { IfErr result (λ e. IsAdmitFaultOf template.now
@@ -75,7 +74,6 @@ fn plan_of(
     requires outputs { length conds.outputs ≡ length parts.now.outputs }
     requires names { All IsResName (names_of (resources_data parts.now.resources)) }
     requires depth { AreShallow (outputs_data parts.now.outputs) }
-    requires bound { members_depth bound.now.params ≤ 64 }
     requires plan { IsPlan items (names_marked false (resources_data parts.now.resources) conds.resources) }
     ensures { IfOk result (λ p. p ≡ record {
       items = items;
@@ -98,7 +96,7 @@ fn plan_of(
         resources.as_slice(),
     )?;
     let outputs = outputs_of(alloc, parts.outputs.as_slice(), outputs.as_slice())?;
-    let params = parameters_of(&bound.params)?;
+    let params = bound.params.copy()?;
     let files = files_of(alloc, files)?;
     Ok(Plan::new(items, outputs, params, conds, files, absent))
 }
@@ -136,17 +134,6 @@ fn expression_of(value: Value) -> Result<Expression, AllocError>
 {
     match Expression::from_value(value) {
         Some(value) => Ok(value),
-        None => unreachable!(),
-    }
-}
-
-// A copy of bound parameters, which nest at most 64 deep.
-fn parameters_of(params: &Props) -> Result<Parameters, AllocError>
-    requires { members_depth params.now ≤ 64 }
-    ensures { IfOk result (λ p. p ≡ params.now) }
-{
-    match Parameters::from_props(params.copy()?) {
-        Some(params) => Ok(params),
         None => unreachable!(),
     }
 }

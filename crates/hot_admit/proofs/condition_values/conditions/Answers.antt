@@ -17,7 +17,7 @@ returns-in_err-conds-clause-fault c =
     c.as_slice-members.result.now c.in_ok-order.order
     (grounds c.parts-parts.ensures.exact c.as_slice-members.ensures.rising c.as_slice-members.ensures.members
     c.in_ok-order.ensures.ok)
-    c.in_err-conds.field-0.0 c.in_err-conds.ensures.fault)
+    c.in_err-conds.field-0.0 (rw c.as_props-params.ensures.value at c.in_err-conds.ensures.fault))
 
 pub returns-in_err-resources-clause-fault : goal.returns-in_err-resources-clause-fault
 returns-in_err-resources-clause-fault c =
@@ -28,9 +28,10 @@ returns-in_err-resources-clause-fault c =
     c.in_ok-order.order
     (grounds c.parts-parts.ensures.exact c.as_slice-members.ensures.rising c.as_slice-members.ensures.members
     c.in_ok-order.ensures.ok)
-    c.in_ok-conds.conds c.in_ok-conds.ensures.ok c.in_ok-conds.ensures.each)
+    c.in_ok-conds.conds (rw c.as_props-params.ensures.value at c.in_ok-conds.ensures.ok)
+    (rw c.as_props-params.ensures.value at c.in_ok-conds.ensures.each))
     c.in_err-resources.field-0.0
-    (rw c.as_slice-2.ensures at c.in_err-resources.ensures.fault))
+    (rw (c.as_slice-2.ensures, c.as_props-params.ensures.value) at c.in_err-resources.ensures.fault))
 
 pub returns-in_err-outputs-clause-fault : goal.returns-in_err-outputs-clause-fault
 returns-in_err-outputs-clause-fault c =
@@ -41,10 +42,11 @@ returns-in_err-outputs-clause-fault c =
     c.in_ok-order.order
     (grounds c.parts-parts.ensures.exact c.as_slice-members.ensures.rising c.as_slice-members.ensures.members
     c.in_ok-order.ensures.ok)
-    c.in_ok-conds.conds c.in_ok-conds.ensures.ok c.in_ok-conds.ensures.each)
-    (rw c.as_slice-2.ensures at c.in_ok-resources.ensures.each)
+    c.in_ok-conds.conds (rw c.as_props-params.ensures.value at c.in_ok-conds.ensures.ok)
+    (rw c.as_props-params.ensures.value at c.in_ok-conds.ensures.each))
+    (rw (c.as_slice-2.ensures, c.as_props-params.ensures.value) at c.in_ok-resources.ensures.each)
     c.in_err-outputs.field-0.0
-    (rw c.as_slice-3.ensures at c.in_err-outputs.ensures.fault))
+    (rw (c.as_slice-3.ensures, c.as_props-params.ensures.value) at c.in_err-outputs.ensures.fault))
 
 pub returns-clause-ok : goal.returns-clause-ok
 returns-clause-ok c =
@@ -53,9 +55,10 @@ returns-clause-ok c =
     c.in_ok-order.order
     (grounds c.parts-parts.ensures.exact c.as_slice-members.ensures.rising c.as_slice-members.ensures.members
     c.in_ok-order.ensures.ok)
-    c.in_ok-conds.conds c.in_ok-conds.ensures.ok c.in_ok-conds.ensures.each)
+    c.in_ok-conds.conds (rw c.as_props-params.ensures.value at c.in_ok-conds.ensures.ok)
+    (rw c.as_props-params.ensures.value at c.in_ok-conds.ensures.each))
     c.in_ok-resources.resources c.in_ok-outputs.outputs
-    (rw c.as_slice-2.ensures at c.in_ok-resources.ensures.ok)
-    (rw c.as_slice-2.ensures at c.in_ok-resources.ensures.each)
-    (rw c.as_slice-3.ensures at c.in_ok-outputs.ensures.ok)
-    (rw c.as_slice-3.ensures at c.in_ok-outputs.ensures.each)
+    (rw (c.as_slice-2.ensures, c.as_props-params.ensures.value) at c.in_ok-resources.ensures.ok)
+    (rw (c.as_slice-2.ensures, c.as_props-params.ensures.value) at c.in_ok-resources.ensures.each)
+    (rw (c.as_slice-3.ensures, c.as_props-params.ensures.value) at c.in_ok-outputs.ensures.ok)
+    (rw (c.as_slice-3.ensures, c.as_props-params.ensures.value) at c.in_ok-outputs.ensures.each)
