@@ -1,5 +1,5 @@
 -- A list that isn't empty has a first.
-use Rattle.std.proofs.Common.{◌≡◌, List, arith, length, subst}
+use Rattle.std.proofs.Common.{◌≡◌, ◌∙◌, List, arith, length, subst, sym}
 use Rattle.provider.specs.Calls.{Lists}
 use Rattle.provider.specs.declared.alive.Alive.{Alive}
 use Rattle.heat_plan.specs.declared.token.Token.{Token}
@@ -20,7 +20,7 @@ returns-then-is_empty c old new lists =
 pub returns : goal.returns
 returns c old new lists = record {
   nothing = λ is. cc;
-  stranger = λ token is. subst (λ (t : Token). HasStranger t old new) (same_token _ _ is)
+  stranger = λ token is. subst (λ (t : Token). HasStranger t old new) (sym c.into_token.ensures ∙ same_token _ _ is)
       (stranger_at c.args.all c.remove-first.result old new lists c.remove-first.ensures.item);
   failed = λ is. cc;
   memory = λ is. cc;
