@@ -16,7 +16,7 @@ use std::marker::Model;
 
 /// A value: null, a flag, a whole number, a text, a list, or a map from texts to values.
 #[cycle(value)]
-#[derive(Debug, Drop)]
+#[derive(Debug)]
 pub enum Value {
     Null,
     Flag(bool),
@@ -24,6 +24,20 @@ pub enum Value {
     Words(Text),
     Items(Items),
     Fields(Props),
+}
+
+impl Drop for Value {
+    #[cycle(drops)]
+    fn drop(self) {
+        match self {
+            Value::Null => {}
+            Value::Flag(_) => {}
+            Value::Whole(_) => {}
+            Value::Words(_) => {}
+            Value::Items(_) => {}
+            Value::Fields(_) => {}
+        }
+    }
 }
 
 /// A list of values.
