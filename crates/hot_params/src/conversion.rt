@@ -125,9 +125,8 @@ fn json_said(alloc: Global, text: &Text) -> Result<Option<Value>, AllocError>
 fn collection(value: Value) -> Option<Value>
     ensures { option_map data_of result ≡ collected (data_of value) }
 {
-    match value {
-        Value::Items(items) => Some(Value::Items(items)),
-        Value::Fields(fields) => Some(Value::Fields(fields)),
+    match &value {
+        Value::Items(_) | Value::Fields(_) => Some(value),
         Value::Null | Value::Flag(_) | Value::Whole(_) | Value::Words(_) => None,
     }
 }
