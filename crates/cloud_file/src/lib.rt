@@ -7,7 +7,6 @@ mod alive;
 mod draft;
 mod fault;
 mod keys;
-mod nesting;
 mod paths;
 mod reading;
 mod sorts;

@@ -11,9 +11,8 @@ ghost use Rattle.sim_cloud.specs.Holding.{place_of};
 ghost use Rattle.cloud_file.specs.Sorts.{IsFree, IsObject, ReadsText, ReadsFlag, ReadsNumber};
 ghost use Rattle.cloud_file.specs.Sorts.{ReadsObject, ReadsMap, ReadsTokenText, ReadsToken};
 
-use crate::nesting::is_within;
 use heat_plan::{Properties, Token};
-use heat_value::{MAX_DEPTH, Path, Props, Text, Value, ValueFault};
+use heat_value::{MAX_DEPTH, Path, Props, Text, Value, ValueFault, nests_within};
 use serde_json::Value as Json;
 use sim_cloud::Holdings;
 use std::alloc::{AllocError, Global};
@@ -71,7 +70,7 @@ fn object(alloc: Global, value: &Json) -> Result<Result<Properties, Path>, Alloc
     requires { IsObject (view value.now) }
     ensures { IfOk result (λ r. ReadsObject (view value.now) r) }
 {
-    if !is_within(value, MAX_DEPTH) {
+    if !nests_within(value, MAX_DEPTH) {
         return Ok(Err(Path::root(alloc)));
     }
     match converted(alloc, value) {

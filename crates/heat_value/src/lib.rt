@@ -18,5 +18,6 @@ pub use path::{Path, Step};
 pub use seq::Seq;
 pub use text::Text;
 pub use value::coercion::text_of;
+pub use value::nesting::nests_within;
 pub use value::reading::MAX_DEPTH;
 pub use value::{Items, Member, Props, Value};

@@ -7,7 +7,7 @@ mod depth;
 mod equality;
 mod lists;
 mod maps;
-mod nesting;
+pub mod nesting;
 pub mod printing;
 pub mod reading;
 

@@ -5,9 +5,9 @@ ghost use Rattle.serde_json.specs.View.{view, items_view, members_view};
 
 use serde_json::{Map, Value};
 
-/// Whether lists and maps nest no deeper than the limit.
+/// Whether the lists and maps of a reading nest no deeper than the limit.
 #[cycle(nesting)]
-pub fn is_within(value: &Value, limit: u32) -> bool
+pub fn nests_within(value: &Value, limit: u32) -> bool
     ensures { IsTrue result ↔ (depth (view value.now) ≤ limit) }
 {
     match value {
@@ -23,7 +23,7 @@ fn are_within(items: &Vec<Value>, limit: u32) -> bool
     ensures { IsTrue result ↔ (items_depth (items_view items.now.items) ≤ limit) }
 {
     for item in items {
-        if !is_within(item, limit) {
+        if !nests_within(item, limit) {
             return false;
         }
     }
@@ -36,7 +36,7 @@ fn members_are_within(members: &Map<String, Value>, limit: u32) -> bool
     ensures { IsTrue result ↔ (members_depth (members_view members.now.entries) ≤ limit) }
 {
     for (_key, member) in members.iter() {
-        if !is_within(member, limit) {
+        if !nests_within(member, limit) {
             return false;
         }
     }

@@ -8,7 +8,7 @@ ghost use Rattle.heat_value.specs.Reading.{IsReading, HasNoReading, IsReadAs, Is
 ghost use Rattle.heat_value.specs.declared.path.Step.{Step};
 
 use super::conversion::converted;
-use super::nesting::is_within;
+use super::nesting::nests_within;
 use crate::{Value, ValueFault};
 use serde_json::Value as Json;
 use std::alloc::Global;
@@ -27,7 +27,7 @@ impl Value {
             result ≡ Err (ValueFault.BadNumber p) → HasBadNumber bytes.now p }
     {
         let json = parsed(alloc, bytes)?;
-        if !is_within(&json, MAX_DEPTH) {
+        if !nests_within(&json, MAX_DEPTH) {
             return Err(ValueFault::TooDeep);
         }
         converted(alloc, &json)

@@ -7,10 +7,10 @@ use Rattle.cloud_file.proofs.sorts.object.Goals as goal
 
 pub returns-in-Ok : goal.returns-in-Ok
 returns-in-Ok c = map_read c.properties.result (ap json_of (sym c.properties.ensures) ∙ c.in-Ok.ensures.ok)
-    (c.if-not-is_within.ensures.0 refl) c.in-Ok.ensures.whole refl
+    (c.if-not-nests_within.ensures.0 refl) c.in-Ok.ensures.whole refl
 
 pub returns-in-Err-BadNumber : goal.returns-in-Err-BadNumber
 returns-in-Err-BadNumber c =
-    bad_number (c.if-not-is_within.ensures.0 refl) c.in-Err-BadNumber.path
+    bad_number (c.if-not-nests_within.ensures.0 refl) c.in-Err-BadNumber.path
     (subst (λ e. IsOfNumber e (first_bad (view c.args.value.now))) c.in-Err-BadNumber.field-0-is
     c.in-Err-BadNumber.ensures.err) refl
