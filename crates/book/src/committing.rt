@@ -18,14 +18,14 @@ use provider::Provider;
 use std::alloc::Global;
 use step_reads::{Task, next_of};
 
-// A step that was looked at, and what was prepared for it.
+/// A step that was looked at, and what was prepared for it.
 #[derive(Drop)]
 pub(crate) struct Proposal {
     pub work: Work,
     pub prepared: Prepared,
 }
 
-// The step of an engine whose number was drawn, where it is still the one that was looked at.
+/// The step of an engine whose number was drawn, where it is still the one that was looked at.
 pub(crate) fn commit_of<P: Provider>(
     alloc: Global,
     state: &mut State,

@@ -22,7 +22,7 @@ use step_parts::{
     failed_mark, joined, left_changes, left_entries, mark_failed, may_rise, with_last,
 };
 
-// The begin of a job whose item has this fault.
+/// The begin of a job whose item has this fault.
 pub(crate) fn fault(
     alloc: Global,
     s: &State,
@@ -63,7 +63,7 @@ fn fail(
     }
 }
 
-// The row is unlocked, the job ends, and the stack is marked.
+/// The row is unlocked, the job ends, and the stack is marked.
 pub(crate) fn mark(
     alloc: Global,
     e: EngineNo,

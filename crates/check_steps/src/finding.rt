@@ -9,7 +9,7 @@ use core_state::{Job, State};
 use std::alloc::{AllocError, Global};
 use step_reads::required;
 
-// What the begin of a job finds.
+/// What the begin of a job finds.
 pub(crate) fn find<'a>(alloc: Global, s: &'a State, job: &'a Job) -> Result<Found<'a>, AllocError>
     requires { (e : ℕ) × AtUpdate s.now.state e job.now }
     ensures { (e : ℕ) → AtUpdate s.now.state e job.now → IfOk result (IsFound s.now.state e) }

@@ -4,8 +4,8 @@ use core_state::{Job, Point, Row, Stack};
 use heat_plan::{Item, Plan, RowNo};
 use heat_value::Seq;
 
-// A job with its stack, the stack's plan, the item that the job's node is about, the job's row,
-// the node's point, and the rows that the node was given, rising.
+/// A job with its stack, the stack's plan, the item that the job's node is about, the job's row,
+/// the node's point, and the rows that the node was given, rising.
 #[derive(Drop)]
 pub(crate) struct Found<'a> {
     pub job: &'a Job,

@@ -17,7 +17,7 @@ use step_parts::{
     updated_row,
 };
 
-// The row is to be created as its item asks, and the job asks next.
+/// The row is to be created as its item asks, and the job asks next.
 pub(crate) fn start(
     alloc: Global,
     e: EngineNo,
@@ -40,7 +40,7 @@ pub(crate) fn start(
     go_with(alloc, e, found.job, Stage::Asking, row)
 }
 
-// The row is kept as it is, and the job ends next.
+/// The row is kept as it is, and the job ends next.
 pub(crate) fn keep(alloc: Global, e: EngineNo, found: &Found<'_>) -> Result<Made, Refusal>
     ensures made { IfOk result (Makes
         (begun_changes found.now.job.now Ending (kept found.now))
@@ -52,7 +52,7 @@ pub(crate) fn keep(alloc: Global, e: EngineNo, found: &Found<'_>) -> Result<Made
     go_with(alloc, e, found.job, Stage::Ending, row)
 }
 
-// The row is to be updated in place, and the job asks next.
+/// The row is to be updated in place, and the job asks next.
 pub(crate) fn update(
     alloc: Global,
     e: EngineNo,
@@ -86,7 +86,7 @@ fn go_with(alloc: Global, e: EngineNo, job: &Job, stage: Stage, row: Row) -> Res
     make(alloc, changes, entries)
 }
 
-// The job asks next, with its row as it is.
+/// The job asks next, with its row as it is.
 pub(crate) fn go_on(alloc: Global, e: EngineNo, job: &Job) -> Result<Made, Refusal>
     ensures made { IfOk result (Makes
         (onward_changes job.now Asking) (onward_entries e job.now Asking)) }

@@ -9,7 +9,7 @@ use heat_plan::{EngineNo, Refusal};
 use std::alloc::Global;
 use step_parts::{left_changes, left_entries, may_rise};
 
-// The engine's job ends, and its row is unlocked.
+/// The engine's job ends, and its row is unlocked.
 pub(crate) fn leave(alloc: Global, e: EngineNo, row: &Row) -> Result<Made, Refusal>
     ensures made { IfOk result (Makes (left_changes e row.now) (left_entries e row.now)) }
     ensures cause { IfErr result (MakesNone (left_changes e row.now)) }

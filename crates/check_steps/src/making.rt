@@ -7,7 +7,7 @@ use heat_plan::Refusal;
 use std::alloc::Global;
 use step_parts::made_within;
 
-// These changes and entries; refuses `Worn` where the changes wear something out.
+/// These changes and entries; refuses `Worn` where the changes wear something out.
 pub(crate) fn make(
     alloc: Global,
     changes: Batch<Change>,

@@ -11,7 +11,7 @@ use heat_plan::{EngineNo, Item, ResName};
 use step_reads::{freshness, item_of};
 use traversal_graph::Node;
 
-// A stack with its plan, the item that a job's node is about, the node's point, and the job's row.
+/// A stack with its plan, the item that a job's node is about, the node's point, and the job's row.
 #[derive(Clone, Copy)]
 pub(crate) struct Parts<'a> {
     pub stack: &'a Stack,
@@ -21,7 +21,7 @@ pub(crate) struct Parts<'a> {
     pub row: &'a Row,
 }
 
-// What the next step of an engine's job reads, where that is the begin at an update node.
+/// What the next step of an engine's job reads, where that is the begin at an update node.
 pub(crate) fn begun_parts<'a>(s: &'a State, e: EngineNo, job: &'a Job) -> Option<Parts<'a>>
     requires works { Works s.now.state e job.now job.now.stage }
     requires points { HasPoint s.now.state e }
@@ -52,7 +52,7 @@ fn update_parts<'a>(s: &'a State, e: EngineNo, job: &'a Job) -> Option<Parts<'a>
     }
 }
 
-// What the begin of a job at an update node reads.
+/// What the begin of a job at an update node reads.
 pub(crate) fn parts_of<'a>(s: &'a State, job: &'a Job) -> Parts<'a>
     requires { (e : ℕ) × AtUpdate s.now.state e job.now }
     ensures { (e : ℕ) → AtUpdate s.now.state e job.now → IsParts s.now.state e job.now result }

@@ -4,8 +4,8 @@ use core_state::{Input, Job};
 use heat_value::Seq;
 use step_reads::Fresh;
 
-// A job with its work, the input that its node gives, the nodes behind the node, and those of them
-// that are ready then, each rising.
+/// A job with its work, the input that its node gives, the nodes behind the node, and those of them
+/// that are ready then, each rising.
 pub(crate) struct Passed<'a> {
     pub job: &'a Job,
     pub fresh: Fresh<'a>,

@@ -20,8 +20,8 @@ use step_parts::{
 };
 use step_reads::points_passed;
 
-// The row is unlocked, the job ends, the points change and the letters are sent; then the mark, if
-// one is given.
+/// The row is unlocked, the job ends, the points change and the letters are sent; then the mark, if
+/// one is given.
 pub(crate) fn pass_on(
     alloc: Global,
     s: &State,

@@ -15,8 +15,8 @@ use step_parts::{
     seq_of_two, three, with_first, with_last,
 };
 
-// A row of the next number takes the place of the job's row, which is unlocked, and the job moves
-// to it.
+/// A row of the next number takes the place of the job's row, which is unlocked, and the job moves
+/// to it.
 pub(crate) fn replace(
     alloc: Global,
     s: &State,

@@ -46,7 +46,7 @@ pub fn take(alloc: Global, s: &State, e: EngineNo, letter: &Letter) -> Result<Ma
     }
 }
 
-// The letter goes, and nobody works for it.
+/// The letter goes, and nobody works for it.
 pub(crate) fn drop_letter(alloc: Global, e: EngineNo, letter: &Letter) -> Result<Made, Refusal>
     ensures made { IfOk result (Makes (dropped_changes letter.now) (dropped_entries e letter.now)) }
     ensures cause { IfErr result (MakesNone (dropped_changes letter.now)) }
@@ -57,7 +57,7 @@ pub(crate) fn drop_letter(alloc: Global, e: EngineNo, letter: &Letter) -> Result
     make(alloc, changes, entries)
 }
 
-// The row is locked, if it stands, and a job begins.
+/// The row is locked, if it stands, and a job begins.
 pub(crate) fn hold(
     alloc: Global,
     e: EngineNo,
@@ -82,7 +82,7 @@ pub(crate) fn hold(
     make(alloc, changes, entries)
 }
 
-// The same, and the job that a stopped engine had with the row ends.
+/// The same, and the job that a stopped engine had with the row ends.
 pub(crate) fn steal(
     alloc: Global,
     e: EngineNo,

@@ -16,8 +16,8 @@ use heat_value::Equals;
 use std::alloc::Global;
 use type_catalog::Effect;
 
-// The begin with these properties: of a row on which nothing was done, or of one that was begun
-// before.
+/// The begin with these properties: of a row on which nothing was done, or of one that was begun
+/// before.
 pub(crate) fn begin_with(
     alloc: Global,
     s: &State,

@@ -10,8 +10,8 @@ use std::alloc::{AllocError, Global};
 use step_parts::{mark_complete, three, with_last};
 use traversal_graph::Node;
 
-// The numbers, the stack and its past, the new rows, the graph, the first letters, and the mark
-// where there is nothing to do.
+/// The numbers, the stack and its past, the new rows, the graph, the first letters, and the mark
+/// where there is nothing to do.
 pub(crate) fn changes_of(alloc: Global, draft: Draft) -> Result<Batch<Change>, AllocError>
     ensures { IfOk result (λ changes. changes ≡ draft_changes draft) }
 {

@@ -13,8 +13,8 @@ use heat_value::Seq;
 use std::alloc::{AllocError, Global};
 use step_parts::new_row;
 
-// Of each item the last of these rows that is current and has its name; none where one is to be
-// made. It goes over the rows once, and looks each row's item up by its name.
+/// Of each item the last of these rows that is current and has its name; none where one is to be
+/// made. It goes over the rows once, and looks each row's item up by its name.
 pub(crate) fn found_for(
     alloc: Global,
     rows: &[&Row],
@@ -77,7 +77,7 @@ fn place_of_name(items: &[Item], name: &ResName) -> usize
     }
 }
 
-// How many rows are to be made.
+/// How many rows are to be made.
 pub(crate) fn lacking(found: &[Option<RowNo>]) -> usize
     ensures value { result ≡ lacking found.now }
     ensures few { result ≤ length found.now }
@@ -91,7 +91,7 @@ pub(crate) fn lacking(found: &[Option<RowNo>]) -> usize
     count
 }
 
-// The numbers of the items' rows, new ones from a number on, where they suffice.
+/// The numbers of the items' rows, new ones from a number on, where they suffice.
 pub(crate) fn numbered(
     alloc: Global,
     first: Next,
@@ -134,7 +134,7 @@ fn above(number: u64) -> u64
     if number < WORN { number + 1 } else { number }
 }
 
-// The rows that are made for the items that have none, numbered in the items' order.
+/// The rows that are made for the items that have none, numbered in the items' order.
 pub(crate) fn rows_made(
     alloc: Global,
     stack: &StackName,

@@ -31,7 +31,7 @@ pub struct Draft {
     pub letters: Batch<Letter>,
 }
 
-// The draft of a command, whose numbers suffice.
+/// The draft of a command, whose numbers suffice.
 pub(crate) fn drafted(
     alloc: Global,
     s: &State,

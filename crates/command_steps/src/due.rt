@@ -10,7 +10,7 @@ ghost use Rattle.step_relation.specs.Turns.{IsDue};
 use core_state::{Stack, State};
 use heat_plan::{Act, StackName, Status};
 
-// How many rows there may be when a command has laid its own.
+/// How many rows there may be when a command has laid its own.
 pub(crate) const ROW_LIMIT: usize = 4000;
 
 /// Whether the stack, which a step has just marked as failed, is to be rolled back: its traversal
@@ -24,7 +24,7 @@ pub fn is_due(s: &State, stack: &Stack) -> bool
         && has_room_for(s, items_back(s, &stack.name))
 }
 
-// Whether a traversal is one that a rollback may follow.
+/// Whether a traversal is one that a rollback may follow.
 pub(crate) fn is_forward(act: Act) -> bool
     ensures { IsTrue result ↔ IsForward act }
 {
@@ -35,14 +35,14 @@ pub(crate) fn is_forward(act: Act) -> bool
     }
 }
 
-// Whether it is a delete.
+/// Whether it is a delete.
 pub(crate) fn is_delete(act: Act) -> bool
     ensures { IsTrue result ↔ (act ≡ Delete) }
 {
     act == Act::Delete
 }
 
-// Whether a traversal has no mark.
+/// Whether a traversal has no mark.
 pub(crate) fn is_running(status: Status) -> bool
     ensures { IsTrue result ↔ (status ≡ InProgress) }
 {
@@ -72,7 +72,7 @@ fn items_back(s: &State, stack: &StackName) -> usize
     }
 }
 
-// Whether the rows in the table and so many more are within their limit.
+/// Whether the rows in the table and so many more are within their limit.
 pub(crate) fn has_room_for(s: &State, more: usize) -> bool
     ensures { IsTrue result ↔ (length s.now.state.rows + more ≤ row_limit) }
 {

@@ -14,7 +14,7 @@ use std::alloc::{AllocError, Global};
 use step_parts::{complete_mark, mail_entry, one, rows_entry, sent_all, with_last};
 use traversal_graph::Node;
 
-// The command, the rows, the letters, and the mark where there is nothing to do.
+/// The command, the rows, the letters, and the mark where there is nothing to do.
 pub(crate) fn entries_of(alloc: Global, draft: &Draft) -> Result<Batch<Entry>, AllocError>
     ensures { IfOk result (λ entries. entries ≡ draft_entries draft.now) }
 {

@@ -15,7 +15,7 @@ use core_state::{Made, State};
 use heat_plan::{Refusal, StackName};
 use std::alloc::{AllocError, Global};
 
-// The changes and entries of an order of a stack; refuses `Worn` where the numbers don't suffice.
+/// The changes and entries of an order of a stack; refuses `Worn` where the numbers don't suffice.
 pub(crate) fn ordered(
     alloc: Global,
     s: &State,
@@ -31,7 +31,7 @@ pub(crate) fn ordered(
     Ok(made)
 }
 
-// The changes and entries of an order with this layout, whose numbers suffice.
+/// The changes and entries of an order with this layout, whose numbers suffice.
 pub(crate) fn laid(
     alloc: Global,
     s: &State,

@@ -24,8 +24,8 @@ pub struct Layout {
     pub leaves: Seq<u32>,
 }
 
-// What a command of these items lays out, where the numbers suffice: so many of stacks, one of a
-// traversal, and one of each row and each letter that is made. Refuses `Worn` where they don't.
+/// What a command of these items lays out, where the numbers suffice: so many of stacks, one of a
+/// traversal, and one of each row and each letter that is made. Refuses `Worn` where they don't.
 pub(crate) fn numbered_layout(
     alloc: Global,
     s: &State,

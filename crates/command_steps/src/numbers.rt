@@ -6,7 +6,7 @@ ghost use Rattle.command_steps.specs.Layouts.{HasNumbers};
 use core_state::{Next, Numbers};
 use heat_plan::WORN;
 
-// Whether a traversal and so many stacks, rows and letters can be numbered.
+/// Whether a traversal and so many stacks, rows and letters can be numbered.
 pub(crate) fn has_numbers(next: &Numbers, stacks: u64, rows: usize, letters: usize) -> bool
     ensures { IsTrue result ↔ HasNumbers next.now stacks rows letters }
 {
@@ -24,7 +24,7 @@ fn has_room(next: Next, more: u64) -> bool
     more <= WORN - next.get()
 }
 
-// The next numbers behind a command.
+/// The next numbers behind a command.
 pub(crate) fn past_command(next: &Numbers, stacks: u64, rows: usize, letters: usize) -> Numbers
     requires { HasNumbers next.now stacks rows letters }
     ensures { result ≡ past_command next.now stacks rows letters }

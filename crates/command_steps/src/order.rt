@@ -37,7 +37,7 @@ impl Order {
     }
 }
 
-// Of a create.
+/// Of a create.
 pub(crate) fn create_order(
     alloc: Global,
     s: &State,
@@ -63,7 +63,7 @@ pub(crate) fn create_order(
     })
 }
 
-// Of an update of this stack.
+/// Of an update of this stack.
 pub(crate) fn update_order(
     alloc: Global,
     s: &State,
@@ -88,7 +88,7 @@ pub(crate) fn update_order(
     })
 }
 
-// Of a delete of this stack.
+/// Of a delete of this stack.
 pub(crate) fn delete_order(s: &State, stack: &Stack) -> Result<Order, AllocError>
     ensures { IfOk result (λ o. sets_of o ≡ delete_sets s.now.state stack.now) }
 {
@@ -102,7 +102,7 @@ pub(crate) fn delete_order(s: &State, stack: &Stack) -> Result<Order, AllocError
     })
 }
 
-// Of a rollback of this stack.
+/// Of a rollback of this stack.
 pub(crate) fn rollback_order(
     alloc: Global,
     s: &State,
@@ -137,7 +137,7 @@ fn kept_past(s: &State, stack: &StackName) -> Result<Past, AllocError>
     })
 }
 
-// The plan that a rollback of the stack has.
+/// The plan that a rollback of the stack has.
 pub(crate) fn plan_back(alloc: Global, s: &State, stack: &Stack) -> Result<SharedPlan, AllocError>
     ensures { IfOk result (λ plan. plan ≡ plan_back s.now.state stack.now) }
 {

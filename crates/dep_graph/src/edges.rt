@@ -76,7 +76,7 @@ impl Graph {
         self.succs[node as usize].as_slice()
     }
 
-    // How many predecessors each node has.
+    /// How many predecessors each node has.
     pub(crate) fn pred_counts(&self) -> Result<Vec<usize>, AllocError>
         ensures counts { IfOk result (λ counts. counts.items ≡ map length self.now) }
         ensures rising { (node : ℕ) → IsRising (slice_index_or self.now node []) }

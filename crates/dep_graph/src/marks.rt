@@ -23,7 +23,7 @@ impl Model for Marks {
 }
 
 impl Marks {
-    // The same mark on so many nodes.
+    /// The same mark on so many nodes.
     pub(crate) fn new(alloc: Global, size: u32, mark: bool) -> Result<Marks, AllocError>
         ensures { IfOk result (λ marks. marks ≡ replicate size mark) }
     {
@@ -42,14 +42,14 @@ impl Marks {
         }
     }
 
-    // The marks themselves.
+    /// The marks themselves.
     pub(crate) fn as_slice(&self) -> &[bool]
         ensures { result.now ≡ self.now }
     {
         self.all.as_slice()
     }
 
-    // Puts a mark on a node, or takes it off.
+    /// Puts a mark on a node, or takes it off.
     pub(crate) fn put(&mut self, node: u32, mark: bool)
         requires { node < length self.old }
         ensures { self.new ≡ slice_set self.old node mark }
@@ -58,7 +58,7 @@ impl Marks {
     }
 }
 
-// The least node of a rising list that has its mark.
+/// The least node of a rising list that has its mark.
 pub(crate) fn first_marked(nodes: &[u32], marks: &[bool]) -> Option<u32>
     requires rising { IsRising nodes.now }
     requires within { All (λ node. node < length marks.now) nodes.now }
@@ -74,7 +74,7 @@ pub(crate) fn first_marked(nodes: &[u32], marks: &[bool]) -> Option<u32>
     None
 }
 
-// The least node that has its mark.
+/// The least node that has its mark.
 pub(crate) fn least_marked(marks: &[bool]) -> Option<u32>
     requires { length marks.now < 2 ^ 32 }
     ensures { MatchOption result

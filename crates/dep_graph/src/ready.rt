@@ -7,7 +7,7 @@ use std::alloc::{AllocError, Global};
 use std::collections::BTreeSet;
 use std::marker::Model;
 
-// Nodes, each once, seen as a rising list.
+/// Nodes, each once, seen as a rising list.
 #[derive(Drop)]
 pub(crate) struct Ready {
     nodes: BTreeSet<u32>,
@@ -25,7 +25,7 @@ impl Model for Ready {
 }
 
 impl Ready {
-    // No node.
+    /// No node.
     pub(crate) fn new(alloc: Global) -> Ready
         ensures { result ≡ [] }
     {
@@ -34,7 +34,7 @@ impl Ready {
         }
     }
 
-    // Puts a node in, unless it is there.
+    /// Puts a node in, unless it is there.
     pub(crate) fn insert(&mut self, node: u32) -> Result<(), AllocError>
         ensures { OnOk result (PutsIn self.old node self.new) }
     {
@@ -42,7 +42,7 @@ impl Ready {
         Ok(())
     }
 
-    // Takes the least node out.
+    /// Takes the least node out.
     pub(crate) fn take_least(&mut self) -> Option<u32>
         ensures least { MatchOption result (self.old ≡ []) (λ node. self.old ≡ node ∷ self.new) }
         ensures rising { IsRising self.old }

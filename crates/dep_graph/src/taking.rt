@@ -15,7 +15,7 @@ use crate::ready::Ready;
 use heat_value::Seq;
 use std::alloc::AllocError;
 
-// Takes away nodes while one is ready, the least first, and lists them.
+/// Takes away nodes while one is ready, the least first, and lists them.
 pub(crate) fn take_away(graph: &Graph, left: &mut Marks) -> Result<Seq<u32>, AllocError>
     requires all { left.old ≡ replicate (length graph.now) true }
     requires joins { JoinsNodes graph.now }

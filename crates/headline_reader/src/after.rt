@@ -7,7 +7,7 @@ use heat_plan::{Answered, Properties, Request};
 use heat_value::{Seq, Text, TryCopy, copy_option};
 use std::alloc::{AllocError, Global};
 
-// The states in which a token may be after this answer to this request; none where it can't come.
+/// The states in which a token may be after this answer to this request; none where it can't come.
 pub(crate) fn after(
     alloc: Global,
     request: &Request,
@@ -192,7 +192,7 @@ fn gone_again(alloc: Global, answer: &Answered) -> Result<Seq<Option<Living>>, A
     }
 }
 
-// Each state turned into those of its row, equal states once.
+/// Each state turned into those of its row, equal states once.
 pub(crate) fn after_each(
     alloc: Global,
     request: &Request,

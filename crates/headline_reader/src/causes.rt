@@ -5,7 +5,7 @@ use core_state::{Cause, Why};
 use heat_value::TryCopy;
 use std::alloc::AllocError;
 
-// The same cause again.
+/// The same cause again.
 pub(crate) fn copy_cause(cause: &Cause) -> Result<Cause, AllocError>
     ensures { IfOk result (λ c. c ≡ cause.now) }
 {

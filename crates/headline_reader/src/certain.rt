@@ -7,7 +7,7 @@ use crate::living::Living;
 use crate::possible::Possible;
 use heat_plan::Facts;
 
-// Whether there is one state.
+/// Whether there is one state.
 #[tactic(auto, using(crate::proofs::OneState::certain))]
 pub(crate) fn is_certain(possible: &Possible) -> bool
     ensures { IsTrue result ↔ IsCertain possible.now.states }
@@ -15,7 +15,7 @@ pub(crate) fn is_certain(possible: &Possible) -> bool
     possible.states.len() == 1
 }
 
-// Whether one of the states is alive.
+/// Whether one of the states is alive.
 pub(crate) fn may_live(possible: &Possible) -> bool
     ensures { IsTrue result ↔ MayLive possible.now.states }
 {
@@ -26,7 +26,7 @@ pub(crate) fn may_live(possible: &Possible) -> bool
         .any(|state| state.is_some())
 }
 
-// The resource, where the token is certainly alive.
+/// The resource, where the token is certainly alive.
 pub(crate) fn sole(possible: &Possible) -> Option<&Living>
     ensures { option_map (λ l. l.now) result ≡ sole possible.now.states }
 {
@@ -36,7 +36,7 @@ pub(crate) fn sole(possible: &Possible) -> Option<&Living>
     }
 }
 
-// The resource's facts, where the token is certainly alive and ready.
+/// The resource's facts, where the token is certainly alive and ready.
 pub(crate) fn ready_facts(possible: &Possible) -> Option<&Facts>
     ensures { option_map (λ f. f.now) result ≡ ready_facts possible.now.states }
 {

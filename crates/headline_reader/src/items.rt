@@ -13,7 +13,7 @@ use heat_value::Equals;
 use hot_resolve::{Resolution, resolve};
 use std::alloc::{AllocError, Global};
 
-// Whether what the item needs is there, and its one resource, with what it resolves to by those facts.
+/// Whether what the item needs is there, and its one resource, with what it resolves to by those facts.
 #[tactic(auto, unfolding(crate::specs::Items::HasItem))]
 pub(crate) fn has_item(
     alloc: Global,
@@ -91,7 +91,7 @@ fn is_same(it: &Possible, other: &Possible) -> bool
     !may_live(other) || other.token.name != it.token.name || other.token.row == it.token.row
 }
 
-// Whether it is an item's, where it may be alive.
+/// Whether it is an item's, where it may be alive.
 #[tactic(auto, unfolding(crate::specs::Items::IsPlanned))]
 pub(crate) fn is_planned(items: &[Item], it: &Possible) -> bool
     ensures { IsTrue result ↔ IsPlanned items.now it.now }

@@ -71,7 +71,7 @@ impl Living {
         &self.facts
     }
 
-    // As a create begins it.
+    /// As a create begins it.
     pub(crate) fn begun(kind: &Text, props: &Properties) -> Result<Living, AllocError>
         ensures { IfOk result (λ l. l ≡ begun kind.now props.now) }
     {
@@ -83,7 +83,7 @@ impl Living {
         })
     }
 
-    // As an update sets it: its facts are dropped where the properties differed.
+    /// As an update sets it: its facts are dropped where the properties differed.
     pub(crate) fn updated(&self, props: &Properties) -> Result<Living, AllocError>
         ensures { IfOk result (λ l. l ≡ updated props.now self.now) }
     {
@@ -98,7 +98,7 @@ impl Living {
         })
     }
 
-    // As a delete leaves it.
+    /// As a delete leaves it.
     pub(crate) fn going(&self) -> Result<Living, AllocError>
         ensures { IfOk result (λ l. l ≡ going self.now) }
     {
@@ -110,7 +110,7 @@ impl Living {
         })
     }
 
-    // With the facts that were told.
+    /// With the facts that were told.
     pub(crate) fn told(&self, facts: &Facts) -> Result<Living, AllocError>
         ensures { IfOk result (λ l. l ≡ told facts.now self.now) }
     {
@@ -148,7 +148,7 @@ fn same_told(a: &Option<Facts>, b: &Option<Facts>) -> bool
     }
 }
 
-// Whether two states are the same.
+/// Whether two states are the same.
 pub(crate) fn same_state(a: &Option<Living>, b: &Option<Living>) -> bool
     ensures { result ≡ same_state a.now b.now }
 {

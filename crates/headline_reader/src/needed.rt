@@ -8,7 +8,7 @@ use heat_plan::{Facts, KnownFacts, ResName};
 use heat_value::{Seq, TryCopy};
 use std::alloc::{AllocError, Global};
 
-// The facts of all names, in their order; none where one of them isn't certainly there and ready.
+/// The facts of all names, in their order; none where one of them isn't certainly there and ready.
 pub(crate) fn known_of(
     alloc: Global,
     all: &[Possible],

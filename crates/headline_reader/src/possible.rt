@@ -11,7 +11,7 @@ use heat_plan::{StackName, Token};
 use heat_value::{Seq, TryCopy};
 use std::alloc::{AllocError, Global};
 
-// A token and its states.
+/// A token and its states.
 #[derive(Debug)]
 pub(crate) struct Possible {
     pub(crate) token: Token,
@@ -27,8 +27,8 @@ impl Drop for Possible {
     }
 }
 
-// For each call on the stack, its token with the states in which that may be at the end, where it was
-// never given up.
+/// For each call on the stack, its token with the states in which that may be at the end, where it was
+/// never given up.
 pub(crate) fn called(
     alloc: Global,
     entries: &[Entry],

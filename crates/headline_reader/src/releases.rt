@@ -18,7 +18,7 @@ pub fn released(alloc: Global, entries: &[Entry]) -> Result<Seq<Token>, AllocErr
     given_up(alloc, entries)
 }
 
-// The same, without an opening.
+/// The same, without an opening.
 pub(crate) fn given_up(alloc: Global, entries: &[Entry]) -> Result<Seq<Token>, AllocError>
     ensures { IfOk result (λ tokens. tokens ≡ given_up entries.now) }
 {
@@ -39,7 +39,7 @@ fn add_released(tokens: &mut Seq<Token>, what: &What) -> Result<(), AllocError>
     }
 }
 
-// Whether the token is one of these.
+/// Whether the token is one of these.
 pub(crate) fn is_among(token: &Token, tokens: &[Token]) -> bool
     ensures { result ≡ is_among token.now tokens.now }
 {

@@ -24,7 +24,7 @@ pub fn could(
     states_of(alloc, entries, token)
 }
 
-// The same, of a token that was absent at first.
+/// The same, of a token that was absent at first.
 pub(crate) fn states_of(
     alloc: Global,
     entries: &[Entry],

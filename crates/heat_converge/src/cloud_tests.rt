@@ -18,7 +18,7 @@ fn scripted_answer(alloc: Global, letter: u8) -> Result<ScriptedAnswer, AllocErr
     }
 }
 
-// A cloud that takes at most so many boxes, tells at the opening that it has none, and answers so.
+/// A cloud that takes at most so many boxes, tells at the opening that it has none, and answers so.
 pub(crate) fn scripted(
     alloc: Global,
     most: u32,

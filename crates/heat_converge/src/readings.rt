@@ -13,7 +13,7 @@ use sim_cloud::SimCloud;
 use std::alloc::{AllocError, Global};
 use std::test::Fail;
 
-// Of a stack: its newest traversal, that one's mark, and whether what is alive fits its plan.
+/// Of a stack: its newest traversal, that one's mark, and whether what is alive fits its plan.
 #[derive(Clone, Copy, Debug, PartialEq, Eq)]
 pub(crate) struct Reading {
     pub(crate) newest: Option<u64>,
@@ -28,7 +28,7 @@ const NOTHING: Reading = Reading {
     fits: false,
 };
 
-// What is read of a stack's history.
+/// What is read of a stack's history.
 pub(crate) fn read(
     alloc: Global,
     entries: &[Entry],

@@ -5,7 +5,7 @@ ghost use Rattle.heat_disk.specs.Images.{overwritten, Fills};
 
 use std::alloc::AllocError;
 
-// Writes these bytes over what stands at this place, and past the end.
+/// Writes these bytes over what stands at this place, and past the end.
 pub(crate) fn overwrite(file: &mut Vec<u8>, at: usize, bytes: &[u8]) -> Result<(), AllocError>
     ensures ok { OnOk result (file.new.items ≡ overwritten at bytes.now file.old.items) }
     ensures err { OnErr result (file.new.items ≡ file.old.items) }
@@ -25,7 +25,7 @@ pub(crate) fn overwrite(file: &mut Vec<u8>, at: usize, bytes: &[u8]) -> Result<(
     Ok(())
 }
 
-// Puts the bytes from this place on in front of the buffer, as far as both go, and says how many.
+/// Puts the bytes from this place on in front of the buffer, as far as both go, and says how many.
 pub(crate) fn fill(buf: &mut [u8], bytes: &[u8], at: usize) -> usize
     ensures count { result ≤ length buf.old }
     ensures fills { Fills bytes.now at buf.old buf.new result }

@@ -69,21 +69,21 @@ impl Content {
         &self.held
     }
 
-    // How many more calls it has room for.
+    /// How many more calls it has room for.
     pub(crate) fn calls(&self) -> u64
         ensures { result ≡ self.now.room.calls }
     {
         self.calls
     }
 
-    // How many more bytes it has room for.
+    /// How many more bytes it has room for.
     pub(crate) fn bytes(&self) -> u64
         ensures { result ≡ self.now.room.bytes }
     {
         self.bytes
     }
 
-    // Takes the memory for its own bytes up to this end.
+    /// Takes the memory for its own bytes up to this end.
     pub(crate) fn widen(&mut self, end: u64, bytes: u64, calls: u64) -> Result<(), AllocError>
         ensures ok { OnOk result (self.new ≡ record {
           start = self.old.start;

@@ -68,7 +68,7 @@ pub(crate) struct Event {
     act: Act,
 }
 
-// The bytes of all writes stand in one store, in the order of the events.
+/// The bytes of all writes stand in one store, in the order of the events.
 pub(crate) struct History {
     events: Vec<Event>,
     store: Vec<u8>,
@@ -108,7 +108,7 @@ impl History {
         }
     }
 
-    // Takes the memory for so many more calls, which write so many bytes.
+    /// Takes the memory for so many more calls, which write so many bytes.
     pub(crate) fn reserve(&mut self, calls: usize, bytes: usize) -> Result<(), AllocError>
         ensures same { self.new.calls ≡ self.old.calls }
         ensures calls { self.old.more_calls ≤ self.new.more_calls }
@@ -157,8 +157,8 @@ impl History {
         self.events.push_reserved(Event { half, act });
     }
 
-    // The longest image of a half that a crash may leave, with `fill` where anything may stand. The
-    // half began with the bytes `start`.
+    /// The longest image of a half that a crash may leave, with `fill` where anything may stand. The
+    /// half began with the bytes `start`.
     pub(crate) fn longest(&self, half: Half, start: &[u8], fill: u8) -> Result<Vec<u8>, AllocError>
         ensures { IfOk result (λ image. image.items
             ≡ filled fill (side half start.now self.now.calls)) }

@@ -95,7 +95,7 @@ impl MemDisk {
         self.faults
     }
 
-    // Numbers a call, and fails it where the number is listed.
+    /// Numbers a call, and fails it where the number is listed.
     pub(crate) fn count(&mut self) -> Result<(), DiskFailed>
         ensures fails { is_err result ≡ fails_next self.old }
         ensures after { self.new ≡ counted self.old }
@@ -146,7 +146,7 @@ impl MemDisk {
         }
     }
 
-    // Takes memory, so that the room of the half is at least this. After Memory nothing has changed.
+    /// Takes memory, so that the room of the half is at least this. After Memory nothing has changed.
     pub(crate) fn widen(
         &mut self,
         half: Half,

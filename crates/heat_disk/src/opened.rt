@@ -37,7 +37,7 @@ pub(crate) struct Opened {
     calls: u64,
 }
 
-// The way to the file at this path.
+/// The way to the file at this path.
 pub(crate) fn way_to(rt: &HostRuntime, purpose: Purpose, path: &str) -> Way {
     let file = match purpose {
         Purpose::Use => open(rt, path),
@@ -133,8 +133,8 @@ impl Opened {
         self.file()?.set_len(len)
     }
 
-    // Behind a sync that failed the system takes the bytes for synced that never reached the disk, and
-    // the next sync would say so. So the file is lost.
+    /// Behind a sync that failed the system takes the bytes for synced that never reached the disk, and
+    /// the next sync would say so. So the file is lost.
     pub(crate) fn sync(&mut self) -> io::Result<()>
         ensures room { room_of self.new ≡ room_of self.old }
         ensures fails { IsLostFile self.old → IsErr result }

@@ -32,14 +32,14 @@ impl Calls {
         })
     }
 
-    // How many of the calls have failed.
+    /// How many of the calls have failed.
     pub(crate) fn faults(&self) -> u64
         ensures { result ≡ self.now.faults }
     {
         self.faults
     }
 
-    // Numbers a call, and says whether it fails.
+    /// Numbers a call, and says whether it fails.
     pub(crate) fn count(&mut self) -> bool
         ensures fails { result ≡ fails_next self.old }
         ensures after { self.new ≡ counted self.old }

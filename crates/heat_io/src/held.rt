@@ -17,7 +17,7 @@ pub const LINE_LIMIT: usize = 1_048_576;
 
 const PIECE: usize = 4_096;
 
-// What one read came to.
+/// What one read came to.
 #[derive(Clone, Copy, Debug, PartialEq, Eq)]
 pub(crate) enum Filled {
     More,
@@ -26,7 +26,7 @@ pub(crate) enum Filled {
     Memory,
 }
 
-// Where the first line ends.
+/// Where the first line ends.
 #[derive(Clone, Copy, Debug, PartialEq, Eq)]
 pub(crate) enum Found {
     // At an LF, behind so many bytes.
@@ -80,7 +80,7 @@ impl HeldBytes {
         self.all.len() - self.from
     }
 
-    // Gives the first `len` bytes, and takes the first `size` off.
+    /// Gives the first `len` bytes, and takes the first `size` off.
     pub(crate) fn give(&mut self, len: usize, size: usize) -> Result<Seq<u8>, AllocError>
         requires len { len ≤ length self.old }
         requires size { size ≤ length self.old }
@@ -93,7 +93,7 @@ impl HeldBytes {
         Ok(Seq::from_vec(line))
     }
 
-    // Reads on until the first line's end is held, or the line is too long.
+    /// Reads on until the first line's end is held, or the line is too long.
     pub(crate) fn find<S: Source>(&mut self, source: &mut S) -> Found
         requires { length self.old ≤ most_held }
         ensures room { length self.new ≤ most_held }

@@ -55,7 +55,7 @@ pub fn misshapen(
     )
 }
 
-// What stands there, if anything does, has another shape.
+/// What stands there, if anything does, has another shape.
 pub(crate) fn unshaped(
     alloc: Global,
     code: HotCode,

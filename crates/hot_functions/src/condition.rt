@@ -19,7 +19,7 @@ pub fn is_condition(value: &Value) -> bool
     }
 }
 
-// Whether an object with these members is one.
+/// Whether an object with these members is one.
 pub(crate) fn makes_condition(members: &[Member]) -> bool
     ensures { result ≡ the_is_condition (fields_data (members_of members.now)) }
 {
@@ -29,7 +29,7 @@ pub(crate) fn makes_condition(members: &[Member]) -> bool
     }
 }
 
-// Whether each is one.
+/// Whether each is one.
 pub(crate) fn are_conditions(values: &[Value]) -> bool
     ensures { result ≡ the_are_conditions (nodes_of values.now) }
 {

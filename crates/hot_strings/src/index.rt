@@ -60,21 +60,21 @@ impl KeyIndex {
         })
     }
 
-    // Whether some key is empty.
+    /// Whether some key is empty.
     pub(crate) fn has_empty_key(&self) -> bool
         ensures { result ≡ self.now.empty }
     {
         self.empty
     }
 
-    // Whether the keys are known to rise in byte order.
+    /// Whether the keys are known to rise in byte order.
     pub(crate) fn rises(&self) -> bool
         ensures { result ≡ self.now.rise }
     {
         self.rise
     }
 
-    // For each of the keys that rise how many end with the longest that begins it and is shorter.
+    /// For each of the keys that rise how many end with the longest that begins it and is shorter.
     pub(crate) fn shorter(&self) -> &[usize]
         ensures { result.now ≡ self.now.shorter }
     {

@@ -2,7 +2,7 @@
 ghost use Rattle.std.specs.Prelude.{◌≡◌, ◌≢◌, ◌<◌, ◌++◌, List, ℕ, IfSome, None, length};
 ghost use Rattle.journal_form.specs.Forms.{word, number};
 
-// The number that 8 bytes spell.
+/// The number that 8 bytes spell.
 pub(crate) fn number(bytes: &[u8]) -> u64
     requires { length bytes.now ≡ 8 }
     ensures { result ≡ number bytes.now }
@@ -12,7 +12,7 @@ pub(crate) fn number(bytes: &[u8]) -> u64
     ])
 }
 
-// The number in front, and what stands behind it; none where there are fewer than 8 bytes.
+/// The number in front, and what stands behind it; none where there are fewer than 8 bytes.
 pub(crate) fn first_number(bytes: &[u8]) -> Option<(u64, &[u8])>
     ensures some { IfSome result (λ r. bytes.now ≡ word r.0 ++ r.1.now) }
     ensures none { result ≡ None → length bytes.now < 8 }
@@ -24,7 +24,7 @@ pub(crate) fn first_number(bytes: &[u8]) -> Option<(u64, &[u8])>
     Some((number(front), rest))
 }
 
-// What stands behind this number; none where another stands there, or none.
+/// What stands behind this number; none where another stands there, or none.
 pub(crate) fn behind_number(bytes: &[u8], wanted: u64) -> Option<&[u8]>
     ensures some { IfSome result (λ rest. bytes.now ≡ word wanted ++ rest.now) }
     ensures none { result ≡ None → (rest : List ℕ) → bytes.now ≢ word wanted ++ rest }

@@ -9,7 +9,7 @@ use sorted_list::Ordered;
 use std::alloc::AllocError;
 use std::cmp::Ordering;
 
-// What is shown of a row, and its facts, which outputs may read.
+/// What is shown of a row, and its facts, which outputs may read.
 #[derive(Debug)]
 pub(crate) struct SeenRow {
     pub(crate) stack: StackName,
@@ -39,7 +39,7 @@ impl Drop for SeenRow {
     }
 }
 
-// What is shown of a stack: its newest traversal, how it stands, and the plan whose outputs it has.
+/// What is shown of a stack: its newest traversal, how it stands, and the plan whose outputs it has.
 #[derive(Debug)]
 pub(crate) struct SeenStack {
     pub(crate) name: StackName,
@@ -62,7 +62,7 @@ impl Drop for SeenStack {
 }
 
 impl SeenRow {
-    // A row in brief.
+    /// A row in brief.
     pub(crate) fn of(row: &Row) -> Result<SeenRow, AllocError>
         ensures { IfOk result (λ s. s ≡ row_seen row.now) }
     {
@@ -81,7 +81,7 @@ impl SeenRow {
 }
 
 impl SeenStack {
-    // A stack in brief.
+    /// A stack in brief.
     pub(crate) fn of(stack: &Stack) -> Result<SeenStack, AllocError>
         ensures { IfOk result (λ s. s ≡ stack_seen stack.now) }
     {

@@ -183,7 +183,7 @@ fn show_text(
     }
 }
 
-// The line of an entry that writes no row.
+/// The line of an entry that writes no row.
 pub(crate) fn entry_line(alloc: Global, seen: &Seen, what: &What) -> Result<String, AllocError>
     ensures { IfOk result (λ s. string_bytes s ≡ line_of (shown_of seen.now) what.now) }
 {

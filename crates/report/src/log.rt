@@ -6,14 +6,14 @@ use heat_plan::{RowNo, StackName};
 use std::alloc::{AllocError, Global};
 use std::marker::Model;
 
-// What a number or a name had before it was written.
+/// What a number or a name had before it was written.
 #[derive(Debug, Drop)]
 pub(crate) enum Was {
     Row(RowNo, Option<SeenRow>),
     Stack(StackName, Option<SeenStack>),
 }
 
-// All that was written, the last at the end.
+/// All that was written, the last at the end.
 #[derive(Drop)]
 pub(crate) struct Log {
     all: Vec<Was>,
@@ -35,7 +35,7 @@ impl Model for Log {
 }
 
 impl Log {
-    // Nothing written, and no room.
+    /// Nothing written, and no room.
     pub(crate) fn new(alloc: Global) -> Log
         ensures { result.items ≡ [] }
     {
@@ -44,14 +44,14 @@ impl Log {
         }
     }
 
-    // How much was written.
+    /// How much was written.
     pub(crate) fn len(&self) -> usize
         ensures { result ≡ length self.now.items }
     {
         self.all.len()
     }
 
-    // Makes room for one thing more.
+    /// Makes room for one thing more.
     pub(crate) fn reserve(&mut self) -> Result<(), AllocError>
         ensures same { self.new.items ≡ self.old.items }
         ensures room { OnOk result (1 ≤ self.new.spare) }
@@ -59,7 +59,7 @@ impl Log {
         self.all.reserve(1)
     }
 
-    // Puts down what stood there before, within the room.
+    /// Puts down what stood there before, within the room.
     pub(crate) fn push(&mut self, was: Was)
         requires { 1 ≤ self.old.spare }
         ensures { self.new.items ≡ self.old.items ++ was ∷ [] }
@@ -70,7 +70,7 @@ impl Log {
         }
     }
 
-    // Takes the last out.
+    /// Takes the last out.
     pub(crate) fn pop(&mut self) -> Option<Was>
         ensures { MatchOption result (self.old.items ≡ [])
             (λ was. self.old.items ≡ self.new.items ++ was ∷ []) }

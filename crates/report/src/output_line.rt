@@ -14,7 +14,7 @@ use sorted_list::Ordered;
 use std::alloc::{AllocError, Global};
 use std::cmp::Ordering;
 
-// The line of the output of this name.
+/// The line of the output of this name.
 #[derive(Debug)]
 pub(crate) struct OutputLine {
     pub(crate) name: Text,
@@ -28,7 +28,7 @@ impl Drop for OutputLine {
 }
 
 impl OutputLine {
-    // The line of an output, evaluated with the facts that are known.
+    /// The line of an output, evaluated with the facts that are known.
     pub(crate) fn of(
         alloc: Global,
         plan: &Plan,

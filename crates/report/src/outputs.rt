@@ -13,7 +13,7 @@ use heat_value::{Seq, TryCopy};
 use sorted_list::SortedList;
 use std::alloc::{AllocError, Global};
 
-// A line for each output of a stack's plan; none where the stack isn't seen or has no plan.
+/// A line for each output of a stack's plan; none where the stack isn't seen or has no plan.
 pub(crate) fn outputs_text(
     alloc: Global,
     name: &StackName,

@@ -43,7 +43,7 @@ fn is_told(old: Option<&SeenRow>, row: &SeenRow) -> bool
     }
 }
 
-// The line of a row that was set, given what was seen of it before.
+/// The line of a row that was set, given what was seen of it before.
 pub(crate) fn set_text(
     alloc: Global,
     old: Option<&SeenRow>,
@@ -58,7 +58,7 @@ pub(crate) fn set_text(
     }
 }
 
-// The line of a row that is gone, given what was seen of it before.
+/// The line of a row that is gone, given what was seen of it before.
 pub(crate) fn purge_text(alloc: Global, old: Option<&SeenRow>) -> Result<String, AllocError>
     ensures { IfOk result (λ s. string_bytes s ≡ purge_text (option_map (λ r. r.now) old.entry)) }
 {
@@ -112,7 +112,7 @@ fn shown_line(alloc: Global, row: &SeenRow) -> Result<String, AllocError>
     format!(in alloc; "{} {}", head.as_str(), tail.as_str())
 }
 
-// A line for each row of a stack.
+/// A line for each row of a stack.
 pub(crate) fn shown_lines(
     alloc: Global,
     stack: &StackName,

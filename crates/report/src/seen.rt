@@ -14,7 +14,7 @@ use heat_plan::{RowNo, StackName};
 use sorted_list::SortedList;
 use std::alloc::{AllocError, Global};
 
-// All that is seen, rows by their numbers and stacks by their names.
+/// All that is seen, rows by their numbers and stacks by their names.
 #[derive(Debug)]
 pub(crate) struct Seen {
     pub(crate) rows: SortedList<SeenRow>,
@@ -28,7 +28,7 @@ impl Drop for Seen {
 }
 
 impl Seen {
-    // What is seen in a state.
+    /// What is seen in a state.
     pub(crate) fn of(alloc: Global, state: &State) -> Result<Seen, AllocError>
         ensures { IfOk result (λ s. shown s ≡ seen_of state.now.state) }
     {
@@ -38,7 +38,7 @@ impl Seen {
         })
     }
 
-    // Makes room for one thing more, and for the way back.
+    /// Makes room for one thing more, and for the way back.
     pub(crate) fn reserve(&mut self, log: &mut Log) -> Result<(), AllocError>
         requires back { CanUnwind log.old self.old }
         ensures log { log.new.items ≡ log.old.items }
@@ -54,7 +54,7 @@ impl Seen {
         log.reserve()
     }
 
-    // Sees a row.
+    /// Sees a row.
     pub(crate) fn put_row(&mut self, log: &mut Log, row: SeenRow)
         requires room { HasRoom log.old self.old }
         ensures seen { shown self.new
@@ -68,7 +68,7 @@ impl Seen {
         log.push(Was::Row(no, before));
     }
 
-    // Sees that a row is gone.
+    /// Sees that a row is gone.
     pub(crate) fn cut_row(&mut self, log: &mut Log, no: RowNo)
         requires room { HasRoom log.old self.old }
         ensures seen { shown self.new
@@ -81,7 +81,7 @@ impl Seen {
         log.push(Was::Row(no, before));
     }
 
-    // Sees a stack, whose name is given once more.
+    /// Sees a stack, whose name is given once more.
     pub(crate) fn put_stack(&mut self, log: &mut Log, name: StackName, stack: SeenStack)
         requires room { HasRoom log.old self.old }
         requires name { name ≡ stack.name }
@@ -95,7 +95,7 @@ impl Seen {
         log.push(Was::Stack(name, before));
     }
 
-    // Sees that a stack is gone.
+    /// Sees that a stack is gone.
     pub(crate) fn cut_stack(&mut self, log: &mut Log, name: StackName)
         requires room { HasRoom log.old self.old }
         ensures seen { shown self.new ≡ with_stacks (shown self.old)
@@ -108,7 +108,7 @@ impl Seen {
         log.push(Was::Stack(name, before));
     }
 
-    // Takes all back that was written.
+    /// Takes all back that was written.
     pub(crate) fn unwind(&mut self, mut log: Log)
         requires back { CanUnwind log self.old }
         ensures { shown self.new ≡ unwound log.items (shown self.old) }

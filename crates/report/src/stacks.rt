@@ -9,7 +9,7 @@ use heat_value::{TryCopy, copy_option};
 use std::alloc::{AllocError, Global};
 
 impl SeenStack {
-    // A stack of which a traversal has begun, towards this plan.
+    /// A stack of which a traversal has begun, towards this plan.
     pub(crate) fn begun(
         alloc: Global,
         name: &StackName,
@@ -28,7 +28,7 @@ impl SeenStack {
         })
     }
 
-    // A stack whose traversal is marked, given what was seen of it before.
+    /// A stack whose traversal is marked, given what was seen of it before.
     pub(crate) fn marked(
         name: &StackName,
         trav: TravNo,
@@ -79,7 +79,7 @@ fn plan_of(stack: Option<&SeenStack>) -> Result<Option<SharedPlan>, AllocError>
     }
 }
 
-// Whether a stack is gone with this mark.
+/// Whether a stack is gone with this mark.
 pub(crate) fn is_gone(act: Act, cause: &Option<Cause>) -> bool
     ensures { result ≡ gone act cause.now }
 {

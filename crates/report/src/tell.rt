@@ -21,7 +21,7 @@ use heat_plan::{Act, RowNo, StackName, TravNo};
 use heat_value::TryCopy;
 use std::alloc::{AllocError, Global};
 
-// The text of entries.
+/// The text of entries.
 pub(crate) fn tell(
     alloc: Global,
     seen: &mut Seen,

@@ -41,7 +41,7 @@ fn tried_word(act: Act) -> &'static str
     }
 }
 
-// Why a traversal failed.
+/// Why a traversal failed.
 pub(crate) fn why_text(alloc: Global, why: &Why) -> Result<String, AllocError>
     ensures { IfOk result (λ s. string_bytes s ≡ why_text why.now) }
 {
@@ -58,7 +58,7 @@ pub(crate) fn why_text(alloc: Global, why: &Why) -> Result<String, AllocError>
     }
 }
 
-// A row's number, or a dash.
+/// A row's number, or a dash.
 pub(crate) fn number_word(alloc: Global, no: Option<RowNo>) -> Result<String, AllocError>
     ensures { IfOk result (λ s. string_bytes s ≡ number_word no) }
 {

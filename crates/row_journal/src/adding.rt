@@ -14,7 +14,7 @@ ghost use Rattle.row_journal.specs.Unsynced.{IsLastUnsynced};
 use crate::place::Place;
 use heat_disk::{Disk, DiskFailed};
 
-// Puts what stands behind a record's gate, and a closed gate, behind the image, and opens the gate.
+/// Puts what stands behind a record's gate, and a closed gate, behind the image, and opens the gate.
 pub(crate) fn add_record<D: Disk>(
     disk: &mut D,
     place: Place,

@@ -34,7 +34,7 @@ impl Buffer {
         &self.bytes
     }
 
-    // Empties it, and makes room for so many bytes.
+    /// Empties it, and makes room for so many bytes.
     pub(crate) fn reserve(&mut self, n: usize) -> Result<(), AllocError>
         ensures ok { OnOk result (n ≤ self.new.room) }
         ensures kept { self.old.room ≤ self.new.room }
@@ -43,7 +43,7 @@ impl Buffer {
         self.bytes.reserve(n)
     }
 
-    // Puts there what stands behind a record's gate in version 2, and a closed gate behind it.
+    /// Puts there what stands behind a record's gate in version 2, and a closed gate behind it.
     pub(crate) fn fill(&mut self, number: u64, payload: &[u8])
         requires { length payload.now + 17 ≤ self.old.room }
         ensures bytes { self.new.bytes ≡ body Two number payload.now ++ 0 ∷ [] }

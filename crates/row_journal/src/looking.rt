@@ -31,7 +31,7 @@ pub(crate) struct Found {
     pub payloads: Vec<Payload>,
 }
 
-// What these halves stand for; none exactly where they have no image.
+/// What these halves stand for; none exactly where they have no image.
 pub(crate) fn look(alloc: Global, first: &[u8], second: &[u8]) -> Result<Option<Found>, AllocError>
     requires first { length first.now < 2 ^ 63 }
     requires second { length second.now < 2 ^ 63 }

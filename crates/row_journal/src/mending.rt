@@ -25,8 +25,8 @@ pub(crate) fn other(half: Half) -> Half
     }
 }
 
-// Syncs the half that isn't live, and then the live one. So what was read can't be lost or turn into
-// anything else.
+/// Syncs the half that isn't live, and then the live one. So what was read can't be lost or turn into
+/// anything else.
 pub(crate) fn settle<D: Disk>(disk: &mut D, live: Half) -> Result<(), DiskFailed>
     requires other { HasRoom (part (other live) (D.shown disk.old).room) 0 0 }
     requires live { HasRoom (part live (D.shown disk.old).room) 0 0 }
@@ -43,7 +43,7 @@ pub(crate) fn settle<D: Disk>(disk: &mut D, live: Half) -> Result<(), DiskFailed
     disk.sync(live)
 }
 
-// Makes the live half end at a closed gate.
+/// Makes the live half end at a closed gate.
 pub(crate) fn mend<D: Disk>(disk: &mut D, place: Place, ending: Ending) -> Result<(), DiskFailed>
     requires room { IsAtLeast (place.end + 1) 9 3 (part place.half (D.shown disk.old).room) }
     requires short { IsAtLeast 9 9 3 (part place.half (D.shown disk.old).room) }

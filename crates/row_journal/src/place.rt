@@ -28,7 +28,7 @@ pub struct Place {
 }
 
 impl Place {
-    // Whether a record more, of so many bytes, has its numbers within 64 bits.
+    /// Whether a record more, of so many bytes, has its numbers within 64 bits.
     pub(crate) fn has_next(self, len: u64) -> bool
         ensures end { IsTrue result → self.end + len + 18 < 2 ^ 64 }
         ensures number { IsTrue result → self.count + 1 < 2 ^ 64 }
@@ -37,7 +37,7 @@ impl Place {
         self.count < u64::MAX && self.end <= most && len <= most - self.end
     }
 
-    // Behind one record more, of so many bytes.
+    /// Behind one record more, of so many bytes.
     pub(crate) fn next(self, len: u64) -> Place
         requires end { self.end + len + 18 < 2 ^ 64 }
         requires number { self.count + 1 < 2 ^ 64 }
@@ -62,7 +62,7 @@ impl Place {
         if self.count == 0 { end } else { self.first_end }
     }
 
-    // Behind the one record, of so many bytes, of a snapshot on the other half.
+    /// Behind the one record, of so many bytes, of a snapshot on the other half.
     pub(crate) fn after_snapshot(self, len: u64) -> Place
         requires young { self.epoch < 2 ^ 62 - 1 }
         requires end { len + 33 < 2 ^ 64 }

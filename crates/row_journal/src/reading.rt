@@ -11,7 +11,7 @@ use crate::looking::{Found, look};
 use heat_disk::{Disk, Half};
 use std::alloc::Global;
 
-// What the disk reads as.
+/// What the disk reads as.
 pub(crate) fn find<D: Disk>(alloc: Global, disk: &mut D) -> Result<Found, ReadFault>
     ensures found { IsTrue (D.shown disk.old).tells →
         IfOk result (IsFound (D.shown disk.old).seen) }

@@ -20,8 +20,8 @@ use crate::mending::other;
 use crate::place::Place;
 use heat_disk::{Disk, DiskFailed, Half};
 
-// Puts what stands behind a snapshot's gate, and its header, into the half that isn't live, and opens
-// the gate.
+/// Puts what stands behind a snapshot's gate, and its header, into the half that isn't live, and opens
+/// the gate.
 pub(crate) fn write_snapshot<D: Disk>(
     disk: &mut D,
     place: Place,

@@ -87,7 +87,7 @@ impl Inventory {
         }
     }
 
-    // A call fails with nothing done.
+    /// A call fails with nothing done.
     pub(crate) fn fail(&mut self, token: &Token, request: Request) -> Result<(), AllocError>
         ensures ok { OnOk result (HasFailed token.now request (shown_by self.old) (shown_by self.new)) }
         ensures idle { OnOk result (Stays (shown_by self.old) (shown_by self.new)) }
@@ -99,7 +99,7 @@ impl Inventory {
         Ok(())
     }
 
-    // Raises the count of faults.
+    /// Raises the count of faults.
     pub(crate) fn count_fault(&mut self)
         ensures faults { self.new.faults ≡ min (self.old.faults + 1) (2 ^ 64 - 1) }
         ensures later { self.old.faults ≤ self.new.faults }
@@ -110,7 +110,7 @@ impl Inventory {
         self.faults = self.faults.saturating_add(1);
     }
 
-    // Whether a create of this token is refused: it isn't alive, and its kind's quota is reached.
+    /// Whether a create of this token is refused: it isn't alive, and its kind's quota is reached.
     pub(crate) fn refuses(&self, token: &Token, kind: &Text) -> bool
         ensures absent { IsTrue result → entry_of (shown_by self.now) token.now ≡ None }
         ensures full { IsTrue result → IsFull (shown_by self.now) kind.now }
@@ -145,7 +145,7 @@ impl Inventory {
     }
 }
 
-// Puts a call with its answer behind the trace.
+/// Puts a call with its answer behind the trace.
 pub(crate) fn note(
     trace: &mut Seq<Traced>,
     token: &Token,
@@ -159,7 +159,7 @@ pub(crate) fn note(
     trace.push(Traced::Called(token, request, answered))
 }
 
-// The answer of what was done, or Memory.
+/// The answer of what was done, or Memory.
 pub(crate) fn answer_or_memory(answer: Answer, done: Result<(), AllocError>) -> Answer
     ensures ok { OnOk done (result ≡ answer) }
     ensures memory { OnErr done (result ≡ Answer.Memory) }

@@ -65,14 +65,14 @@ impl SimCloud {
         &self.conduct
     }
 
-    // How the next call goes.
+    /// How the next call goes.
     pub(crate) fn course(&self) -> Course
         ensures { result ≡ course_of self.now }
     {
         self.conduct.course(self.all.trace.len())
     }
 
-    // How many polls are left after an accepted request for the token's resource.
+    /// How many polls are left after an accepted request for the token's resource.
     pub(crate) fn delay(&self, token: &Token) -> u8
         ensures polls { result ≡ delay_at self.now token.now }
         ensures few { result ≤ 64 }

@@ -12,8 +12,8 @@ use std::alloc::{AllocError, Global};
 use std::process::Abort;
 use std::test::Fail;
 
-// The name of a case, the words that lead to its state, those of its step, and what that gives: the
-// records that are other, and the entries; or why it is refused.
+/// The name of a case, the words that lead to its state, those of its step, and what that gives: the
+/// records that are other, and the entries; or why it is refused.
 #[derive(Clone, Copy)]
 pub(crate) struct Case {
     pub name: &'static str,
@@ -22,7 +22,7 @@ pub(crate) struct Case {
     pub gives: &'static [&'static str],
 }
 
-// Tries each case, and shows the first line that differs.
+/// Tries each case, and shows the first line that differs.
 pub(crate) fn try_all(rt: &(impl Abort + AllocGlobal), cases: &[Case]) -> Result<(), Fail> {
     for case in cases {
         let given = given_again(rt.alloc(), case).ok().ok_or(case.name)?;

@@ -13,7 +13,7 @@ fn actor(alloc: Global, by: Actor) -> Result<String, AllocError> {
     }
 }
 
-// Adds the lines of an entry: who made it, and its first write, and the others behind it.
+/// Adds the lines of an entry: who made it, and its first write, and the others behind it.
 pub(crate) fn add_entry(
     alloc: Global,
     lines: &mut Vec<String>,

@@ -3,7 +3,7 @@
 use heat_plan::Refusal;
 use std::alloc::AllocError;
 
-// Want of memory, words that ask for nothing here, or a refusal for another cause than memory.
+/// Want of memory, words that ask for nothing here, or a refusal for another cause than memory.
 #[derive(Clone, Copy, Debug, PartialEq, Eq)]
 pub(crate) enum Halt {
     Memory,

@@ -5,7 +5,7 @@ use core_state::{Graph, Point, State};
 use heat_plan::Token;
 use std::alloc::{AllocError, Global};
 
-// A record: which one it is, and what it says.
+/// A record: which one it is, and what it says.
 #[derive(Debug)]
 pub(crate) struct Record {
     key: String,
@@ -30,7 +30,7 @@ fn numbered(alloc: Global, what: &str, number: u64, words: String) -> Result<Rec
     Ok(Record { key, words })
 }
 
-// All records of a state.
+/// All records of a state.
 pub(crate) fn records(alloc: Global, s: &State) -> Result<Vec<Record>, AllocError> {
     let mut all = Vec::new(alloc);
     all.push(named(alloc, "the", "numbers", numbers(alloc, s.next())?)?)?;
@@ -104,7 +104,7 @@ fn released(alloc: Global, token: &Token) -> Result<Record, AllocError> {
     named(alloc, "token", text.as_str(), words)
 }
 
-// What the second records have that the first don't, or say otherwise; and then what they lack.
+/// What the second records have that the first don't, or say otherwise; and then what they lack.
 pub(crate) fn differences(
     alloc: Global,
     old: &[Record],

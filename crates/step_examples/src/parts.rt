@@ -6,14 +6,14 @@ use heat_value::{TryCopy, Value};
 use std::alloc::{AllocError, Global};
 use traversal_graph::Node;
 
-// Properties as compact JSON with single quotes.
+/// Properties as compact JSON with single quotes.
 pub(crate) fn properties(alloc: Global, props: &Properties) -> Result<String, AllocError> {
     let value = Value::Fields(props.as_props().copy()?);
     let text = value.text(alloc)?;
     text.as_str().replace(alloc, "\"", "'")
 }
 
-// Facts: the id, and the attributes where there are any.
+/// Facts: the id, and the attributes where there are any.
 pub(crate) fn facts(alloc: Global, facts: &Facts) -> Result<String, AllocError> {
     if facts.attrs.as_props().as_slice().is_empty() {
         return String::from_str(alloc, facts.id.as_str());
@@ -47,7 +47,7 @@ fn add_words(
     words.push_str(more.as_str())
 }
 
-// A row: what it stands for and how far it is, and behind that what else it has.
+/// A row: what it stands for and how far it is, and behind that what else it has.
 pub(crate) fn row(alloc: Global, row: &Row) -> Result<String, AllocError> {
     let props = properties(alloc, &row.props)?;
     let mut words = format!(in alloc;
@@ -98,7 +98,7 @@ fn add_links(alloc: Global, words: &mut String, row: &Row) -> Result<(), AllocEr
     add_number(alloc, words, "key", Some(row.key))
 }
 
-// A letter: its number, its stack, its traversal and its node.
+/// A letter: its number, its stack, its traversal and its node.
 pub(crate) fn letter(alloc: Global, letter: &Letter) -> Result<String, AllocError> {
     format!(in alloc;
         "letter {} to {} trav {} node {}",
@@ -109,7 +109,7 @@ pub(crate) fn letter(alloc: Global, letter: &Letter) -> Result<String, AllocErro
     )
 }
 
-// A job: its engine, its stage, its row and its letter.
+/// A job: its engine, its stage, its row and its letter.
 pub(crate) fn job(alloc: Global, job: &Job) -> Result<String, AllocError> {
     let letter = letter(alloc, &job.letter)?;
     format!(in alloc;
@@ -131,7 +131,7 @@ fn stage(job: &Job) -> &'static str {
     }
 }
 
-// A plan: the names of its items.
+/// A plan: the names of its items.
 pub(crate) fn plan(alloc: Global, plan: &Plan) -> Result<String, AllocError> {
     let mut words = String::from_str(alloc, "plan")?;
     for item in plan.items() {
@@ -149,7 +149,7 @@ fn plan_or_none(alloc: Global, shared: &Option<SharedPlan>) -> Result<String, Al
     }
 }
 
-// A stack: its numbers, what its newest traversal does and how far that is, and its plan.
+/// A stack: its numbers, what its newest traversal does and how far that is, and its plan.
 pub(crate) fn stack(alloc: Global, stack: &Stack) -> Result<String, AllocError> {
     let plan = plan_or_none(alloc, &stack.plan)?;
     format!(in alloc;
@@ -163,7 +163,7 @@ pub(crate) fn stack(alloc: Global, stack: &Stack) -> Result<String, AllocError> 
     )
 }
 
-// What a stack could go back to.
+/// What a stack could go back to.
 pub(crate) fn past(alloc: Global, past: &Past) -> Result<String, AllocError> {
     let back = plan_or_none(alloc, &past.back)?;
     let rollback = if past.rollback {
@@ -179,7 +179,7 @@ pub(crate) fn past(alloc: Global, past: &Past) -> Result<String, AllocError> {
     )
 }
 
-// A graph: its nodes in order, and its edges.
+/// A graph: its nodes in order, and its edges.
 pub(crate) fn graph(alloc: Global, graph: &Graph) -> Result<String, AllocError> {
     let mut words = format!(in alloc; "graph {}", graph.stack.as_str())?;
     for node in graph.graph.nodes.as_slice() {
@@ -200,7 +200,7 @@ fn node_words(alloc: Global, node: &Node) -> Result<String, AllocError> {
     }
 }
 
-// A node's point: whether it is done, and its inputs.
+/// A node's point: whether it is done, and its inputs.
 pub(crate) fn point(alloc: Global, point: &Point) -> Result<String, AllocError> {
     let done = if point.done { "done" } else { "open" };
     let mut words = format!(in alloc;
@@ -228,7 +228,7 @@ fn input(alloc: Global, input: &Input) -> Result<String, AllocError> {
     Ok(words)
 }
 
-// The next number of each sort.
+/// The next number of each sort.
 pub(crate) fn numbers(alloc: Global, next: &Numbers) -> Result<String, AllocError> {
     format!(in alloc;
         "next stack {} trav {} row {} engine {} letter {}",

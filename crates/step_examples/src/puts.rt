@@ -7,7 +7,7 @@ use heat_plan::{Act, LetterNo, RowNo, StackName, StackNo, Status, TravNo, WORN};
 use heat_value::TryCopy;
 use std::alloc::Global;
 
-// Puts what these words say into the state.
+/// Puts what these words say into the state.
 pub(crate) fn put(alloc: Global, s: &mut State, words: &str) -> Result<(), Halt> {
     match words {
         "letter" => send(alloc, s),

@@ -7,7 +7,7 @@ use heat_plan::{Act, Answered, Facts, Properties};
 use heat_value::Text;
 use std::alloc::{AllocError, Global};
 
-// How a turn goes: as it should, or otherwise. A fault is one of the item's properties.
+/// How a turn goes: as it should, or otherwise. A fault is one of the item's properties.
 #[derive(Clone, Copy, Debug, PartialEq, Eq)]
 pub(crate) enum Reply {
     Works,
@@ -18,7 +18,7 @@ pub(crate) enum Reply {
     Faults,
 }
 
-// The reply of a word.
+/// The reply of a word.
 pub(crate) fn reply_of(word: &str) -> Option<Reply> {
     match word {
         "not yet" => Some(Reply::Waits),
@@ -30,7 +30,7 @@ pub(crate) fn reply_of(word: &str) -> Option<Reply> {
     }
 }
 
-// The answer to what is asked by this act; none where it can't have such a one.
+/// The answer to what is asked by this act; none where it can't have such a one.
 pub(crate) fn ask_answer(act: Act, reply: Reply) -> Option<Answered>
     ensures { IfSome result (AnswersAsk act) }
 {
@@ -55,7 +55,7 @@ pub(crate) fn ask_answer(act: Act, reply: Reply) -> Option<Answered>
     }
 }
 
-// The answer to a poll of this row; none where it can't have such a one.
+/// The answer to a poll of this row; none where it can't have such a one.
 pub(crate) fn poll_answer(
     alloc: Global,
     row: &Row,

@@ -11,7 +11,7 @@ use script_lines::{Body, Line, Misread};
 use std::alloc::{AllocError, Global};
 use takeover_steps::{enlist, restart, stop};
 
-// The step that these words ask for. A turn may have a reply behind a colon.
+/// The step that these words ask for. A turn may have a reply behind a colon.
 pub(crate) fn step(alloc: Global, s: &State, words: &str) -> Result<Made, Halt> {
     if let Some(count) = words.strip_prefix("restart ") {
         return restarted(alloc, s, count);

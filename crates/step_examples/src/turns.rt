@@ -18,7 +18,7 @@ use step_reads::{Task, freshness, next_of, point_of};
 use takeover_steps::takeover;
 use traversal_graph::Node;
 
-// The engine's next step, where it has one to which the reply fits.
+/// The engine's next step, where it has one to which the reply fits.
 pub(crate) fn turn(
     alloc: Global,
     s: &State,

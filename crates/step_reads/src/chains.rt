@@ -10,7 +10,7 @@ use heat_plan::RowNo;
 use heat_value::Seq;
 use std::alloc::{AllocError, Global};
 
-// The numbers of the rows whose chains end at a row.
+/// The numbers of the rows whose chains end at a row.
 pub(crate) fn leading_to(alloc: Global, s: &State, row: RowNo) -> Result<Seq<RowNo>, AllocError>
     ensures { IfOk result (λ leading. AreLeading s.now.state.rows row leading) }
 {
@@ -38,7 +38,7 @@ fn leads_next(s: &State, leading: &[RowNo], row: &Row, end: RowNo) -> bool
     }
 }
 
-// Whether a number is one of these.
+/// Whether a number is one of these.
 pub(crate) fn is_in(numbers: &[RowNo], number: RowNo) -> bool
     ensures { IsTrue result ↔ Contains numbers.now number }
 {

@@ -65,7 +65,7 @@ pub fn left(s: &State) -> Option<&Job>
     best
 }
 
-// The one with the lower engine, the first of two that have one engine.
+/// The one with the lower engine, the first of two that have one engine.
 pub(crate) fn lower_job<'a>(best: Option<&'a Job>, job: &'a Job) -> &'a Job
     ensures { result.now ≡ first_by nat_le job_key (option_map (λ x. x.now) best.entry) job.now }
 {

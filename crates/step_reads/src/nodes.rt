@@ -45,7 +45,7 @@ pub fn is_ready(alloc: Global, graph: &Graph, node: u32) -> Result<bool, AllocEr
     Ok(is_ready_with(alloc, graph, node, None)?)
 }
 
-// Whether each edge into a node has its input, or comes from this node.
+/// Whether each edge into a node has its input, or comes from this node.
 pub(crate) fn is_ready_with(
     alloc: Global,
     graph: &Graph,

@@ -40,7 +40,7 @@ fn end_of(s: &State, row: &Row) -> RowNo
     last.no
 }
 
-// The row that replaced a row, where it stands and has a greater number.
+/// The row that replaced a row, where it stands and has a greater number.
 pub(crate) fn behind<'a>(s: &'a State, row: &Row) -> Option<&'a Row>
     ensures some { IfSome result (λ q. IsBehind s.now.state.rows row.now q.now) }
     ensures none { IsNone result → IsLast s.now.state.rows row.now }
@@ -51,7 +51,7 @@ pub(crate) fn behind<'a>(s: &'a State, row: &Row) -> Option<&'a Row>
     }
 }
 
-// Whether one number is below another.
+/// Whether one number is below another.
 pub(crate) fn is_below(a: RowNo, b: RowNo) -> bool
     ensures value { IsTrue result ↔ (a < b) }
     ensures range { b < 2 ^ 62 }

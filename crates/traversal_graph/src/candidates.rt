@@ -17,7 +17,7 @@ use dep_graph::Marks;
 use heat_plan::{Item, ResName, RowNo};
 use std::alloc::AllocError;
 
-// From each item that an item needs to that item.
+/// From each item that an item needs to that item.
 pub(crate) fn add_needs(draft: &mut Draft, items: &[Item]) -> Result<(), AllocError>
     requires rising { Rising (names_of items.now) }
     requires draft { IsDraft draft.old }
@@ -84,7 +84,7 @@ fn place_of_name(items: &[Item], name: &ResName) -> usize
     }
 }
 
-// From each item to the rows of its name.
+/// From each item to the rows of its name.
 pub(crate) fn add_rows(
     draft: &mut Draft,
     items: &[Item],
@@ -120,7 +120,7 @@ fn add_rows_behind(
     Ok(())
 }
 
-// From each row to the rows that it requires.
+/// From each row to the rows that it requires.
 pub(crate) fn add_requires(
     draft: &mut Draft,
     first: u32,
@@ -179,7 +179,7 @@ fn draw_required(
     Ok(())
 }
 
-// From each row to the row that it replaces.
+/// From each row to the row that it replaces.
 pub(crate) fn add_replaces(
     draft: &mut Draft,
     first: u32,

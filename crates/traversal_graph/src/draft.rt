@@ -9,7 +9,7 @@ use dep_graph::{Added, Graph, Marks};
 use heat_value::Seq;
 use std::alloc::{AllocError, Global};
 
-// The edges kept so far, also as a graph that finds what would close a cycle.
+/// The edges kept so far, also as a graph that finds what would close a cycle.
 #[derive(Drop)]
 pub(crate) struct Draft {
     pub(crate) graph: Graph,
@@ -20,7 +20,7 @@ impl Draft {
     ghost use Rattle.traversal_graph.specs.Candidates.{edge_if};
     ghost use Rattle.traversal_graph.specs.Drafts.{IsDraft, IsBareDraft, Draws};
 
-    // So many nodes and no edge.
+    /// So many nodes and no edge.
     pub(crate) fn new(alloc: Global, size: u32) -> Result<Draft, AllocError>
         ensures { IfOk result (IsBareDraft size) }
     {
@@ -30,7 +30,7 @@ impl Draft {
         })
     }
 
-    // Keeps an edge, unless it would close a cycle.
+    /// Keeps an edge, unless it would close a cycle.
     pub(crate) fn draw(&mut self, before: u32, after: u32) -> Result<(), AllocError>
         requires draft { IsDraft self.old }
         requires before { before < length self.old.graph }
@@ -44,7 +44,7 @@ impl Draft {
         Ok(())
     }
 
-    // Keeps an edge into a node whose reach is known, unless it would close a cycle.
+    /// Keeps an edge into a node whose reach is known, unless it would close a cycle.
     pub(crate) fn draw_into(
         &mut self,
         reached: &Marks,
@@ -68,7 +68,7 @@ impl Draft {
         Ok(())
     }
 
-    // Keeps an edge out of a node of which is known what reaches it, unless it would close a cycle.
+    /// Keeps an edge out of a node of which is known what reaches it, unless it would close a cycle.
     pub(crate) fn draw_from(
         &mut self,
         reaching: &Marks,
@@ -93,7 +93,7 @@ impl Draft {
         Ok(())
     }
 
-    // Keeps an edge where the test passes, unless it would close a cycle.
+    /// Keeps an edge where the test passes, unless it would close a cycle.
     pub(crate) fn draw_if(
         &mut self,
         passes: bool,
