@@ -12,7 +12,7 @@ ghost use Rattle.cloud_file.specs.Sorts.{IsFree, IsObject, ReadsText, ReadsFlag,
 ghost use Rattle.cloud_file.specs.Sorts.{ReadsObject, ReadsMap, ReadsTokenText, ReadsToken};
 
 use heat_plan::{Properties, Token};
-use heat_value::{MAX_DEPTH, Path, Props, Text, Value, ValueFault, nests_within};
+use heat_value::{MAX_DEPTH, Path, Props, Text, TryCopy, Value, ValueFault, nests_within};
 use serde_json::Value as Json;
 use sim_cloud::Holdings;
 use std::alloc::{AllocError, Global};
@@ -74,7 +74,7 @@ fn object(alloc: Global, value: &Json) -> Result<Result<Properties, Path>, Alloc
         return Ok(Err(Path::root(alloc)));
     }
     match converted(alloc, value) {
-        Ok(value) => Ok(Ok(properties(value))),
+        Ok(value) => Ok(Ok(properties(&value)?)),
         Err(ValueFault::BadNumber(path)) => Ok(Err(path)),
         Err(ValueFault::Memory) => Err(AllocError),
         Err(ValueFault::NotJson) => unreachable!(),
@@ -94,14 +94,14 @@ fn converted(alloc: Global, value: &Json) -> Result<Value, ValueFault>
     Value::read(alloc, &text)
 }
 
-// The properties that an object's value is.
-fn properties(value: Value) -> Properties
-    requires object { IsObject (json_of (data_of value)) }
-    requires shallow { data_depth (data_of value) ≤ 64 }
-    ensures { data_of value ≡ fields result }
+// The properties that an object's value is, copied.
+fn properties(value: &Value) -> Result<Properties, AllocError>
+    requires object { IsObject (json_of (data_of value.now)) }
+    requires shallow { data_depth (data_of value.now) ≤ 64 }
+    ensures { IfOk result (λ p. data_of value.now ≡ fields p) }
 {
     match value {
-        Value::Fields(props) => shallow(props),
+        Value::Fields(props) => Ok(shallow(props.copy()?)),
         Value::Null => unreachable!(),
         Value::Flag(_) => unreachable!(),
         Value::Whole(_) => unreachable!(),
