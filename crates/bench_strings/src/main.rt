@@ -101,7 +101,7 @@ fn many_replaced(alloc: Global, count: usize) -> Result<usize> {
 fn pieces(alloc: Global, bytes: usize) -> Result<usize> {
     let delimiter = Text::from_str(alloc, ",")?;
     let text = repeated(alloc, "123456789,", bytes / 10)?;
-    match split(alloc, &delimiter, &text, None)? {
+    match &split(alloc, &delimiter, &text, None)? {
         Value::Items(items) => Ok(items.as_slice().len()),
         _ => Ok(0),
     }

@@ -142,10 +142,11 @@ fn bound(alloc: Global, template: &Template, registry: &Registry) -> Result<Boun
     let Some(no) = StackNo::new(1) else {
         bail!("a number");
     };
-    let Value::Fields(given) = read(alloc, given(alloc)?.as_str())? else {
+    let given = read(alloc, given(alloc)?.as_str())?;
+    let Value::Fields(given) = &given else {
         bail!("an object");
     };
-    match bind(alloc, template, &given, &Ids { stack, no }, registry) {
+    match bind(alloc, template, given, &Ids { stack, no }, registry) {
         Ok(bound) => Ok(bound),
         Err(fault) => bail!("{}", fault.code().unwrap_or("no memory")),
     }
