@@ -5,7 +5,7 @@ use book::StackCommand;
 use heat_plan::{
     ByName, Item, Kind, Needs, Parameters, Plan, Policy, Properties, ResName, StackName,
 };
-use heat_value::{Seq, Text, Value};
+use heat_value::{Seq, Text, TryCopy, Value};
 use std::alloc::{AllocError, Global};
 
 /// The kind of the one resource.
@@ -13,8 +13,8 @@ pub(crate) const KIND: &str = "Test::Box";
 
 /// The properties of a text.
 pub(crate) fn properties_of(alloc: Global, text: &str) -> Option<Properties> {
-    match Value::read(alloc, text.as_bytes()) {
-        Ok(Value::Fields(props)) => Properties::from_props(props),
+    match &Value::read(alloc, text.as_bytes()) {
+        Ok(Value::Fields(props)) => Properties::from_props(props.copy().ok()?),
         _ => None,
     }
 }

@@ -11,8 +11,8 @@ struct Sections;
 
 impl Teller for Sections {
     fn told(&self, alloc: Global, given: &str) -> Result<String, AllocError> {
-        match value_of(alloc, given)? {
-            Some(Value::Fields(fields)) => flaw_words(alloc, &sections_flaw(alloc, &fields)?),
+        match &value_of(alloc, given)? {
+            Some(Value::Fields(fields)) => flaw_words(alloc, &sections_flaw(alloc, fields)?),
             _ => String::from_str(alloc, "no object"),
         }
     }

@@ -5,7 +5,7 @@ use crate::cases::{Teller, fault_words, value_of, value_words};
 use heat_plan::{
     ByName, Condition, Facts, File, KnownFacts, Parameters, Plan, Properties, ResName,
 };
-use heat_value::{Props, Seq, Text, Value};
+use heat_value::{Props, Seq, Text, TryCopy, Value};
 use hot_eval::{EvalFault, eval};
 use std::alloc::{AllocError, Global};
 
@@ -18,8 +18,8 @@ const ATTRS: &str = "{'addr':'1.2','ports':[{'ip':'10'}]}";
 
 /// A text in single quotes, read as a map; empty where it is none.
 pub(crate) fn props_of(alloc: Global, text: &str) -> Result<Props, AllocError> {
-    match value_of(alloc, text)? {
-        Some(Value::Fields(fields)) => Ok(fields),
+    match &value_of(alloc, text)? {
+        Some(Value::Fields(fields)) => fields.copy(),
         _ => Ok(Props::new(alloc)),
     }
 }
