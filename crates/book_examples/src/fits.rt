@@ -1,21 +1,16 @@
 //! The plain program over the histories of the rows that stand, which the engine writes over the simulated
 //! cloud: no command, one resource at each step to its end, and a second create of its name.
 use crate::calls::{is_taken, turn_times};
+use crate::plans::{create_with, plan_with, properties_of};
 use book::{Book, Opened, StackCommand};
 use core_state::{Entry, What};
 use headline_reader::{Living, could, fits, mark_of, newest, stored};
 use heat_plan::{ByName, Parameters, Plan, StackName, Status, Token};
 use heat_value::{Seq, Text};
 use hot_registry::Registry;
-use plain_templates::plain_plan;
-use script_lines::Line;
 use sim_cloud::{Settings, SimCloud};
 use std::alloc::{AllocError, Global};
 use std::test::Fail;
-
-const CREATE: &[u8] =
-    b"create s {\"template\":{\"heat_template_version\":\"2018-08-31\",\"resources\":{\
-      \"a\":{\"type\":\"Test::Box\",\"properties\":{\"size\":1}}}}}";
 
 // In which states a token may be.
 #[derive(Clone, Copy, Debug, PartialEq, Eq)]
@@ -57,15 +52,11 @@ fn no_plan(alloc: Global) -> Plan {
     )
 }
 
-// The create that the line says.
+// A create of one resource.
 fn create_of(alloc: Global) -> Option<StackCommand> {
-    let Ok(Line::Create(name, body)) = Line::read(alloc, CREATE) else {
-        return None;
-    };
-    match plain_plan(alloc, &body) {
-        Ok(plan) => Some(StackCommand::Create(name, plan, false)),
-        Err(_) => None,
-    }
+    let props = properties_of(alloc, "{\"size\":1}")?;
+    let plan = plan_with(alloc, Seq::new(alloc), props)?;
+    create_with(alloc, plan)
 }
 
 // Makes it, or notes that it is refused.

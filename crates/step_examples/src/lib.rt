@@ -24,6 +24,8 @@ mod lines;
 #[cfg(test)]
 mod parts;
 #[cfg(test)]
+mod plans;
+#[cfg(test)]
 mod puts;
 #[cfg(test)]
 mod reads;

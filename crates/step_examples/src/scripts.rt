@@ -1,12 +1,12 @@
 //! The steps of a script, in the words of the program's lines, with a short form of bodies.
 
 use crate::halt::Halt;
+use crate::plans::planned;
 use crate::replies::{Reply, reply_of};
 use crate::turns::turn;
 use command_steps::{cancel, create, delete, update};
 use core_state::{Made, State};
-use heat_plan::{EngineNo, Plan, StackName};
-use plain_templates::{PlanFault, plain_plan};
+use heat_plan::{EngineNo, StackName};
 use script_lines::{Body, Line, Misread};
 use std::alloc::{AllocError, Global};
 use takeover_steps::{enlist, restart, stop};
@@ -81,23 +81,14 @@ fn lined(alloc: Global, s: &State, line: Line, reply: Reply) -> Result<Made, Hal
 
 // A create.
 fn created(alloc: Global, s: &State, name: &StackName, body: &Body) -> Result<Made, Halt> {
-    let plan = planned(alloc, body)?;
+    let plan = planned(alloc, name, body)?;
     Ok(create(alloc, s, name, plan, body.rollback())?)
 }
 
 // An update.
 fn updated(alloc: Global, s: &State, name: &StackName, body: &Body) -> Result<Made, Halt> {
-    let plan = planned(alloc, body)?;
+    let plan = planned(alloc, name, body)?;
     Ok(update(alloc, s, name, plan, body.rollback())?)
-}
-
-// The plan of a body.
-fn planned(alloc: Global, body: &Body) -> Result<Plan, Halt> {
-    match plain_plan(alloc, body) {
-        Ok(plan) => Ok(plan),
-        Err(PlanFault::Memory) => Err(Halt::Memory),
-        Err(_) => Err(Halt::Words),
-    }
 }
 
 // A turn that is a step.
