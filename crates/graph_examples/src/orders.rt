@@ -79,6 +79,13 @@ const LISTINGS: &[Listing] = &[
         ordered: false,
         nodes: &[2, 3],
     },
+    Listing {
+        name: "by the least before, past a shorter one",
+        size: 3,
+        edges: &[(1, 0), (2, 1), (1, 2), (0, 2)],
+        ordered: false,
+        nodes: &[0, 1, 2],
+    },
 ];
 
 #[test]

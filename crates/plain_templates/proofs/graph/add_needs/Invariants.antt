@@ -1,7 +1,0 @@
-use Rattle.std.proofs.Common.{take}
-use Rattle.plain_templates.specs.Graphs.{AddsNeeds}
-use Rattle.plain_templates.proofs.graph.add_needs.Given as goal
-
--- the edges of the first names are added
-abbrev pub invariant-loop-need : goal.invariant-loop-need
-invariant-loop-need l = AddsNeeds l.items (take l.need-index l.needs) l.after l.initial.graph l.graph

@@ -1,4 +1,0 @@
-pub mod Items
-pub mod Graphs
-pub mod Plans
-pub mod Faults
