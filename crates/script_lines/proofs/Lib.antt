@@ -1,10 +1,7 @@
 pub mod WordLemmas
 pub mod ReadingLemmas
-pub mod VersionLemmas
-pub mod ShapeLemmas
 pub mod Alone
 pub mod BodyParts
 pub mod OneBody
 pub mod OneReading
-pub mod PlainLemmas
 pub mod BodyDepths

@@ -40,7 +40,7 @@ no_value_or_value bytes a d (no_json h is) r = not_without_reading bytes d h r
 no_value_or_value bytes a d (too_deep t is) r = not_too_deep bytes d t r
 no_value_or_value bytes a d (bad_number p n is) r = not_with_bad_number bytes p d n r
 
-pub same_members : (a b : Members) → fields a ≡ fields b → a ≡ b
+same_members : (a b : Members) → fields a ≡ fields b → a ≡ b
 same_members a b e = cc
 
 pub members_unique : (bytes : List ℕ) (a b : Members) → IsReadAs bytes (fields a) → IsReadAs bytes (fields b) → a ≡ b

@@ -1,10 +1,7 @@
 pub mod Words
-pub mod Bodies
 pub mod Misreads
 pub mod Heads
 pub mod Behind
 pub mod BodyKeys
 pub mod Requested
 pub mod Readings
-pub mod Plain
-pub mod Unknown

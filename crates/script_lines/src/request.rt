@@ -1,6 +1,6 @@
 //! What the body of a create or update asks for.
-ghost use Rattle.std.specs.Prelude.{◌≡◌, ◌≢◌, ◌≤◌, ◌∷◌, [], IfOk, IfErr, List, Some, codes};
-ghost use Rattle.heat_value.specs.Data.{Data, Members, lookup, depth, members_depth};
+ghost use Rattle.std.specs.Prelude.{◌≡◌, ◌≢◌, ◌≤◌, ◌∷◌, [], IfOk, IfErr, MatchOption, List, Some, codes};
+ghost use Rattle.heat_value.specs.Data.{Data, Members, fields as fields_data, lookup, depth, members_depth};
 ghost use Rattle.heat_value.specs.Meaning.{data_of};
 ghost use Rattle.heat_value.specs.Reading.{IsReadAs};
 ghost use Rattle.heat_value.specs.declared.path.Step.{Step as step_type};
@@ -9,7 +9,6 @@ ghost use Rattle.script_lines.specs.Requested.{object_in, rollback_in, body_with
 ghost use Rattle.script_lines.specs.Requested.{IsNoValue, IsBodyText, IsNoBody};
 
 use crate::Misread;
-use crate::shapes::fields_of;
 use crate::sort::first_wrong;
 use heat_value::{Path, Props, Step, Text, TryCopy, Value, ValueFault};
 use std::alloc::{AllocError, Global};
@@ -102,6 +101,17 @@ pub fn body_of(alloc: Global, bytes: &[u8]) -> Result<Body, Misread>
     match fields_of(&value) {
         Some(members) => given(alloc, members),
         None => Err(Misread::L08(Path::root(alloc))),
+    }
+}
+
+// The map that a value is.
+fn fields_of(value: &Value) -> Option<&Props>
+    ensures { MatchOption result ((ms : Members) → data_of value.now ≢ fields_data ms)
+        (λ p. data_of value.now ≡ fields_data p.now) }
+{
+    match value {
+        Value::Fields(fields) => Some(fields),
+        Value::Null | Value::Flag(_) | Value::Whole(_) | Value::Words(_) | Value::Items(_) => None,
     }
 }
 

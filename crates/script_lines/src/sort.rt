@@ -91,8 +91,8 @@ fn are_texts(fields: &Props) -> bool
     true
 }
 
-/// Whether a value is a text.
-pub fn is_words(value: &Value) -> bool
+// Whether a value is a text.
+fn is_words(value: &Value) -> bool
     ensures { IsTrue result ↔ IsText (data_of value.now) }
 {
     match value {

@@ -18,8 +18,6 @@ mod limits;
 #[cfg(test)]
 mod lines;
 #[cfg(test)]
-mod plain;
-#[cfg(test)]
 mod plans;
 #[cfg(test)]
 mod resolving;

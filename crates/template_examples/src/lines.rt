@@ -89,6 +89,7 @@ const FAULTS: &[Case] = &[
     ("bogus", "L02"),
     ("Run", "L02"),
     ("run#", "L02"),
+    ("run\t1", "L02"),
     ("bogus 2", "L02"),
     ("create", "L03"),
     ("create s", "L03"),

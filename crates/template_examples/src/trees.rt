@@ -190,6 +190,11 @@ const ENTRIES: &[Case] = &[
         "'conditions':{'c':{'equals':[{'get_resource':'r'},{'get_param':'q'}]}}",
         "H23 ['conditions','c','equals',0]",
     ),
+    ("'resources':{'0-_.':{'type':'T'}}", "right"),
+    (
+        "'resources':{'a b':{'type':'T'},'r':1}",
+        "H07 ['resources','a b']",
+    ),
     ("'resources':{'r':1,'s ':1}", "H13 ['resources','r']"),
     (
         "'resources':{'r':{'kind':1}}",
@@ -198,6 +203,10 @@ const ENTRIES: &[Case] = &[
     (
         "'resources':{'r':{'properties':1}}",
         "H14 ['resources','r']",
+    ),
+    (
+        "'resources':{'r':{'type':'T'},'s':{}}",
+        "H14 ['resources','s']",
     ),
     (
         "'resources':{'r':{'properties':1,'type':1}}",
@@ -213,6 +222,10 @@ const ENTRIES: &[Case] = &[
     ),
     (
         "'resources':{'r':{'deletion_policy':1,'depends_on':null,'type':'T'}}",
+        "H17 ['resources','r','depends_on']",
+    ),
+    (
+        "'resources':{'r':{'depends_on':['r',1],'type':'T'}}",
         "H17 ['resources','r','depends_on']",
     ),
     (
