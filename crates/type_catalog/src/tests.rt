@@ -1,14 +1,14 @@
 //! What no clause says: that each answer comes; where memory is wanted, it is asked once more.
 use crate::{Effect, change_of};
 use heat_plan::Properties;
-use heat_value::{Text, Value, ValueFault};
+use heat_value::{Text, TryCopy, Value, ValueFault};
 use std::alloc::{AllocError, Global};
 use std::test::Fail;
 
 // Properties of a text; none where it is no map.
 fn properties(alloc: Global, text: &[u8]) -> Result<Option<Properties>, AllocError> {
-    match Value::read(alloc, text) {
-        Ok(Value::Fields(props)) => Ok(Properties::from_props(props)),
+    match &Value::read(alloc, text) {
+        Ok(Value::Fields(props)) => Ok(Properties::from_props(props.copy()?)),
         Ok(_) => Ok(None),
         Err(ValueFault::Memory) => Err(AllocError),
         Err(_) => Ok(None),
