@@ -5,7 +5,7 @@ ghost use Rattle.heat_value.specs.Data.{depth, members_depth};
 ghost use Rattle.heat_value.specs.Meaning.{data_of};
 
 use heat_plan::{StackName, StackNo};
-use heat_value::{Path, Props, Seq, Value};
+use heat_value::{Path, Props, Seq, TryCopy, Value};
 use hot_catalog::Catalog;
 use hot_params::{Bound, Ids, bind};
 use hot_registry::Registry;
@@ -27,8 +27,8 @@ pub(crate) fn value_of(alloc: Global, text: &str) -> Result<Value, AllocError>
 pub(crate) fn props_of(alloc: Global, text: &str) -> Result<Props, AllocError>
     ensures { IfOk result (λ p. members_depth p ≤ 64) }
 {
-    match value_of(alloc, text)? {
-        Value::Fields(fields) => Ok(fields),
+    match &value_of(alloc, text)? {
+        Value::Fields(fields) => fields.copy(),
         _ => Err(AllocError),
     }
 }

@@ -2,7 +2,7 @@
 use crate::parts::{begins, completes, row, row_no, sets, stack, text};
 use core_state::{Actor, Entry, Row, ShowWhat, State, What};
 use heat_plan::{Act, ByName, Expression, Facts, Output, Parameters, Plan, Properties, Status};
-use heat_value::{Seq, Text, Value};
+use heat_value::{Seq, Text, TryCopy, Value};
 use report::Reporter;
 use std::process::Abort;
 
@@ -39,8 +39,11 @@ fn plan_of(rt: &(impl Abort + AllocGlobal), outputs: &[(&str, &str)]) -> Plan {
 // A map with an address of this text.
 fn address(rt: &(impl Abort + AllocGlobal), id: &str) -> Properties {
     let attrs = format!(in rt.alloc(); "{{'addr':'{}'}}", id).expect(rt, "memory");
-    match value_of(rt, attrs.as_str()) {
-        Value::Fields(attrs) => Properties::from_props(attrs).expect(rt, "shallow"),
+    match &value_of(rt, attrs.as_str()) {
+        Value::Fields(attrs) => {
+            let attrs = attrs.copy().expect(rt, "memory");
+            Properties::from_props(attrs).expect(rt, "shallow")
+        }
         _ => Properties::new(rt.alloc()),
     }
 }
