@@ -1,4 +1,6 @@
-//! What no clause says: values from outside, and that each call succeeds with ample memory.
+//! What no clause says: names, tokens, numbers and parts of plans from outside, and that each call succeeds
+//! with ample memory.
+use crate::cases::{Case, Teller, all_told, is_copied};
 use heat_plan::{
     Answered, ByName, Condition, Expression, Facts, File, Item, Kind, Known, KnownFacts, Needs,
     Output, Parameters, Plan, Policy, Properties, Refusal, Request, ResName, RowNo, StackName,
@@ -6,9 +8,53 @@ use heat_plan::{
 };
 use heat_value::{Equals, Items, Props, Seq, Text, TryCopy, Value};
 use std::alloc::{AllocError, Global};
-use std::test::Fail;
 
-// A name of so many letters, with another character behind the first.
+// What may have a name of these bytes.
+struct Names;
+
+impl Teller<&'static [u8]> for Names {
+    fn told(&self, alloc: Global, given: &'static [u8]) -> Result<Text, AllocError> {
+        Text::from_str(alloc, named(alloc, given)?)
+    }
+}
+
+fn named(alloc: Global, bytes: &[u8]) -> Result<&'static str, AllocError> {
+    let stack = StackName::read(alloc, bytes)?.is_some();
+    let resource = ResName::read(alloc, bytes)?.is_some();
+    Ok(match (stack, resource) {
+        (true, true) => "stack, resource",
+        (true, false) => "stack",
+        (false, true) => "resource",
+        (false, false) => "none",
+    })
+}
+
+const NAMES: &[Case<&[u8]>] = &[
+    ("a letter", b"a", "stack, resource"),
+    ("no bytes", b"", "none"),
+    ("each kind of character", b"Az09_.-", "stack, resource"),
+    ("a digit first", b"1a", "resource"),
+    ("a hyphen first", b"-", "resource"),
+    ("a space", b"a b", "none"),
+    ("a slash", b"a/b", "none"),
+    ("a letter outside ASCII", b"\xC3\xA9", "none"),
+];
+
+#[test]
+fn names_are_read(rt: HostRuntime) -> Result<(), AllocError> {
+    all_told(&rt, &Names, NAMES)
+}
+
+// What may have a name of so many letters, with this one behind the first.
+struct LongNames;
+
+impl Teller<(usize, char)> for LongNames {
+    fn told(&self, alloc: Global, given: (usize, char)) -> Result<Text, AllocError> {
+        let name = long_name(alloc, given.0, given.1)?;
+        Text::from_str(alloc, named(alloc, name.as_bytes())?)
+    }
+}
+
 fn long_name(alloc: Global, letters: usize, second: char) -> Result<String, AllocError> {
     let mut text = String::new(alloc);
     for i in 0..letters {
@@ -17,150 +63,152 @@ fn long_name(alloc: Global, letters: usize, second: char) -> Result<String, Allo
     Ok(text)
 }
 
-// Whether a stack, and whether a resource, may have a name of these bytes.
-fn named(alloc: Global, bytes: &[u8]) -> Result<(bool, bool), AllocError> {
-    let stack = StackName::read(alloc, bytes)?.is_some();
-    let resource = ResName::read(alloc, bytes)?.is_some();
-    Ok((stack, resource))
-}
-
-const NAMES: &[(&[u8], bool, bool)] = &[
-    (b"a", true, true),
-    (b"", false, false),
-    (b"Az09_.-", true, true),
-    (b"1a", false, true),
-    (b"-", false, true),
-    (b"a b", false, false),
-    (b"a/b", false, false),
-    (b"\xC3\xA9", false, false),
+const LONG_NAMES: &[Case<(usize, char)>] = &[
+    ("255 letters", (255, 'a'), "stack, resource"),
+    ("256 letters", (256, 'a'), "none"),
+    (
+        "255 letters, one of them of two bytes",
+        (255, '\u{e9}'),
+        "none",
+    ),
 ];
 
 #[test]
-fn names_are_read(rt: HostRuntime) -> Result<(), Fail> {
-    for (bytes, stack, resource) in NAMES {
-        assert_eq!(rt; named(rt.alloc(), bytes)?, (*stack, *resource), "{bytes:?}");
+fn names_have_255_letters(rt: HostRuntime) -> Result<(), AllocError> {
+    all_told(&rt, &LongNames, LONG_NAMES)
+}
+
+// Whether bytes are a token, whose copy and text are then what they were made of.
+struct Tokens;
+
+impl Teller<&'static [u8]> for Tokens {
+    fn told(&self, alloc: Global, given: &'static [u8]) -> Result<Text, AllocError> {
+        match Token::read(alloc, given)? {
+            Some(token) => written(alloc, &token),
+            None => Text::from_str(alloc, "none"),
+        }
     }
-    Ok(())
 }
 
-fn long_named(alloc: Global, letters: usize, second: char) -> Result<(bool, bool), AllocError> {
-    let name = long_name(alloc, letters, second)?;
-    named(alloc, name.as_bytes())
-}
-
-#[test]
-fn names_have_255_letters(rt: HostRuntime) -> Result<(), Fail> {
-    for (letters, second, fits) in [(255, 'a', true), (256, 'a', false), (255, '\u{e9}', false)] {
-        let found = long_named(rt.alloc(), letters, second)?;
-        assert_eq!(rt; found, (fits, fits), "{letters}");
+// A token's text, if its copy equals it.
+fn written(alloc: Global, token: &Token) -> Result<Text, AllocError> {
+    if is_copied(token)? {
+        token.text(alloc)
+    } else {
+        Text::from_str(alloc, "another copy")
     }
-    Ok(())
 }
 
-const TOKENS: &[(&[u8], bool)] = &[
-    (b"s/a/1", true),
-    (b"s/a/01", false),
-    (b"s/a", false),
-    (b"s/a/0", false),
-    (b"s/a/+1", false),
-    (b"s/a/4611686018427387903", true),
-    (b"s/a/4611686018427387904", false),
-    (b"s/a/99999999999999999999", false),
-    (b"s/a/1/", false),
-    (b"1/a/1", false),
-    (b"", false),
+const TOKENS: &[Case<&[u8]>] = &[
+    ("the least number", b"s/a/1", "s/a/1"),
+    ("a zero in front", b"s/a/01", "none"),
+    ("two parts", b"s/a", "none"),
+    ("a number of zero", b"s/a/0", "none"),
+    ("a sign", b"s/a/+1", "none"),
+    (
+        "the greatest number",
+        b"s/a/4611686018427387903",
+        "s/a/4611686018427387903",
+    ),
+    ("one more", b"s/a/4611686018427387904", "none"),
+    ("twenty digits", b"s/a/99999999999999999999", "none"),
+    ("a slash at the end", b"s/a/1/", "none"),
+    ("no name of a stack", b"1/a/1", "none"),
+    ("no bytes", b"", "none"),
 ];
 
-// Whether a token is read, and its text is what it was read from.
-fn is_token(alloc: Global, bytes: &[u8]) -> Result<bool, AllocError> {
-    match Token::read(alloc, bytes)? {
-        Some(token) => is_written(alloc, &token, bytes),
-        None => Ok(false),
-    }
-}
-
-fn is_written(alloc: Global, token: &Token, bytes: &[u8]) -> Result<bool, AllocError> {
-    let same = token.copy()?.equals(token);
-    let text = token.text(alloc)?;
-    Ok(same && text.as_str().as_bytes() == bytes)
-}
-
 #[test]
-fn tokens_are_read_and_written(rt: HostRuntime) -> Result<(), Fail> {
-    for (bytes, reads) in TOKENS {
-        assert_eq!(rt; is_token(rt.alloc(), bytes)?, *reads, "{bytes:?}");
-    }
-    Ok(())
+fn tokens_are_read_and_written(rt: HostRuntime) -> Result<(), AllocError> {
+    all_told(&rt, &Tokens, TOKENS)
 }
 
-#[test]
-fn numbers_have_their_range(rt: HostRuntime) -> Result<(), Fail> {
-    for (n, fits) in [
-        (0, false),
-        (1, true),
-        ((1 << 62) - 1, true),
-        (1 << 62, false),
-    ] {
-        assert_eq!(rt; RowNo::new(n).is_some(), fits, "{n}");
+// What may hold so much.
+#[derive(Clone, Copy)]
+enum Held {
+    Number(u64),
+    Properties(usize),
+    Parameters(usize),
+}
+
+struct Fits;
+
+impl Teller<Held> for Fits {
+    fn told(&self, alloc: Global, given: Held) -> Result<Text, AllocError> {
+        let fits = match given {
+            Held::Number(n) => RowNo::new(n).is_some(),
+            Held::Properties(lists) => Properties::from_props(nested(alloc, lists)?).is_some(),
+            Held::Parameters(lists) => Parameters::from_props(nested(alloc, lists)?).is_some(),
+        };
+        Text::from_str(alloc, if fits { "fits" } else { "none" })
     }
-    Ok(())
 }
 
 // A map whose one value is so many lists, one in the other.
 fn nested(alloc: Global, lists: usize) -> Result<Props, AllocError> {
+    let mut props = Props::new(alloc);
+    props.put(Text::from_str(alloc, "p")?, lists_of(alloc, lists)?)?;
+    Ok(props)
+}
+
+fn lists_of(alloc: Global, lists: usize) -> Result<Value, AllocError> {
     let mut value = Value::Null;
     for _ in 0..lists {
         let mut items = Items::new(alloc);
         items.push(value)?;
         value = Value::Items(items);
     }
-    let mut props = Props::new(alloc);
-    props.put(Text::from_str(alloc, "p")?, value)?;
-    Ok(props)
+    Ok(value)
 }
+
+const HELD: &[Case<Held>] = &[
+    ("no number", Held::Number(0), "none"),
+    ("the least number", Held::Number(1), "fits"),
+    ("the greatest number", Held::Number((1 << 62) - 1), "fits"),
+    ("one more", Held::Number(1 << 62), "none"),
+    ("properties 64 deep", Held::Properties(63), "fits"),
+    ("properties 65 deep", Held::Properties(64), "none"),
+    ("parameters 64 deep each", Held::Parameters(64), "fits"),
+    ("parameters 65 deep", Held::Parameters(65), "none"),
+];
 
 #[test]
-fn properties_nest_64_deep(rt: HostRuntime) -> Result<(), Fail> {
-    for (lists, fits) in [(63, true), (64, false)] {
-        let props = nested(rt.alloc(), lists)?;
-        assert_eq!(rt; Properties::from_props(props).is_some(), fits, "{lists}");
-    }
-    assert!(rt; Expression::from_value(Value::Null).is_some());
-    Ok(())
+fn numbers_and_nesting_have_their_range(rt: HostRuntime) -> Result<(), AllocError> {
+    all_told(&rt, &Fits, HELD)
 }
 
-#[test]
-fn parameters_nest_64_deep_each(rt: HostRuntime) -> Result<(), Fail> {
-    for (lists, fits) in [(64, true), (65, false)] {
-        let props = nested(rt.alloc(), lists)?;
-        assert_eq!(rt; Parameters::from_props(props).is_some(), fits, "{lists}");
+// Whether the names rise.
+struct Rising;
+
+impl Teller<&'static [&'static str]> for Rising {
+    fn told(&self, alloc: Global, given: &'static [&'static str]) -> Result<Text, AllocError> {
+        let names = names_of(alloc, given)?;
+        let rises = is_rising(names.as_slice());
+        Text::from_str(alloc, if rises { "rise" } else { "don't" })
     }
-    Ok(())
 }
 
-// The list of these names.
-fn names_of(alloc: Global, texts: &[&str]) -> Result<Seq<ResName>, Fail> {
+fn names_of(alloc: Global, texts: &[&str]) -> Result<Seq<ResName>, AllocError> {
     let mut names = Seq::new(alloc);
     for text in texts {
-        let name = ResName::read(alloc, text.as_bytes())?.ok_or("a name")?;
-        names.push(name)?;
+        names.push(name_of(alloc, text)?)?;
     }
     Ok(names)
 }
 
+fn name_of(alloc: Global, text: &str) -> Result<ResName, AllocError> {
+    ResName::read(alloc, text.as_bytes())?.ok_or(AllocError)
+}
+
+const NEEDS: &[Case<&[&str]>] = &[
+    ("no need", &[], "rise"),
+    ("two in order", &["b", "c"], "rise"),
+    ("one twice", &["b", "b"], "don't"),
+    ("two out of order", &["c", "b"], "don't"),
+];
+
 #[test]
-fn needs_rise(rt: HostRuntime) -> Result<(), Fail> {
-    let rows: [(&[&str], bool); 4] = [
-        (&[], true),
-        (&["b", "c"], true),
-        (&["b", "b"], false),
-        (&["c", "b"], false),
-    ];
-    for (texts, rises) in rows {
-        let names = names_of(rt.alloc(), texts)?;
-        assert_eq!(rt; is_rising(names.as_slice()), rises);
-    }
-    Ok(())
+fn needs_rise(rt: HostRuntime) -> Result<(), AllocError> {
+    all_told(&rt, &Rising, NEEDS)
 }
 
 // A kind without attributes.
@@ -173,8 +221,8 @@ fn kind_of(alloc: Global) -> Result<Kind, AllocError> {
 }
 
 // An item that needs nothing.
-fn item_of(alloc: Global) -> Result<Item, Fail> {
-    let name = ResName::read(alloc, b"a")?.ok_or("a name")?;
+fn item_of(alloc: Global) -> Result<Item, AllocError> {
+    let name = name_of(alloc, "a")?;
     Ok(Item {
         name,
         kind: kind_of(alloc)?,
@@ -184,14 +232,31 @@ fn item_of(alloc: Global) -> Result<Item, Fail> {
     })
 }
 
+fn is_an_item_copied(alloc: Global) -> Result<bool, AllocError> {
+    is_copied(&item_of(alloc)?)
+}
+
+// Whether an item of another policy is told from it.
+fn are_policies_told_apart(alloc: Global) -> Result<bool, AllocError> {
+    let item = item_of(alloc)?;
+    let mut other = item.copy()?;
+    other.policy = Policy::Delete;
+    Ok(!other.equals(&item))
+}
+
+// Whether two items of one name are in order.
+fn are_twins_in_order(alloc: Global) -> Result<bool, AllocError> {
+    let mut items = Seq::new(alloc);
+    items.push(item_of(alloc)?)?;
+    items.push(item_of(alloc)?)?;
+    Ok(are_in_order(items.as_slice()))
+}
+
 #[test]
-fn items_are_copied(rt: HostRuntime) -> Result<(), Fail> {
-    let item = item_of(rt.alloc())?;
-    let mut copy = item.copy()?;
-    assert!(rt; copy.equals(&item));
-    copy.policy = Policy::Delete;
-    assert!(rt; !copy.equals(&item));
-    assert!(rt; !are_in_order(&[item, copy]));
+fn items_are_copied(rt: HostRuntime) -> Result<(), AllocError> {
+    assert!(rt; is_an_item_copied(rt.alloc())?);
+    assert!(rt; are_policies_told_apart(rt.alloc())?);
+    assert!(rt; !are_twins_in_order(rt.alloc())?);
     Ok(())
 }
 
@@ -203,66 +268,77 @@ fn facts_of(alloc: Global) -> Result<Facts, AllocError> {
     })
 }
 
-#[test]
-fn facts_are_copied(rt: HostRuntime) -> Result<(), Fail> {
-    let name = ResName::read(rt.alloc(), b"a")?.ok_or("a name")?;
-    let facts = facts_of(rt.alloc())?;
-    let mut known = Seq::new(rt.alloc());
-    known.push(KnownFacts { name, facts })?;
-    let known = Known { facts: known };
-    assert!(rt; known.copy()?.equals(&known));
-    Ok(())
+fn known_of(alloc: Global) -> Result<KnownFacts, AllocError> {
+    let name = name_of(alloc, "a")?;
+    let facts = facts_of(alloc)?;
+    Ok(KnownFacts { name, facts })
+}
+
+fn are_facts_copied(alloc: Global) -> Result<bool, AllocError> {
+    let mut facts = Seq::new(alloc);
+    facts.push(known_of(alloc)?)?;
+    is_copied(&Known { facts })
+}
+
+fn is_an_answer_copied(alloc: Global) -> Result<bool, AllocError> {
+    let answer = Answered::Ready(facts_of(alloc)?);
+    Ok(is_copied(&answer)? && !answer.equals(&Answered::Begun))
+}
+
+fn is_a_request_copied(alloc: Global) -> Result<bool, AllocError> {
+    let request = Request::Update(Properties::new(alloc));
+    Ok(is_copied(&request)? && !request.equals(&Request::Poll))
 }
 
 #[test]
-fn words_of_calls_are_copied(rt: HostRuntime) -> Result<(), Fail> {
-    let answer = Answered::Ready(facts_of(rt.alloc())?);
-    assert!(rt; answer.copy()?.equals(&answer));
-    assert!(rt; !answer.equals(&Answered::Begun));
-    let request = Request::Update(Properties::new(rt.alloc()));
-    assert!(rt; request.copy()?.equals(&request));
-    assert!(rt; !request.equals(&Request::Poll));
+fn words_of_calls_are_copied(rt: HostRuntime) -> Result<(), AllocError> {
+    assert!(rt; are_facts_copied(rt.alloc())?);
+    assert!(rt; is_an_answer_copied(rt.alloc())?);
+    assert!(rt; is_a_request_copied(rt.alloc())?);
     Ok(())
 }
 
-#[test]
-fn parts_of_plans_are_copied(rt: HostRuntime) -> Result<(), Fail> {
-    let name = Text::from_str(rt.alloc(), "c")?;
-    let condition = Condition { name, value: true };
-    assert!(rt; condition.copy()?.equals(&condition));
-    let name = Text::from_str(rt.alloc(), "f")?;
-    let content = Text::from_str(rt.alloc(), "text")?;
-    let file = File { name, content };
-    assert!(rt; file.copy()?.equals(&file));
-    Ok(())
+fn is_a_condition_copied(alloc: Global) -> Result<bool, AllocError> {
+    let name = Text::from_str(alloc, "c")?;
+    is_copied(&Condition { name, value: true })
 }
 
-#[test]
-fn an_output_is_copied(rt: HostRuntime) -> Result<(), Fail> {
-    let name = Text::from_str(rt.alloc(), "o")?;
-    let value = Expression::from_value(Value::Null).ok_or("shallow")?;
-    let output = Output { name, value };
-    assert!(rt; output.copy()?.equals(&output));
-    Ok(())
+fn is_a_file_copied(alloc: Global) -> Result<bool, AllocError> {
+    let name = Text::from_str(alloc, "f")?;
+    let content = Text::from_str(alloc, "text")?;
+    is_copied(&File { name, content })
 }
 
-#[test]
-fn a_plan_is_copied(rt: HostRuntime) -> Result<(), Fail> {
-    let alloc = rt.alloc();
-    let plan = Plan::new(
+fn is_an_output_copied(alloc: Global) -> Result<bool, AllocError> {
+    let name = Text::from_str(alloc, "o")?;
+    match Expression::from_value(Value::Null) {
+        Some(value) => is_copied(&Output { name, value }),
+        None => Ok(false),
+    }
+}
+
+fn is_a_plan_copied(alloc: Global) -> Result<bool, AllocError> {
+    is_copied(&Plan::new(
         Seq::new(alloc),
         Seq::new(alloc),
         Parameters::new(alloc),
         ByName::new(alloc),
         ByName::new(alloc),
         Seq::new(alloc),
-    );
-    assert!(rt; plan.copy()?.equals(&plan));
+    ))
+}
+
+#[test]
+fn plans_and_their_parts_are_copied(rt: HostRuntime) -> Result<(), AllocError> {
+    assert!(rt; is_a_condition_copied(rt.alloc())?);
+    assert!(rt; is_a_file_copied(rt.alloc())?);
+    assert!(rt; is_an_output_copied(rt.alloc())?);
+    assert!(rt; is_a_plan_copied(rt.alloc())?);
     Ok(())
 }
 
 #[test]
 fn refusals_have_their_codes(rt: HostRuntime) {
-    assert_eq!(rt; Refusal::TooManyEngines.code(), Some("E17"));
-    assert_eq!(rt; Refusal::Memory.code(), None);
+    assert!(rt; matches!(Refusal::TooManyEngines.code(), Some("E17")));
+    assert!(rt; Refusal::Memory.code().is_none());
 }

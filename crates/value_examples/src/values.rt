@@ -1,11 +1,17 @@
 //! What no clause says: values from outside, printed texts, and that each call succeeds with ample memory.
-use heat_value::{
-    Equals, Items, Path, Props, Seq, Step, Text, TryCopy, Value, ValueFault, text_of,
-};
+use crate::cases::{Case, Teller, all_told, is_copied, same};
+use heat_value::{Equals, Items, Path, Props, Seq, Step, Text, Value, ValueFault, text_of};
 use std::alloc::{AllocError, Global};
-use std::test::Fail;
 
 // What reading gives, as a text.
+struct Readings;
+
+impl Teller<&'static [u8]> for Readings {
+    fn told(&self, alloc: Global, given: &'static [u8]) -> Result<Text, AllocError> {
+        outcome(alloc, given)
+    }
+}
+
 fn outcome(alloc: Global, bytes: &[u8]) -> Result<Text, AllocError> {
     match Value::read(alloc, bytes) {
         Ok(value) => value.text(alloc),
@@ -16,19 +22,7 @@ fn outcome(alloc: Global, bytes: &[u8]) -> Result<Text, AllocError> {
     }
 }
 
-// So many lists, one in the other.
-fn nested(alloc: Global, lists: usize) -> Result<String, AllocError> {
-    let mut text = String::new(alloc);
-    for _ in 0..lists {
-        text.push_str("[")?;
-    }
-    for _ in 0..lists {
-        text.push_str("]")?;
-    }
-    Ok(text)
-}
-
-const READINGS: &[(&str, &[u8], &str)] = &[
+const READINGS: &[Case<&[u8]>] = &[
     ("a scalar", b"null", "null"),
     ("no bytes", b"", "not json"),
     ("spaces round a value", b" [ 1 , 2 ]\n", "[1,2]"),
@@ -87,107 +81,129 @@ const READINGS: &[(&str, &[u8], &str)] = &[
     ("two values", b"1 2", "not json"),
     ("an empty key", b"{\"\":{}}", "{\"\":{}}"),
     ("an open list", b"[1", "not json"),
-];
-
-#[test]
-fn reads_or_names_the_first_fault(rt: HostRuntime) -> Result<(), Fail> {
-    for (name, bytes, want) in READINGS {
-        let got = outcome(rt.alloc(), bytes)?;
-        assert_eq!(rt; got.as_str(), *want, "{name}");
-    }
-    Ok(())
-}
-
-#[test]
-fn nests_64_deep(rt: HostRuntime) -> Result<(), Fail> {
-    for (lists, want) in [(65, "too deep"), (127, "too deep"), (128, "not json")] {
-        let text = nested(rt.alloc(), lists)?;
-        let got = outcome(rt.alloc(), text.as_bytes())?;
-        assert_eq!(rt; got.as_str(), want, "{lists}");
-    }
-    let deepest = nested(rt.alloc(), 64)?;
-    let got = outcome(rt.alloc(), deepest.as_bytes())?;
-    assert_eq!(rt; got.as_str(), deepest.as_str());
-    Ok(())
-}
-
-// Whether a map is read whose one key stands twice, first with so many lists and then with 1.
-fn overwritten(alloc: Global, lists: usize) -> Result<Text, AllocError> {
-    let deep = nested(alloc, lists)?;
-    let text = format!(in alloc; "{{\"a\":{},\"a\":1}}", deep.as_str())?;
-    outcome(alloc, text.as_bytes())
-}
-
-#[test]
-fn an_overwritten_member_nests_127_deep(rt: HostRuntime) -> Result<(), Fail> {
-    for (lists, want) in [
-        (65, "{\"a\":1}"),
-        (126, "{\"a\":1}"),
-        (127, "not json"),
-        (128, "not json"),
-    ] {
-        let got = overwritten(rt.alloc(), lists)?;
-        assert_eq!(rt; got.as_str(), want, "{lists}");
-    }
-    Ok(())
-}
-
-const ESCAPES: &[(&[u8], &str)] = &[
     (
+        "escapes of one letter",
         b"\"\\\"\\\\\\/\\b\\f\\n\\r\\t\"",
         "\"\\\"\\\\/\\b\\f\\n\\r\\t\"",
     ),
     (
+        "escapes of four digits",
         b"\"\\u0001\\u001f\\u007f\\u00e9\"",
         "\"\\u0001\\u001f\u{7f}\u{e9}\"",
     ),
     (
+        "an escape in a key",
         b"{\"a\\n\":[true,false,null]}",
         "{\"a\\n\":[true,false,null]}",
     ),
 ];
 
 #[test]
-fn writes_each_escape(rt: HostRuntime) -> Result<(), Fail> {
-    for (bytes, want) in ESCAPES {
-        let got = outcome(rt.alloc(), bytes)?;
-        assert_eq!(rt; got.as_str(), *want);
+fn reads_or_names_the_first_fault(rt: HostRuntime) -> Result<(), AllocError> {
+    all_told(&rt, &Readings, READINGS)
+}
+
+// What reading so many lists gives, one in the other; itself, where it is that text.
+struct Nesting;
+
+impl Teller<usize> for Nesting {
+    fn told(&self, alloc: Global, given: usize) -> Result<Text, AllocError> {
+        let text = nested(alloc, given)?;
+        let read = outcome(alloc, text.as_bytes())?;
+        if read.as_str() == text.as_str() {
+            Text::from_str(alloc, "itself")
+        } else {
+            Ok(read)
+        }
     }
-    Ok(())
+}
+
+fn nested(alloc: Global, lists: usize) -> Result<String, AllocError> {
+    let mut text = String::new(alloc);
+    for _ in 0..lists {
+        text.push_str("[")?;
+    }
+    for _ in 0..lists {
+        text.push_str("]")?;
+    }
+    Ok(text)
+}
+
+const NESTED: &[Case<usize>] = &[
+    ("the deepest", 64, "itself"),
+    ("one more", 65, "too deep"),
+    ("the deepest that is read", 127, "too deep"),
+    ("one more than is read", 128, "not json"),
+];
+
+#[test]
+fn nests_64_deep(rt: HostRuntime) -> Result<(), AllocError> {
+    all_told(&rt, &Nesting, NESTED)
+}
+
+// What reading a map gives whose one key stands twice, first with so many lists and then with 1.
+struct Overwritten;
+
+impl Teller<usize> for Overwritten {
+    fn told(&self, alloc: Global, given: usize) -> Result<Text, AllocError> {
+        let deep = nested(alloc, given)?;
+        let text = format!(in alloc; "{{\"a\":{},\"a\":1}}", deep.as_str())?;
+        outcome(alloc, text.as_bytes())
+    }
+}
+
+const OVERWRITTEN: &[Case<usize>] = &[
+    ("deeper than a value", 65, "{\"a\":1}"),
+    ("the deepest", 126, "{\"a\":1}"),
+    ("one more", 127, "not json"),
+    ("two more", 128, "not json"),
+];
+
+#[test]
+fn an_overwritten_member_nests_127_deep(rt: HostRuntime) -> Result<(), AllocError> {
+    all_told(&rt, &Overwritten, OVERWRITTEN)
 }
 
 // The text that a value stands for.
-fn standing_for(alloc: Global, bytes: &[u8]) -> Result<Text, AllocError> {
+struct Standing;
+
+impl Teller<&'static [u8]> for Standing {
+    fn told(&self, alloc: Global, given: &'static [u8]) -> Result<Text, AllocError> {
+        text_of(alloc, &read(alloc, given)?)
+    }
+}
+
+fn read(alloc: Global, bytes: &[u8]) -> Result<Value, AllocError> {
     match Value::read(alloc, bytes) {
-        Ok(value) => text_of(alloc, &value),
+        Ok(value) => Ok(value),
         Err(_) => Err(AllocError),
     }
 }
 
-const TEXTS: &[(&[u8], &str)] = &[
-    (b"null", ""),
-    (b"\"a b\"", "a b"),
-    (b"-12", "-12"),
-    (b"true", "true"),
-    (b"[1,\"a\"]", "[1,\"a\"]"),
-    (b"{\"k\":null}", "{\"k\":null}"),
+const TEXTS: &[Case<&[u8]>] = &[
+    ("null", b"null", ""),
+    ("a text", b"\"a b\"", "a b"),
+    ("a number", b"-12", "-12"),
+    ("a flag", b"true", "true"),
+    ("a list", b"[1,\"a\"]", "[1,\"a\"]"),
+    ("a map", b"{\"k\":null}", "{\"k\":null}"),
 ];
 
 #[test]
-fn stands_for_a_text(rt: HostRuntime) -> Result<(), Fail> {
-    for (bytes, want) in TEXTS {
-        let text = standing_for(rt.alloc(), bytes)?;
-        assert_eq!(rt; text.as_str(), *want);
-    }
-    Ok(())
+fn stands_for_a_text(rt: HostRuntime) -> Result<(), AllocError> {
+    all_told(&rt, &Standing, TEXTS)
+}
+
+fn put(alloc: Global, props: &mut Props, key: &str, value: Value) -> Result<(), AllocError> {
+    props.put(Text::from_str(alloc, key)?, value)
 }
 
 // The map of a and b, of which b stood there before.
 fn two_members(alloc: Global) -> Result<Props, AllocError> {
     let mut props = Props::new(alloc);
-    props.put(Text::from_str(alloc, "b")?, Value::Whole(1))?;
-    props.put(Text::from_str(alloc, "a")?, Value::Null)?;
-    props.put(Text::from_str(alloc, "b")?, Value::Flag(true))?;
+    put(alloc, &mut props, "b", Value::Whole(1))?;
+    put(alloc, &mut props, "a", Value::Null)?;
+    put(alloc, &mut props, "b", Value::Flag(true))?;
     Ok(props)
 }
 
@@ -199,25 +215,45 @@ fn made(alloc: Global) -> Result<Value, AllocError> {
     Ok(Value::Items(items))
 }
 
-#[test]
-fn values_are_made_and_compared(rt: HostRuntime) -> Result<(), Fail> {
-    let made = made(rt.alloc())?;
-    let read = Value::read(rt.alloc(), b"[{\"a\":null,\"b\":true}]")?;
-    assert!(rt; made.equals(&read));
-    assert!(rt; made.copy()?.equals(&made));
-    assert!(rt; !made.equals(&Value::Null));
-    Ok(())
+fn is_made_as_it_is_read(alloc: Global) -> Result<bool, AllocError> {
+    let made = made(alloc)?;
+    Ok(made.equals(&read(alloc, b"[{\"a\":null,\"b\":true}]")?))
+}
+
+fn is_a_value_copied(alloc: Global) -> Result<bool, AllocError> {
+    let made = made(alloc)?;
+    Ok(is_copied(&made)? && !made.equals(&Value::Null))
+}
+
+fn is_a_member_copied(alloc: Global) -> Result<bool, AllocError> {
+    match two_members(alloc)?.as_slice().first() {
+        Some(member) => is_copied(member),
+        None => Ok(false),
+    }
 }
 
 #[test]
-fn members_are_found_and_compared(rt: HostRuntime) -> Result<(), Fail> {
-    let key = Text::from_str(rt.alloc(), "a")?;
-    let mut props = Props::new(rt.alloc());
-    props.put(key.copy()?, Value::Whole(1))?;
-    assert!(rt; matches!(props.get(&key), Some(Value::Whole(1))));
-    assert!(rt; props.get(&Text::from_str(rt.alloc(), "b")?).is_none());
-    let member = &props.as_slice()[0];
-    assert!(rt; member.equals(&member.copy()?));
+fn values_are_made_and_compared(rt: HostRuntime) -> Result<(), AllocError> {
+    assert!(rt; is_made_as_it_is_read(rt.alloc())?);
+    assert!(rt; is_a_value_copied(rt.alloc())?);
+    assert!(rt; is_a_member_copied(rt.alloc())?);
+    Ok(())
+}
+
+// The flag under a key of the map of two.
+fn flag_under(alloc: Global, key: &str) -> Result<Option<bool>, AllocError> {
+    let props = two_members(alloc)?;
+    let key = Text::from_str(alloc, key)?;
+    Ok(match props.get(&key) {
+        Some(Value::Flag(flag)) => Some(*flag),
+        _ => None,
+    })
+}
+
+#[test]
+fn members_are_found(rt: HostRuntime) -> Result<(), AllocError> {
+    assert!(rt; matches!(flag_under(rt.alloc(), "b")?, Some(true)));
+    assert!(rt; flag_under(rt.alloc(), "c")?.is_none());
     Ok(())
 }
 
@@ -229,12 +265,24 @@ fn pairs_and_options_are_compared(rt: HostRuntime) {
     assert!(rt; !Some(1u32).equals(&None));
 }
 
+// The list a, c.
+fn two(alloc: Global) -> Result<Seq<Text>, AllocError> {
+    let mut list: Seq<Text> = Seq::with_capacity(alloc, 2)?;
+    push(&mut list, "a")?;
+    push(&mut list, "c")?;
+    Ok(list)
+}
+
+fn push(list: &mut Seq<Text>, text: &str) -> Result<(), AllocError> {
+    list.push(Text::from_str(list.allocator(), text)?)
+}
+
 // The list a, b, c, of which b comes last.
 fn three(alloc: Global) -> Result<Seq<Text>, AllocError> {
-    let mut list: Seq<Text> = Seq::with_capacity(alloc, 2)?;
-    list.push(Text::from_str(alloc, "a")?)?;
-    list.push(Text::from_str(alloc, "c")?)?;
-    list.insert(1, Text::from_str(alloc, "b")?)?;
+    let mut list = two(alloc)?;
+    if list.len() == 2 {
+        list.insert(1, Text::from_str(alloc, "b")?)?;
+    }
     Ok(list)
 }
 
@@ -252,24 +300,51 @@ fn edit(list: &mut Seq<Text>, by: Text) -> bool {
     first
 }
 
-#[test]
-fn lists_are_edited(rt: HostRuntime) -> Result<(), Fail> {
-    let mut list = three(rt.alloc())?;
-    assert!(rt; list.copy()?.equals(&list));
-    assert!(rt; edit(&mut list, Text::from_str(rt.alloc(), "d")?));
-    assert_eq!(rt; list.len(), 1);
-    assert_eq!(rt; list.as_slice()[0].as_str(), "d");
-    Ok(())
+fn is_alone(list: &Seq<Text>, text: &str) -> bool {
+    list.len() == 1 && list.as_slice()[0].as_str() == text
+}
+
+fn is_a_list_edited(alloc: Global) -> Result<bool, AllocError> {
+    let mut list = three(alloc)?;
+    let first = edit(&mut list, Text::from_str(alloc, "d")?);
+    Ok(first && is_alone(&list, "d"))
+}
+
+fn is_a_list_copied(alloc: Global) -> Result<bool, AllocError> {
+    is_copied(&three(alloc)?)
 }
 
 #[test]
-fn paths_are_printed(rt: HostRuntime) -> Result<(), Fail> {
-    let mut path = Path::root(rt.alloc());
-    path.push(Step::Key(Text::from_str(rt.alloc(), "a\"")?))?;
+fn lists_are_edited(rt: HostRuntime) -> Result<(), AllocError> {
+    assert!(rt; is_a_list_edited(rt.alloc())?);
+    assert!(rt; is_a_list_copied(rt.alloc())?);
+    Ok(())
+}
+
+fn key(alloc: Global, text: &str) -> Result<Step, AllocError> {
+    Ok(Step::Key(Text::from_str(alloc, text)?))
+}
+
+// The path of the number 0 in the list under a key, under resources.
+fn path_of(alloc: Global) -> Result<Path, AllocError> {
+    let mut path = Path::root(alloc);
+    path.push(key(alloc, "a\"")?)?;
     path.push(Step::Index(0))?;
-    let path = path.under(Step::Key(Text::from_str(rt.alloc(), "resources")?))?;
-    assert!(rt; path.copy()?.equals(&path));
-    let text = path.copy()?.text(rt.alloc())?;
-    assert_eq!(rt; text.as_str(), "[\"resources\",\"a\\\"\",0]");
+    path.under(key(alloc, "resources")?)
+}
+
+fn is_a_path_copied(alloc: Global) -> Result<bool, AllocError> {
+    is_copied(&path_of(alloc)?)
+}
+
+fn printed(alloc: Global) -> Result<Text, AllocError> {
+    path_of(alloc)?.text(alloc)
+}
+
+#[test]
+fn paths_are_printed(rt: HostRuntime) -> Result<(), AllocError> {
+    assert!(rt; is_a_path_copied(rt.alloc())?);
+    let want = "[\"resources\",\"a\\\"\",0]";
+    same(&rt, printed(rt.alloc())?.as_str(), want, "a path");
     Ok(())
 }
