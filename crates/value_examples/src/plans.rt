@@ -1,20 +1,67 @@
 //! What no clause says: names, tokens, numbers and parts of plans from outside, and that each call succeeds
 //! with ample memory.
-use crate::cases::{Case, Teller, all_told, is_copied};
+use crate::cases::{Asked, Case, all_told, is_copied, put};
 use heat_plan::{
     Answered, ByName, Condition, Expression, Facts, File, Item, Kind, Known, KnownFacts, Needs,
     Output, Parameters, Plan, Policy, Properties, Refusal, Request, ResName, RowNo, StackName,
-    Token, are_in_order, is_rising,
+    Token, is_rising,
 };
-use heat_value::{Equals, Items, Props, Seq, Text, TryCopy, Value};
+use heat_value::{Items, Props, Seq, Text, Value};
 use std::alloc::{AllocError, Global};
 
-// What may have a name of these bytes.
-struct Names;
+// What is asked: what may have a name of these bytes, and one of so many letters, with this one behind the
+// first; whether bytes are a token; what fits; whether names rise; a refusal's code; whether a part is copied.
+#[derive(Clone, Copy)]
+enum Of {
+    Name(&'static [u8]),
+    LongName(usize, char),
+    Token(&'static [u8]),
+    Number(u64),
+    Nested(Held, usize),
+    Needs(&'static [&'static str]),
+    Code(Refusal),
+    Copy(Part),
+}
 
-impl Teller<&'static [u8]> for Names {
-    fn told(&self, alloc: Global, given: &'static [u8]) -> Result<Text, AllocError> {
-        Text::from_str(alloc, named(alloc, given)?)
+// What holds lists in lists, under one key.
+#[derive(Clone, Copy)]
+enum Held {
+    Properties,
+    Parameters,
+}
+
+#[derive(Clone, Copy)]
+enum Part {
+    Item,
+    Facts,
+    Answer,
+    Request,
+    Condition,
+    File,
+    Output,
+    Plan,
+}
+
+impl Asked for Of {
+    fn told(self, alloc: Global) -> Result<Text, AllocError> {
+        Text::from_str(alloc, word(alloc, self)?)
+    }
+}
+
+fn word(alloc: Global, of: Of) -> Result<&'static str, AllocError> {
+    match of {
+        Of::Name(bytes) => named(alloc, bytes),
+        Of::LongName(letters, second) => long_named(alloc, letters, second),
+        Of::Token(bytes) => read_token(alloc, bytes),
+        Of::Number(n) => Ok(if RowNo::new(n).is_some() {
+            "fits"
+        } else {
+            "none"
+        }),
+        Of::Nested(held, lists) => nested(alloc, held, lists),
+        Of::Needs(names) => rising(alloc, names),
+        Of::Code(refusal) => Ok(refusal.code().unwrap_or("none")),
+        Of::Copy(part) => copied(alloc, part),
     }
 }
 
@@ -29,127 +76,97 @@ fn named(alloc: Global, bytes: &[u8]) -> Result<&'static str, AllocError> {
     })
 }
 
-const NAMES: &[Case<&[u8]>] = &[
-    ("a letter", b"a", "stack, resource"),
-    ("no bytes", b"", "none"),
-    ("each kind of character", b"Az09_.-", "stack, resource"),
-    ("a digit first", b"1a", "resource"),
-    ("a hyphen first", b"-", "resource"),
-    ("a space", b"a b", "none"),
-    ("a slash", b"a/b", "none"),
-    ("a letter outside ASCII", b"\xC3\xA9", "none"),
-];
-
-#[test]
-fn names_are_read(rt: HostRuntime) -> Result<(), AllocError> {
-    all_told(&rt, &Names, NAMES)
-}
-
-// What may have a name of so many letters, with this one behind the first.
-struct LongNames;
-
-impl Teller<(usize, char)> for LongNames {
-    fn told(&self, alloc: Global, given: (usize, char)) -> Result<Text, AllocError> {
-        let name = long_name(alloc, given.0, given.1)?;
-        Text::from_str(alloc, named(alloc, name.as_bytes())?)
-    }
-}
-
-fn long_name(alloc: Global, letters: usize, second: char) -> Result<String, AllocError> {
+fn long_named(alloc: Global, letters: usize, second: char) -> Result<&'static str, AllocError> {
     let mut text = String::new(alloc);
     for i in 0..letters {
         text.push(if i == 1 { second } else { 'a' })?;
     }
-    Ok(text)
+    named(alloc, text.as_bytes())
 }
 
-const LONG_NAMES: &[Case<(usize, char)>] = &[
-    ("255 letters", (255, 'a'), "stack, resource"),
-    ("256 letters", (256, 'a'), "none"),
+const NAMES: &[Case<Of>] = &[
+    ("a letter", Of::Name(b"a"), "stack, resource"),
+    ("no bytes", Of::Name(b""), "none"),
     (
-        "255 letters, one of them of two bytes",
-        (255, '\u{e9}'),
+        "each kind of character",
+        Of::Name(b"Az09_.-"),
+        "stack, resource",
+    ),
+    ("a digit first", Of::Name(b"1a"), "resource"),
+    ("a hyphen first", Of::Name(b"-"), "resource"),
+    ("a space", Of::Name(b"a b"), "none"),
+    ("a slash", Of::Name(b"a/b"), "none"),
+    ("a letter outside ASCII", Of::Name(b"\xC3\xA9"), "none"),
+    ("255 letters", Of::LongName(255, 'a'), "stack, resource"),
+    ("256 letters", Of::LongName(256, 'a'), "none"),
+    (
+        "255 letters, one of two bytes",
+        Of::LongName(255, '\u{e9}'),
         "none",
     ),
 ];
 
 #[test]
-fn names_have_255_letters(rt: HostRuntime) -> Result<(), AllocError> {
-    all_told(&rt, &LongNames, LONG_NAMES)
+fn names_are_read(rt: HostRuntime) -> Result<(), AllocError> {
+    all_told(&rt, NAMES)
 }
 
-// Whether bytes are a token, whose copy and text are then what they were made of.
-struct Tokens;
-
-impl Teller<&'static [u8]> for Tokens {
-    fn told(&self, alloc: Global, given: &'static [u8]) -> Result<Text, AllocError> {
-        match Token::read(alloc, given)? {
-            Some(token) => written(alloc, &token),
-            None => Text::from_str(alloc, "none"),
-        }
+fn read_token(alloc: Global, bytes: &[u8]) -> Result<&'static str, AllocError> {
+    match Token::read(alloc, bytes)? {
+        Some(token) => written(alloc, &token, bytes),
+        None => Ok("none"),
     }
 }
 
-// A token's text, if its copy equals it.
-fn written(alloc: Global, token: &Token) -> Result<Text, AllocError> {
-    if is_copied(token)? {
-        token.text(alloc)
+// Whether a token's text is these bytes, and its copy the token.
+fn written(alloc: Global, token: &Token, bytes: &[u8]) -> Result<&'static str, AllocError> {
+    let same = is_copied(token)?;
+    let text = token.text(alloc)?;
+    Ok(if same && text.as_str().as_bytes() == bytes {
+        "itself"
     } else {
-        Text::from_str(alloc, "another copy")
-    }
+        "another"
+    })
 }
 
-const TOKENS: &[Case<&[u8]>] = &[
-    ("the least number", b"s/a/1", "s/a/1"),
-    ("a zero in front", b"s/a/01", "none"),
-    ("two parts", b"s/a", "none"),
-    ("a number of zero", b"s/a/0", "none"),
-    ("a sign", b"s/a/+1", "none"),
+const TOKENS: &[Case<Of>] = &[
+    ("the least number", Of::Token(b"s/a/1"), "itself"),
+    ("a zero in front", Of::Token(b"s/a/01"), "none"),
+    ("two parts", Of::Token(b"s/a"), "none"),
+    ("a number of zero", Of::Token(b"s/a/0"), "none"),
+    ("a sign", Of::Token(b"s/a/+1"), "none"),
     (
         "the greatest number",
-        b"s/a/4611686018427387903",
-        "s/a/4611686018427387903",
+        Of::Token(b"s/a/4611686018427387903"),
+        "itself",
     ),
-    ("one more", b"s/a/4611686018427387904", "none"),
-    ("twenty digits", b"s/a/99999999999999999999", "none"),
-    ("a slash at the end", b"s/a/1/", "none"),
-    ("no name of a stack", b"1/a/1", "none"),
-    ("no bytes", b"", "none"),
+    ("one more", Of::Token(b"s/a/4611686018427387904"), "none"),
+    (
+        "twenty digits",
+        Of::Token(b"s/a/99999999999999999999"),
+        "none",
+    ),
+    ("a slash at the end", Of::Token(b"s/a/1/"), "none"),
+    ("no name of a stack", Of::Token(b"1/a/1"), "none"),
+    ("no bytes", Of::Token(b""), "none"),
 ];
 
 #[test]
 fn tokens_are_read_and_written(rt: HostRuntime) -> Result<(), AllocError> {
-    all_told(&rt, &Tokens, TOKENS)
+    all_told(&rt, TOKENS)
 }
 
-// What may hold so much.
-#[derive(Clone, Copy)]
-enum Held {
-    Number(u64),
-    Properties(usize),
-    Parameters(usize),
-}
-
-struct Fits;
-
-impl Teller<Held> for Fits {
-    fn told(&self, alloc: Global, given: Held) -> Result<Text, AllocError> {
-        let fits = match given {
-            Held::Number(n) => RowNo::new(n).is_some(),
-            Held::Properties(lists) => Properties::from_props(nested(alloc, lists)?).is_some(),
-            Held::Parameters(lists) => Parameters::from_props(nested(alloc, lists)?).is_some(),
-        };
-        Text::from_str(alloc, if fits { "fits" } else { "none" })
-    }
-}
-
-// A map whose one value is so many lists, one in the other.
-fn nested(alloc: Global, lists: usize) -> Result<Props, AllocError> {
+fn nested(alloc: Global, held: Held, lists: usize) -> Result<&'static str, AllocError> {
     let mut props = Props::new(alloc);
-    props.put(Text::from_str(alloc, "p")?, lists_of(alloc, lists)?)?;
-    Ok(props)
+    put(alloc, &mut props, "p", lists_of(alloc, lists)?)?;
+    let fits = match held {
+        Held::Properties => Properties::from_props(props).is_some(),
+        Held::Parameters => Parameters::from_props(props).is_some(),
+    };
+    Ok(if fits { "fits" } else { "none" })
 }
 
+// So many lists, one in the other.
 fn lists_of(alloc: Global, lists: usize) -> Result<Value, AllocError> {
     let mut value = Value::Null;
     for _ in 0..lists {
@@ -160,55 +177,76 @@ fn lists_of(alloc: Global, lists: usize) -> Result<Value, AllocError> {
     Ok(value)
 }
 
-const HELD: &[Case<Held>] = &[
-    ("no number", Held::Number(0), "none"),
-    ("the least number", Held::Number(1), "fits"),
-    ("the greatest number", Held::Number((1 << 62) - 1), "fits"),
-    ("one more", Held::Number(1 << 62), "none"),
-    ("properties 64 deep", Held::Properties(63), "fits"),
-    ("properties 65 deep", Held::Properties(64), "none"),
-    ("parameters 64 deep each", Held::Parameters(64), "fits"),
-    ("parameters 65 deep", Held::Parameters(65), "none"),
-];
-
-#[test]
-fn numbers_and_nesting_have_their_range(rt: HostRuntime) -> Result<(), AllocError> {
-    all_told(&rt, &Fits, HELD)
-}
-
-// Whether the names rise.
-struct Rising;
-
-impl Teller<&'static [&'static str]> for Rising {
-    fn told(&self, alloc: Global, given: &'static [&'static str]) -> Result<Text, AllocError> {
-        let names = names_of(alloc, given)?;
-        let rises = is_rising(names.as_slice());
-        Text::from_str(alloc, if rises { "rise" } else { "don't" })
-    }
-}
-
-fn names_of(alloc: Global, texts: &[&str]) -> Result<Seq<ResName>, AllocError> {
+fn rising(alloc: Global, texts: &[&str]) -> Result<&'static str, AllocError> {
     let mut names = Seq::new(alloc);
     for text in texts {
         names.push(name_of(alloc, text)?)?;
     }
-    Ok(names)
+    Ok(if is_rising(names.as_slice()) {
+        "rise"
+    } else {
+        "don't"
+    })
 }
 
 fn name_of(alloc: Global, text: &str) -> Result<ResName, AllocError> {
     ResName::read(alloc, text.as_bytes())?.ok_or(AllocError)
 }
 
-const NEEDS: &[Case<&[&str]>] = &[
-    ("no need", &[], "rise"),
-    ("two in order", &["b", "c"], "rise"),
-    ("one twice", &["b", "b"], "don't"),
-    ("two out of order", &["c", "b"], "don't"),
+const RANGES: &[Case<Of>] = &[
+    ("no number", Of::Number(0), "none"),
+    ("the least number", Of::Number(1), "fits"),
+    ("the greatest number", Of::Number((1 << 62) - 1), "fits"),
+    ("one more", Of::Number(1 << 62), "none"),
+    (
+        "properties 64 deep",
+        Of::Nested(Held::Properties, 63),
+        "fits",
+    ),
+    (
+        "properties 65 deep",
+        Of::Nested(Held::Properties, 64),
+        "none",
+    ),
+    (
+        "a parameter 64 deep",
+        Of::Nested(Held::Parameters, 64),
+        "fits",
+    ),
+    (
+        "a parameter 65 deep",
+        Of::Nested(Held::Parameters, 65),
+        "none",
+    ),
+    ("no needs", Of::Needs(&[]), "rise"),
+    ("two needs in order", Of::Needs(&["b", "c"]), "rise"),
+    ("one need twice", Of::Needs(&["b", "b"]), "don't"),
+    ("two needs out of order", Of::Needs(&["c", "b"]), "don't"),
+    (
+        "a refusal with a code",
+        Of::Code(Refusal::TooManyEngines),
+        "E17",
+    ),
+    ("a refusal without", Of::Code(Refusal::Memory), "none"),
 ];
 
 #[test]
-fn needs_rise(rt: HostRuntime) -> Result<(), AllocError> {
-    all_told(&rt, &Rising, NEEDS)
+fn numbers_nesting_and_needs_have_their_limits(rt: HostRuntime) -> Result<(), AllocError> {
+    all_told(&rt, RANGES)
+}
+
+fn copied(alloc: Global, part: Part) -> Result<&'static str, AllocError> {
+    let same = match part {
+        Part::Item => is_an_item_copied(alloc),
+        Part::Facts => are_facts_copied(alloc),
+        Part::Answer => is_an_answer_copied(alloc),
+        Part::Request => is_copied(&Request::Update(Properties::new(alloc))),
+        Part::Condition => is_a_condition_copied(alloc),
+        Part::File => is_a_file_copied(alloc),
+        Part::Output => is_an_output_copied(alloc),
+        Part::Plan => is_a_plan_copied(alloc),
+    };
+    Ok(if same? { "itself" } else { "another" })
 }
 
 // A kind without attributes.
@@ -221,43 +259,15 @@ fn kind_of(alloc: Global) -> Result<Kind, AllocError> {
 }
 
 // An item that needs nothing.
-fn item_of(alloc: Global) -> Result<Item, AllocError> {
+fn is_an_item_copied(alloc: Global) -> Result<bool, AllocError> {
     let name = name_of(alloc, "a")?;
-    Ok(Item {
+    is_copied(&Item {
         name,
         kind: kind_of(alloc)?,
         props: Properties::new(alloc),
         needs: Needs::new(alloc),
         policy: Policy::Retain,
     })
-}
-
-fn is_an_item_copied(alloc: Global) -> Result<bool, AllocError> {
-    is_copied(&item_of(alloc)?)
-}
-
-// Whether an item of another policy is told from it.
-fn are_policies_told_apart(alloc: Global) -> Result<bool, AllocError> {
-    let item = item_of(alloc)?;
-    let mut other = item.copy()?;
-    other.policy = Policy::Delete;
-    Ok(!other.equals(&item))
-}
-
-// Whether two items of one name are in order.
-fn are_twins_in_order(alloc: Global) -> Result<bool, AllocError> {
-    let mut items = Seq::new(alloc);
-    items.push(item_of(alloc)?)?;
-    items.push(item_of(alloc)?)?;
-    Ok(are_in_order(items.as_slice()))
-}
-
-#[test]
-fn items_are_copied(rt: HostRuntime) -> Result<(), AllocError> {
-    assert!(rt; is_an_item_copied(rt.alloc())?);
-    assert!(rt; are_policies_told_apart(rt.alloc())?);
-    assert!(rt; !are_twins_in_order(rt.alloc())?);
-    Ok(())
 }
 
 // The facts of a resource without attributes.
@@ -270,8 +280,10 @@ fn facts_of(alloc: Global) -> Result<Facts, AllocError> {
 
 fn known_of(alloc: Global) -> Result<KnownFacts, AllocError> {
     let name = name_of(alloc, "a")?;
-    let facts = facts_of(alloc)?;
-    Ok(KnownFacts { name, facts })
+    Ok(KnownFacts {
+        name,
+        facts: facts_of(alloc)?,
+    })
 }
 
 fn are_facts_copied(alloc: Global) -> Result<bool, AllocError> {
@@ -281,21 +293,7 @@ fn are_facts_copied(alloc: Global) -> Result<bool, AllocError> {
 }
 
 fn is_an_answer_copied(alloc: Global) -> Result<bool, AllocError> {
-    let answer = Answered::Ready(facts_of(alloc)?);
-    Ok(is_copied(&answer)? && !answer.equals(&Answered::Begun))
-}
-
-fn is_a_request_copied(alloc: Global) -> Result<bool, AllocError> {
-    let request = Request::Update(Properties::new(alloc));
-    Ok(is_copied(&request)? && !request.equals(&Request::Poll))
-}
-
-#[test]
-fn words_of_calls_are_copied(rt: HostRuntime) -> Result<(), AllocError> {
-    assert!(rt; are_facts_copied(rt.alloc())?);
-    assert!(rt; is_an_answer_copied(rt.alloc())?);
-    assert!(rt; is_a_request_copied(rt.alloc())?);
-    Ok(())
+    is_copied(&Answered::Ready(facts_of(alloc)?))
 }
 
 fn is_a_condition_copied(alloc: Global) -> Result<bool, AllocError> {
@@ -328,17 +326,18 @@ fn is_a_plan_copied(alloc: Global) -> Result<bool, AllocError> {
     ))
 }
 
-#[test]
-fn plans_and_their_parts_are_copied(rt: HostRuntime) -> Result<(), AllocError> {
-    assert!(rt; is_a_condition_copied(rt.alloc())?);
-    assert!(rt; is_a_file_copied(rt.alloc())?);
-    assert!(rt; is_an_output_copied(rt.alloc())?);
-    assert!(rt; is_a_plan_copied(rt.alloc())?);
-    Ok(())
-}
+const COPIES: &[Case<Of>] = &[
+    ("an item", Of::Copy(Part::Item), "itself"),
+    ("what is known", Of::Copy(Part::Facts), "itself"),
+    ("an answer", Of::Copy(Part::Answer), "itself"),
+    ("a request", Of::Copy(Part::Request), "itself"),
+    ("a condition", Of::Copy(Part::Condition), "itself"),
+    ("a file", Of::Copy(Part::File), "itself"),
+    ("an output", Of::Copy(Part::Output), "itself"),
+    ("a plan", Of::Copy(Part::Plan), "itself"),
+];
 
 #[test]
-fn refusals_have_their_codes(rt: HostRuntime) {
-    assert!(rt; matches!(Refusal::TooManyEngines.code(), Some("E17")));
-    assert!(rt; Refusal::Memory.code().is_none());
+fn parts_of_plans_are_copied(rt: HostRuntime) -> Result<(), AllocError> {
+    all_told(&rt, COPIES)
 }

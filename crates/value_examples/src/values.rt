@@ -1,17 +1,52 @@
 //! What no clause says: values from outside, printed texts, and that each call succeeds with ample memory.
-use crate::cases::{Case, Teller, all_told, is_copied, same};
-use heat_value::{Equals, Items, Path, Props, Seq, Step, Text, Value, ValueFault, text_of};
+use crate::cases::{Asked, Case, all_told, is_copied, put};
+use heat_value::{
+    Equals, Items, Path, Props, Seq, Step, Text, TryCopy, Value, ValueFault, text_of,
+};
 use std::alloc::{AllocError, Global};
 
-// What reading gives, as a text.
-struct Readings;
+// What is asked: what bytes are read as, and so many lists, one in the other, between two texts; the text that
+// a value stands for; whether pairs and options are equal; what is made.
+#[derive(Clone, Copy)]
+enum Of {
+    Reading(&'static [u8]),
+    Deep(&'static str, usize, &'static str),
+    Standing(&'static [u8]),
+    Pairs((u32, u32), (u32, u32)),
+    Options(Option<u32>, Option<u32>),
+    Value,
+    Path,
+    ValueCopy,
+    ListCopy,
+    ListEdit,
+}
 
-impl Teller<&'static [u8]> for Readings {
-    fn told(&self, alloc: Global, given: &'static [u8]) -> Result<Text, AllocError> {
-        outcome(alloc, given)
+impl Asked for Of {
+    fn told(self, alloc: Global) -> Result<Text, AllocError> {
+        match self {
+            Of::Reading(bytes) => outcome(alloc, bytes),
+            Of::Deep(front, lists, back) => deep(alloc, front, lists, back),
+            Of::Standing(bytes) => standing(alloc, bytes),
+            Of::Value => value_text(alloc),
+            Of::Path => path_text(alloc),
+            other => Text::from_str(alloc, if holds(alloc, other)? { "yes" } else { "no" }),
+        }
     }
 }
 
+// Whether it is so.
+fn holds(alloc: Global, of: Of) -> Result<bool, AllocError> {
+    match of {
+        Of::Pairs(one, other) => Ok(one.equals(&other)),
+        Of::Options(one, other) => Ok(one.equals(&other)),
+        Of::ValueCopy => is_copied(&made(alloc)?),
+        Of::ListCopy => is_copied(&three(alloc)?),
+        Of::ListEdit => is_a_list_edited(alloc),
+        _ => Ok(false),
+    }
+}
+
+// What reading gives, as a text.
 fn outcome(alloc: Global, bytes: &[u8]) -> Result<Text, AllocError> {
     match Value::read(alloc, bytes) {
         Ok(value) => value.text(alloc),
@@ -22,180 +57,172 @@ fn outcome(alloc: Global, bytes: &[u8]) -> Result<Text, AllocError> {
     }
 }
 
-const READINGS: &[Case<&[u8]>] = &[
-    ("a scalar", b"null", "null"),
-    ("no bytes", b"", "not json"),
-    ("spaces round a value", b" [ 1 , 2 ]\n", "[1,2]"),
+const READINGS: &[Case<Of>] = &[
+    ("a scalar", Of::Reading(b"null"), "null"),
+    ("no bytes", Of::Reading(b""), "not json"),
+    (
+        "spaces round a value",
+        Of::Reading(b" [ 1 , 2 ]\n"),
+        "[1,2]",
+    ),
     (
         "the greatest number",
-        b"9223372036854775807",
+        Of::Reading(b"9223372036854775807"),
         "9223372036854775807",
     ),
-    ("one more", b"9223372036854775808", "[]"),
+    ("one more", Of::Reading(b"9223372036854775808"), "[]"),
     (
         "the least number",
-        b"-9223372036854775808",
+        Of::Reading(b"-9223372036854775808"),
         "-9223372036854775808",
     ),
-    ("one less", b"-9223372036854775809", "[]"),
-    ("minus zero", b"-0", "[]"),
-    ("an exponent", b"1e2", "[]"),
-    ("a fraction", b"1.0", "[]"),
-    ("past any float", b"1e999", "not json"),
-    ("a leading zero", b"01", "not json"),
-    ("keys are sorted", b"{\"b\":1,\"a\":2}", "{\"a\":2,\"b\":1}"),
+    ("one less", Of::Reading(b"-9223372036854775809"), "[]"),
+    ("minus zero", Of::Reading(b"-0"), "[]"),
+    ("an exponent", Of::Reading(b"1e2"), "[]"),
+    ("a fraction", Of::Reading(b"1.0"), "[]"),
+    ("past any float", Of::Reading(b"1e999"), "not json"),
+    ("a leading zero", Of::Reading(b"01"), "not json"),
+    (
+        "keys are sorted",
+        Of::Reading(b"{\"b\":1,\"a\":2}"),
+        "{\"a\":2,\"b\":1}",
+    ),
     (
         "of equal keys the last, a bad one first",
-        b"{\"a\":1.5,\"a\":1}",
+        Of::Reading(b"{\"a\":1.5,\"a\":1}"),
         "{\"a\":1}",
     ),
     (
         "of equal keys the last, a bad one last",
-        b"{\"a\":1,\"a\":1.5}",
+        Of::Reading(b"{\"a\":1,\"a\":1.5}"),
         "[\"a\"]",
     ),
     (
         "an overwritten number past any float",
-        b"{\"a\":1e999,\"a\":1}",
+        Of::Reading(b"{\"a\":1e999,\"a\":1}"),
         "not json",
     ),
     (
         "the first bad number goes by keys",
-        b"{\"b\":1.5,\"a\":[0,2.5]}",
+        Of::Reading(b"{\"b\":1.5,\"a\":[0,2.5]}"),
         "[\"a\",1]",
     ),
     (
         "a later bad number",
-        b"[1,{\"k\":[0.5,0.5]},1.5]",
+        Of::Reading(b"[1,{\"k\":[0.5,0.5]},1.5]"),
         "[1,\"k\",0]",
     ),
-    ("a lone surrogate", b"\"\\ud800\"", "not json"),
+    ("a lone surrogate", Of::Reading(b"\"\\ud800\""), "not json"),
     (
         "a pair of surrogates",
-        b"\"\\ud83d\\ude00\"",
+        Of::Reading(b"\"\\ud83d\\ude00\""),
         "\"\u{1f600}\"",
     ),
-    ("a control character", b"\"\x01\"", "not json"),
-    ("no UTF-8", b"\"\xFF\"", "not json"),
-    ("a byte order mark", b"\xEF\xBB\xBFnull", "not json"),
-    ("two values", b"1 2", "not json"),
-    ("an empty key", b"{\"\":{}}", "{\"\":{}}"),
-    ("an open list", b"[1", "not json"),
+    ("a control character", Of::Reading(b"\"\x01\""), "not json"),
+    ("no UTF-8", Of::Reading(b"\"\xFF\""), "not json"),
+    (
+        "a byte order mark",
+        Of::Reading(b"\xEF\xBB\xBFnull"),
+        "not json",
+    ),
+    ("two values", Of::Reading(b"1 2"), "not json"),
+    ("an empty key", Of::Reading(b"{\"\":{}}"), "{\"\":{}}"),
+    ("an open list", Of::Reading(b"[1"), "not json"),
     (
         "escapes of one letter",
-        b"\"\\\"\\\\\\/\\b\\f\\n\\r\\t\"",
+        Of::Reading(b"\"\\\"\\\\\\/\\b\\f\\n\\r\\t\""),
         "\"\\\"\\\\/\\b\\f\\n\\r\\t\"",
     ),
     (
         "escapes of four digits",
-        b"\"\\u0001\\u001f\\u007f\\u00e9\"",
+        Of::Reading(b"\"\\u0001\\u001f\\u007f\\u00e9\""),
         "\"\\u0001\\u001f\u{7f}\u{e9}\"",
     ),
     (
         "an escape in a key",
-        b"{\"a\\n\":[true,false,null]}",
+        Of::Reading(b"{\"a\\n\":[true,false,null]}"),
         "{\"a\\n\":[true,false,null]}",
     ),
 ];
 
 #[test]
 fn reads_or_names_the_first_fault(rt: HostRuntime) -> Result<(), AllocError> {
-    all_told(&rt, &Readings, READINGS)
+    all_told(&rt, READINGS)
 }
 
-// What reading so many lists gives, one in the other; itself, where it is that text.
-struct Nesting;
-
-impl Teller<usize> for Nesting {
-    fn told(&self, alloc: Global, given: usize) -> Result<Text, AllocError> {
-        let text = nested(alloc, given)?;
-        let read = outcome(alloc, text.as_bytes())?;
-        if read.as_str() == text.as_str() {
-            Text::from_str(alloc, "itself")
-        } else {
-            Ok(read)
-        }
-    }
-}
-
-fn nested(alloc: Global, lists: usize) -> Result<String, AllocError> {
-    let mut text = String::new(alloc);
+// What reading so many lists gives, one in the other, between two texts.
+fn deep(alloc: Global, front: &str, lists: usize, back: &str) -> Result<Text, AllocError> {
+    let mut text = String::from_str(alloc, front)?;
     for _ in 0..lists {
         text.push_str("[")?;
     }
     for _ in 0..lists {
         text.push_str("]")?;
     }
-    Ok(text)
+    text.push_str(back)?;
+    outcome(alloc, text.as_bytes())
 }
 
-const NESTED: &[Case<usize>] = &[
-    ("the deepest", 64, "itself"),
-    ("one more", 65, "too deep"),
-    ("the deepest that is read", 127, "too deep"),
-    ("one more than is read", 128, "not json"),
+// 64 lists.
+const DEEPEST: &str = "[[[[[[[[[[[[[[[[[[[[[[[[[[[[[[[[[[[[[[[[[[[[[[[[[[[[[[[[[[[[[[[[\
+                       ]]]]]]]]]]]]]]]]]]]]]]]]]]]]]]]]]]]]]]]]]]]]]]]]]]]]]]]]]]]]]]]]";
+
+const NESTED: &[Case<Of>] = &[
+    ("the deepest", Of::Deep("", 64, ""), DEEPEST),
+    ("one more", Of::Deep("", 65, ""), "too deep"),
+    (
+        "the deepest that is read",
+        Of::Deep("", 127, ""),
+        "too deep",
+    ),
+    ("one more than is read", Of::Deep("", 128, ""), "not json"),
+    (
+        "an overwritten member",
+        Of::Deep("{\"a\":", 65, ",\"a\":1}"),
+        "{\"a\":1}",
+    ),
+    (
+        "the deepest of them",
+        Of::Deep("{\"a\":", 126, ",\"a\":1}"),
+        "{\"a\":1}",
+    ),
+    (
+        "one more of them",
+        Of::Deep("{\"a\":", 127, ",\"a\":1}"),
+        "not json",
+    ),
+    (
+        "two more of them",
+        Of::Deep("{\"a\":", 128, ",\"a\":1}"),
+        "not json",
+    ),
 ];
 
 #[test]
-fn nests_64_deep(rt: HostRuntime) -> Result<(), AllocError> {
-    all_told(&rt, &Nesting, NESTED)
-}
-
-// What reading a map gives whose one key stands twice, first with so many lists and then with 1.
-struct Overwritten;
-
-impl Teller<usize> for Overwritten {
-    fn told(&self, alloc: Global, given: usize) -> Result<Text, AllocError> {
-        let deep = nested(alloc, given)?;
-        let text = format!(in alloc; "{{\"a\":{},\"a\":1}}", deep.as_str())?;
-        outcome(alloc, text.as_bytes())
-    }
-}
-
-const OVERWRITTEN: &[Case<usize>] = &[
-    ("deeper than a value", 65, "{\"a\":1}"),
-    ("the deepest", 126, "{\"a\":1}"),
-    ("one more", 127, "not json"),
-    ("two more", 128, "not json"),
-];
-
-#[test]
-fn an_overwritten_member_nests_127_deep(rt: HostRuntime) -> Result<(), AllocError> {
-    all_told(&rt, &Overwritten, OVERWRITTEN)
+fn nests_64_deep_and_overwritten_127(rt: HostRuntime) -> Result<(), AllocError> {
+    all_told(&rt, NESTED)
 }
 
 // The text that a value stands for.
-struct Standing;
-
-impl Teller<&'static [u8]> for Standing {
-    fn told(&self, alloc: Global, given: &'static [u8]) -> Result<Text, AllocError> {
-        text_of(alloc, &read(alloc, given)?)
-    }
-}
-
-fn read(alloc: Global, bytes: &[u8]) -> Result<Value, AllocError> {
+fn standing(alloc: Global, bytes: &[u8]) -> Result<Text, AllocError> {
     match Value::read(alloc, bytes) {
-        Ok(value) => Ok(value),
+        Ok(value) => text_of(alloc, &value),
         Err(_) => Err(AllocError),
     }
 }
 
-const TEXTS: &[Case<&[u8]>] = &[
-    ("null", b"null", ""),
-    ("a text", b"\"a b\"", "a b"),
-    ("a number", b"-12", "-12"),
-    ("a flag", b"true", "true"),
-    ("a list", b"[1,\"a\"]", "[1,\"a\"]"),
-    ("a map", b"{\"k\":null}", "{\"k\":null}"),
+const TEXTS: &[Case<Of>] = &[
+    ("null", Of::Standing(b"null"), ""),
+    ("a text", Of::Standing(b"\"a b\""), "a b"),
+    ("a number", Of::Standing(b"-12"), "-12"),
+    ("a flag", Of::Standing(b"true"), "true"),
+    ("a list", Of::Standing(b"[1,\"a\"]"), "[1,\"a\"]"),
+    ("a map", Of::Standing(b"{\"k\":null}"), "{\"k\":null}"),
 ];
 
 #[test]
 fn stands_for_a_text(rt: HostRuntime) -> Result<(), AllocError> {
-    all_told(&rt, &Standing, TEXTS)
-}
-
-fn put(alloc: Global, props: &mut Props, key: &str, value: Value) -> Result<(), AllocError> {
-    props.put(Text::from_str(alloc, key)?, value)
+    all_told(&rt, TEXTS)
 }
 
 // The map of a and b, of which b stood there before.
@@ -215,79 +242,29 @@ fn made(alloc: Global) -> Result<Value, AllocError> {
     Ok(Value::Items(items))
 }
 
-fn is_made_as_it_is_read(alloc: Global) -> Result<bool, AllocError> {
-    let made = made(alloc)?;
-    Ok(made.equals(&read(alloc, b"[{\"a\":null,\"b\":true}]")?))
-}
-
-fn is_a_value_copied(alloc: Global) -> Result<bool, AllocError> {
-    let made = made(alloc)?;
-    Ok(is_copied(&made)? && !made.equals(&Value::Null))
-}
-
-fn is_a_member_copied(alloc: Global) -> Result<bool, AllocError> {
-    match two_members(alloc)?.as_slice().first() {
-        Some(member) => is_copied(member),
-        None => Ok(false),
-    }
-}
-
-#[test]
-fn values_are_made_and_compared(rt: HostRuntime) -> Result<(), AllocError> {
-    assert!(rt; is_made_as_it_is_read(rt.alloc())?);
-    assert!(rt; is_a_value_copied(rt.alloc())?);
-    assert!(rt; is_a_member_copied(rt.alloc())?);
-    Ok(())
-}
-
-// The flag under a key of the map of two.
-fn flag_under(alloc: Global, key: &str) -> Result<Option<bool>, AllocError> {
-    let props = two_members(alloc)?;
-    let key = Text::from_str(alloc, key)?;
-    Ok(match props.get(&key) {
-        Some(Value::Flag(flag)) => Some(*flag),
-        _ => None,
-    })
-}
-
-#[test]
-fn members_are_found(rt: HostRuntime) -> Result<(), AllocError> {
-    assert!(rt; matches!(flag_under(rt.alloc(), "b")?, Some(true)));
-    assert!(rt; flag_under(rt.alloc(), "c")?.is_none());
-    Ok(())
-}
-
-#[test]
-fn pairs_and_options_are_compared(rt: HostRuntime) {
-    assert!(rt; (1u32, 2u32).equals(&(1, 2)));
-    assert!(rt; !(1u32, 2u32).equals(&(2, 1)));
-    assert!(rt; Some(1u32).equals(&Some(1)));
-    assert!(rt; !Some(1u32).equals(&None));
-}
-
-// The list a, c.
-fn two(alloc: Global) -> Result<Seq<Text>, AllocError> {
-    let mut list: Seq<Text> = Seq::with_capacity(alloc, 2)?;
-    push(&mut list, "a")?;
-    push(&mut list, "c")?;
-    Ok(list)
-}
-
-fn push(list: &mut Seq<Text>, text: &str) -> Result<(), AllocError> {
-    list.push(Text::from_str(list.allocator(), text)?)
+fn value_text(alloc: Global) -> Result<Text, AllocError> {
+    made(alloc)?.text(alloc)
 }
 
 // The list a, b, c, of which b comes last.
 fn three(alloc: Global) -> Result<Seq<Text>, AllocError> {
-    let mut list = two(alloc)?;
-    if list.len() == 2 {
-        list.insert(1, Text::from_str(alloc, "b")?)?;
-    }
+    let mut list: Seq<Text> = Seq::with_capacity(alloc, 2)?;
+    insert(&mut list, 0, "a")?;
+    insert(&mut list, 1, "c")?;
+    insert(&mut list, 1, "b")?;
     Ok(list)
 }
 
+// Puts a text at a place, if the list reaches it.
+fn insert(list: &mut Seq<Text>, at: usize, text: &str) -> Result<(), AllocError> {
+    if at <= list.len() {
+        list.insert(at, Text::from_str(list.allocator(), text)?)?;
+    }
+    Ok(())
+}
+
 // Takes the first away, puts a text in the place of the next and the first in that of the last, and cuts
-// all but one; whether the first was taken.
+// all but one; whether the first was a, and d is left.
 fn edit(list: &mut Seq<Text>, by: Text) -> bool {
     if list.len() < 3 {
         return false;
@@ -297,35 +274,19 @@ fn edit(list: &mut Seq<Text>, by: Text) -> bool {
     *list.item_mut(0) = by;
     list.set(1, taken);
     list.truncate(1);
-    first
-}
-
-fn is_alone(list: &Seq<Text>, text: &str) -> bool {
-    list.len() == 1 && list.as_slice()[0].as_str() == text
+    first && list.len() == 1 && list.as_slice()[0].as_str() == "d"
 }
 
 fn is_a_list_edited(alloc: Global) -> Result<bool, AllocError> {
     let mut list = three(alloc)?;
-    let first = edit(&mut list, Text::from_str(alloc, "d")?);
-    Ok(first && is_alone(&list, "d"))
-}
-
-fn is_a_list_copied(alloc: Global) -> Result<bool, AllocError> {
-    is_copied(&three(alloc)?)
-}
-
-#[test]
-fn lists_are_edited(rt: HostRuntime) -> Result<(), AllocError> {
-    assert!(rt; is_a_list_edited(rt.alloc())?);
-    assert!(rt; is_a_list_copied(rt.alloc())?);
-    Ok(())
+    Ok(edit(&mut list, Text::from_str(alloc, "d")?))
 }
 
 fn key(alloc: Global, text: &str) -> Result<Step, AllocError> {
     Ok(Step::Key(Text::from_str(alloc, text)?))
 }
 
-// The path of the number 0 in the list under a key, under resources.
+// The number 0 in the list under a key, under resources.
 fn path_of(alloc: Global) -> Result<Path, AllocError> {
     let mut path = Path::root(alloc);
     path.push(key(alloc, "a\"")?)?;
@@ -333,18 +294,24 @@ fn path_of(alloc: Global) -> Result<Path, AllocError> {
     path.under(key(alloc, "resources")?)
 }
 
-fn is_a_path_copied(alloc: Global) -> Result<bool, AllocError> {
-    is_copied(&path_of(alloc)?)
+// The text of its copy.
+fn path_text(alloc: Global) -> Result<Text, AllocError> {
+    path_of(alloc)?.copy()?.text(alloc)
 }
 
-fn printed(alloc: Global) -> Result<Text, AllocError> {
-    path_of(alloc)?.text(alloc)
-}
+const MADE: &[Case<Of>] = &[
+    ("a value", Of::Value, "[{\"a\":null,\"b\":true}]"),
+    ("a path", Of::Path, "[\"resources\",\"a\\\"\",0]"),
+    ("a value is copied", Of::ValueCopy, "yes"),
+    ("a list is copied", Of::ListCopy, "yes"),
+    ("a list is edited", Of::ListEdit, "yes"),
+    ("equal pairs", Of::Pairs((1, 2), (1, 2)), "yes"),
+    ("pairs in another order", Of::Pairs((1, 2), (2, 1)), "no"),
+    ("equal options", Of::Options(Some(1), Some(1)), "yes"),
+    ("one and none", Of::Options(Some(1), None), "no"),
+];
 
 #[test]
-fn paths_are_printed(rt: HostRuntime) -> Result<(), AllocError> {
-    assert!(rt; is_a_path_copied(rt.alloc())?);
-    let want = "[\"resources\",\"a\\\"\",0]";
-    same(&rt, printed(rt.alloc())?.as_str(), want, "a path");
-    Ok(())
+fn values_are_made_and_compared(rt: HostRuntime) -> Result<(), AllocError> {
+    all_told(&rt, MADE)
 }
