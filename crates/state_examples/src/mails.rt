@@ -1,11 +1,9 @@
-//! Forty calls of the mail: both forms of it give equal answers to them.
-use crate::parts::{engine_no, letter_no, row_no, stack_name, trav_no};
+//! Forty calls of the mail, in both of its forms: what they answer.
+use crate::parts::{add, engine_no, letter_no, row_no, same, stack_name, trav_no};
 use heat_plan::WORN;
-use heat_value::Seq;
-use indexed_mail::{ListMails, MailAnswer, MailOp, MailTable, run_mails};
+use indexed_mail::{ListMails, MailAnswer, MailOp, MailTable, Mails, run_mails};
 use mail_table::{Job, Letter, Stage};
-use std::alloc::Global;
-use std::test::Fail;
+use std::alloc::{AllocError, Global};
 
 // A call, with numbers of letters and engines, and with stacks by their letters. A job is of an engine, at a
 // row of a stack; who holds a row is asked of the row and its stack.
@@ -71,7 +69,7 @@ const CALLS: [Call; 40] = [
     Call::Holder(1, b's'),
 ];
 
-fn letter(alloc: Global, no: u64, of: u8) -> Result<Letter, Fail> {
+fn letter(alloc: Global, no: u64, of: u8) -> Result<Letter, AllocError> {
     let no = letter_no(no)?;
     let trav = trav_no(1)?;
     let stack = stack_name(alloc, of)?;
@@ -83,7 +81,7 @@ fn letter(alloc: Global, no: u64, of: u8) -> Result<Letter, Fail> {
     })
 }
 
-fn job(alloc: Global, by: u64, at: u64, of: u8) -> Result<Job, Fail> {
+fn job(alloc: Global, by: u64, at: u64, of: u8) -> Result<Job, AllocError> {
     let engine = engine_no(by)?;
     let row = row_no(at)?;
     let letter = letter(alloc, 9, of)?;
@@ -96,7 +94,7 @@ fn job(alloc: Global, by: u64, at: u64, of: u8) -> Result<Job, Fail> {
 }
 
 // The call of jobs.
-fn op_of_jobs(alloc: Global, call: Call) -> Result<MailOp, Fail> {
+fn op_of_jobs(alloc: Global, call: Call) -> Result<MailOp, AllocError> {
     match call {
         Call::Hold(by, at, of) => Ok(MailOp::Hold(job(alloc, by, at, of)?)),
         Call::Holder(at, of) => {
@@ -109,7 +107,7 @@ fn op_of_jobs(alloc: Global, call: Call) -> Result<MailOp, Fail> {
     }
 }
 
-fn op_of(alloc: Global, call: Call) -> Result<MailOp, Fail> {
+fn op_of(alloc: Global, call: Call) -> Result<MailOp, AllocError> {
     match call {
         Call::Send(of) => {
             let trav = trav_no(1)?;
@@ -126,7 +124,7 @@ fn op_of(alloc: Global, call: Call) -> Result<MailOp, Fail> {
     }
 }
 
-fn ops_of(alloc: Global, calls: &[Call]) -> Result<Vec<MailOp>, Fail> {
+fn ops_of(alloc: Global, calls: &[Call]) -> Result<Vec<MailOp>, AllocError> {
     let mut ops = Vec::new(alloc);
     for call in calls {
         ops.push(op_of(alloc, *call)?)?;
@@ -134,132 +132,38 @@ fn ops_of(alloc: Global, calls: &[Call]) -> Result<Vec<MailOp>, Fail> {
     Ok(ops)
 }
 
-// What the lists of letters and jobs answer.
-fn plain_answers(alloc: Global, ops: &[MailOp]) -> Result<Seq<MailAnswer>, Fail> {
-    let mut list = ListMails::new(alloc);
-    Ok(run_mails(alloc, &mut list, ops)?)
-}
-
-// What the table with its indexes answers.
-fn indexed_answers(alloc: Global, ops: &[MailOp]) -> Result<Seq<MailAnswer>, Fail> {
-    let mut table = MailTable::new(alloc);
-    Ok(run_mails(alloc, &mut table, ops)?)
-}
-
-fn same_letter(a: &Letter, b: &Letter) -> bool {
-    a.no == b.no && a.stack == b.stack && a.trav == b.trav && a.node == b.node
-}
-
-fn same_job(a: &Job, b: &Job) -> bool {
-    a.engine == b.engine
-        && a.row == b.row
-        && a.stage == b.stage
-        && same_letter(&a.letter, &b.letter)
-}
-
-fn same_letters(a: &[Letter], b: &[Letter]) -> bool {
-    if a.len() != b.len() {
-        return false;
-    }
-    for (place, letter) in a.iter().enumerate() {
-        if !same_letter(letter, &b[place]) {
-            return false;
-        }
-    }
-    true
-}
-
-fn same_jobs(a: &[Job], b: &[Job]) -> bool {
-    if a.len() != b.len() {
-        return false;
-    }
-    for (place, job) in a.iter().enumerate() {
-        if !same_job(job, &b[place]) {
-            return false;
-        }
-    }
-    true
-}
-
-// Whether two answers that tell a letter, or letters, are equal.
-fn same_of_letters(a: &MailAnswer, b: &MailAnswer) -> bool {
-    match (a, b) {
-        (MailAnswer::Sent(a), MailAnswer::Sent(b)) => *a == *b,
-        (MailAnswer::Taken(Some(a)), MailAnswer::Taken(Some(b))) => same_letter(a, b),
-        (MailAnswer::Taken(None), MailAnswer::Taken(None)) => true,
-        (MailAnswer::Letters(a), MailAnswer::Letters(b)) => {
-            same_letters(a.as_slice(), b.as_slice())
-        }
-        _ => false,
-    }
-}
-
-// Whether two answers that tell a job, jobs or an engine are equal.
-fn same_of_jobs(a: &MailAnswer, b: &MailAnswer) -> bool {
-    match (a, b) {
-        (MailAnswer::Job(Some(a)), MailAnswer::Job(Some(b))) => same_job(a, b),
-        (MailAnswer::Job(None), MailAnswer::Job(None)) => true,
-        (MailAnswer::Holder(a), MailAnswer::Holder(b)) => *a == *b,
-        (MailAnswer::Jobs(a), MailAnswer::Jobs(b)) => same_jobs(a.as_slice(), b.as_slice()),
-        _ => false,
-    }
-}
-
-// Whether two answers that tell a number or nothing are equal.
-fn same_of_others(a: &MailAnswer, b: &MailAnswer) -> bool {
-    match (a, b) {
-        (MailAnswer::NextNo(a), MailAnswer::NextNo(b)) => *a == *b,
-        (MailAnswer::Worn, MailAnswer::Worn) => true,
-        (MailAnswer::Done, MailAnswer::Done) | (MailAnswer::Barred, MailAnswer::Barred) => true,
-        _ => false,
-    }
-}
-
-fn same(a: &MailAnswer, b: &MailAnswer) -> bool {
-    same_of_letters(a, b) || same_of_jobs(a, b) || same_of_others(a, b)
-}
-
-fn all_same(a: &[MailAnswer], b: &[MailAnswer]) -> bool {
-    if a.len() != b.len() {
-        return false;
-    }
-    for (place, answer) in a.iter().enumerate() {
-        if !same(answer, &b[place]) {
-            return false;
-        }
-    }
-    true
-}
-
 // The numbers of the letters that were taken and of the holders, 0 for none.
-fn numbers(alloc: Global, answers: &[MailAnswer]) -> Result<Vec<u64>, Fail> {
-    let mut numbers = Vec::new(alloc);
+fn words_of(alloc: Global, answers: &[MailAnswer]) -> Result<String, AllocError> {
+    let mut words = String::new(alloc);
     for answer in answers {
         match answer {
-            MailAnswer::Taken(Some(letter)) => numbers.push(letter.no.get())?,
-            MailAnswer::Taken(None) => numbers.push(0)?,
-            MailAnswer::Holder(engine) => numbers.push(engine.map_or(0, |engine| engine.get()))?,
+            MailAnswer::Taken(Some(letter)) => add(alloc, &mut words, letter.no.get())?,
+            MailAnswer::Taken(None) => add(alloc, &mut words, 0)?,
+            MailAnswer::Holder(no) => add(alloc, &mut words, no.map_or(0, |no| no.get()))?,
             _ => {}
         }
     }
-    Ok(numbers)
+    Ok(words)
 }
 
-// The numbers that are told, where both forms answer the same; none where they don't.
-fn told(alloc: Global, ops: &[MailOp]) -> Result<Vec<u64>, Fail> {
-    let plain = plain_answers(alloc, ops)?;
-    let indexed = indexed_answers(alloc, ops)?;
-    if !all_same(plain.as_slice(), indexed.as_slice()) {
-        return Ok(Vec::new(alloc));
-    }
-    numbers(alloc, indexed.as_slice())
+fn told<R: Mails>(alloc: Global, mails: &mut R) -> Result<String, AllocError> {
+    let ops = ops_of(alloc, &CALLS)?;
+    let answers = run_mails(alloc, mails, &ops)?;
+    words_of(alloc, answers.as_slice())
+}
+
+const WANTED: &str = "0 3 5 0 4 2 0 7 4 0 0 2 ";
+
+#[test]
+fn lists_answer_forty_calls(rt: HostRuntime) -> Result<(), AllocError> {
+    let told = told(rt.alloc(), &mut ListMails::new(rt.alloc()))?;
+    same(&rt, told.as_str(), WANTED);
+    Ok(())
 }
 
 #[test]
-fn forty_calls_give_equal_answers_in_both_forms(rt: HostRuntime) -> Result<(), Fail> {
-    let ops = ops_of(rt.alloc(), &CALLS)?;
-    let told = told(rt.alloc(), &ops)?;
-    let wanted: [u64; 12] = [0, 3, 5, 0, 4, 2, 0, 7, 4, 0, 0, 2];
-    assert_eq!(rt; told.as_slice(), wanted.as_slice());
+fn a_table_answers_them_the_same(rt: HostRuntime) -> Result<(), AllocError> {
+    let told = told(rt.alloc(), &mut MailTable::new(rt.alloc()))?;
+    same(&rt, told.as_str(), WANTED);
     Ok(())
 }

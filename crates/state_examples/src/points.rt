@@ -1,9 +1,8 @@
-//! Forty calls of the points of a graph: both forms of them give equal answers to them.
-use crate::parts::{res_name, row_no, stack_name};
+//! Forty calls of the points of a graph, in both of their forms: what they answer.
+use crate::parts::{add, res_name, row_no, same, stack_name};
 use heat_value::Seq;
-use indexed_points::{ListPoints, PointAnswer, PointOp, SyncPoints, run_points};
-use std::alloc::Global;
-use std::test::Fail;
+use indexed_points::{ListPoints, PointAnswer, PointOp, Points, SyncPoints, run_points};
+use std::alloc::{AllocError, Global};
 use sync_points::Input;
 
 // A call. An input comes from a node to a node, and has a row; what is set are inputs from these nodes,
@@ -62,7 +61,7 @@ const CALLS: [Call; 40] = [
     Call::Inputs(1),
 ];
 
-fn input(alloc: Global, from: u32, row: u64) -> Result<Input, Fail> {
+fn input(alloc: Global, from: u32, row: u64) -> Result<Input, AllocError> {
     let row = row_no(row)?;
     let name = res_name(alloc, b'a')?;
     Ok(Input {
@@ -73,7 +72,7 @@ fn input(alloc: Global, from: u32, row: u64) -> Result<Input, Fail> {
     })
 }
 
-fn inputs(alloc: Global, froms: &[u32]) -> Result<Seq<Input>, Fail> {
+fn inputs(alloc: Global, froms: &[u32]) -> Result<Seq<Input>, AllocError> {
     let mut inputs = Seq::new(alloc);
     for from in froms {
         inputs.push(input(alloc, *from, 9)?)?;
@@ -81,7 +80,7 @@ fn inputs(alloc: Global, froms: &[u32]) -> Result<Seq<Input>, Fail> {
     Ok(inputs)
 }
 
-fn op_of(alloc: Global, call: Call) -> Result<PointOp, Fail> {
+fn op_of(alloc: Global, call: Call) -> Result<PointOp, AllocError> {
     match call {
         Call::Gather(from, to, row) => Ok(PointOp::Gather(to, from, input(alloc, from, row)?)),
         Call::Set(node, froms, done) => Ok(PointOp::Set(node, inputs(alloc, froms)?, done)),
@@ -91,7 +90,7 @@ fn op_of(alloc: Global, call: Call) -> Result<PointOp, Fail> {
     }
 }
 
-fn ops_of(alloc: Global, calls: &[Call]) -> Result<Vec<PointOp>, Fail> {
+fn ops_of(alloc: Global, calls: &[Call]) -> Result<Vec<PointOp>, AllocError> {
     let mut ops = Vec::new(alloc);
     for call in calls {
         ops.push(op_of(alloc, *call)?)?;
@@ -100,7 +99,7 @@ fn ops_of(alloc: Global, calls: &[Call]) -> Result<Vec<PointOp>, Fail> {
 }
 
 // Nodes 1 and 2 are behind 0, 3 behind 1 and 2, and 4 behind 0 and itself.
-fn preds(alloc: Global) -> Result<Vec<Seq<u32>>, Fail> {
+fn preds(alloc: Global) -> Result<Vec<Seq<u32>>, AllocError> {
     let mut preds = Vec::new(alloc);
     let edges: [&[u32]; 5] = [&[], &[0], &[0], &[1, 2], &[0, 4]];
     for before in edges.as_slice() {
@@ -109,84 +108,49 @@ fn preds(alloc: Global) -> Result<Vec<Seq<u32>>, Fail> {
     Ok(preds)
 }
 
-// What the list of the points answers.
-fn plain_answers(alloc: Global, ops: &[PointOp]) -> Result<Seq<PointAnswer>, Fail> {
-    let stack = stack_name(alloc, b's')?;
-    let preds = preds(alloc)?;
-    let mut list = ListPoints::new(alloc, &stack, &preds)?;
-    Ok(run_points(alloc, &mut list, ops)?)
-}
-
-// What the points at their nodes' places answer.
-fn indexed_answers(alloc: Global, ops: &[PointOp]) -> Result<Seq<PointAnswer>, Fail> {
-    let stack = stack_name(alloc, b's')?;
-    let preds = preds(alloc)?;
-    let mut table = SyncPoints::new(alloc, &stack, &preds)?;
-    Ok(run_points(alloc, &mut table, ops)?)
-}
-
-fn same_inputs(a: &[Input], b: &[Input]) -> bool {
-    if a.len() != b.len() {
-        return false;
-    }
-    for (place, input) in a.iter().enumerate() {
-        if input.from != b[place].from || input.row != b[place].row {
-            return false;
-        }
-    }
-    true
-}
-
-fn same(a: &PointAnswer, b: &PointAnswer) -> bool {
-    match (a, b) {
-        (PointAnswer::Gathered(a), PointAnswer::Gathered(b)) => *a == *b,
-        (PointAnswer::Inputs(a), PointAnswer::Inputs(b)) => {
-            same_inputs(a.as_slice(), b.as_slice())
-        }
-        (PointAnswer::IsDone(a), PointAnswer::IsDone(b)) => *a == *b,
-        (PointAnswer::Done, PointAnswer::Done) | (PointAnswer::Barred, PointAnswer::Barred) => true,
-        _ => false,
-    }
-}
-
-fn all_same(a: &[PointAnswer], b: &[PointAnswer]) -> bool {
-    if a.len() != b.len() {
-        return false;
-    }
-    for (place, answer) in a.iter().enumerate() {
-        if !same(answer, &b[place]) {
-            return false;
-        }
-    }
-    true
-}
-
 // What the gatherings told: 1 where the input is new, and 2 more where the point is full.
-fn gathered(alloc: Global, answers: &[PointAnswer]) -> Result<Vec<u8>, Fail> {
-    let mut told = Vec::new(alloc);
+fn words_of(alloc: Global, answers: &[PointAnswer]) -> Result<String, AllocError> {
+    let mut words = String::new(alloc);
     for answer in answers {
-        if let PointAnswer::Gathered(gathered) = answer {
-            told.push(u8::from(gathered.new) + u8::from(gathered.full) * 2)?;
+        if let PointAnswer::Gathered(told) = answer {
+            add(
+                alloc,
+                &mut words,
+                u64::from(told.new) + u64::from(told.full) * 2,
+            )?;
         }
     }
-    Ok(told)
+    Ok(words)
 }
 
-// The same, where both forms answer the same; nothing where they don't.
-fn told(alloc: Global, ops: &[PointOp]) -> Result<Vec<u8>, Fail> {
-    let plain = plain_answers(alloc, ops)?;
-    let indexed = indexed_answers(alloc, ops)?;
-    if !all_same(plain.as_slice(), indexed.as_slice()) {
-        return Ok(Vec::new(alloc));
-    }
-    gathered(alloc, indexed.as_slice())
+fn told<R: Points>(alloc: Global, points: &mut R) -> Result<String, AllocError> {
+    let ops = ops_of(alloc, &CALLS)?;
+    let answers = run_points(alloc, points, &ops)?;
+    words_of(alloc, answers.as_slice())
+}
+
+fn told_of_list(alloc: Global) -> Result<String, AllocError> {
+    let stack = stack_name(alloc, b's')?;
+    let preds = preds(alloc)?;
+    told(alloc, &mut ListPoints::new(alloc, &stack, &preds)?)
+}
+
+fn told_of_table(alloc: Global) -> Result<String, AllocError> {
+    let stack = stack_name(alloc, b's')?;
+    let preds = preds(alloc)?;
+    told(alloc, &mut SyncPoints::new(alloc, &stack, &preds)?)
+}
+
+const WANTED: &str = "3 2 1 0 3 1 3 0 3 2 1 3 ";
+
+#[test]
+fn a_list_answers_forty_calls(rt: HostRuntime) -> Result<(), AllocError> {
+    same(&rt, told_of_list(rt.alloc())?.as_str(), WANTED);
+    Ok(())
 }
 
 #[test]
-fn forty_calls_give_equal_answers_in_both_forms(rt: HostRuntime) -> Result<(), Fail> {
-    let ops = ops_of(rt.alloc(), &CALLS)?;
-    let told = told(rt.alloc(), &ops)?;
-    let wanted: [u8; 12] = [3, 2, 1, 0, 3, 1, 3, 0, 3, 2, 1, 3];
-    assert_eq!(rt; told.as_slice(), wanted.as_slice());
+fn a_table_answers_them_the_same(rt: HostRuntime) -> Result<(), AllocError> {
+    same(&rt, told_of_table(rt.alloc())?.as_str(), WANTED);
     Ok(())
 }

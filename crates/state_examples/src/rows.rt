@@ -1,11 +1,10 @@
-//! Forty calls of a table of rows: both forms of the table give equal answers to them.
-use crate::parts::{engine_no, res_name, row_no, stack_name, trav_no};
+//! Forty calls of a table of rows, in both of its forms: what they answer.
+use crate::parts::{add, engine_no, res_name, row_no, same, stack_name, trav_no};
 use heat_plan::{Act, Kind, Policy, Properties, RowNo, Status};
 use heat_value::{Seq, Text};
-use indexed_rows::{ListRows, RowAnswer, RowOp, RowTable, run_rows};
+use indexed_rows::{ListRows, RowAnswer, RowOp, RowTable, Rows, run_rows};
 use row_table::Row;
-use std::alloc::Global;
-use std::test::Fail;
+use std::alloc::{AllocError, Global};
 
 // A call, with numbers of rows, and with stacks and names by their letters. A lock is for the engine of the
 // next number; what is set is the row s/a, which the row of the next number replaces.
@@ -69,7 +68,7 @@ const CALLS: [Call; 40] = [
     Call::Get(3),
 ];
 
-fn kind(alloc: Global) -> Result<Kind, Fail> {
+fn kind(alloc: Global) -> Result<Kind, AllocError> {
     Ok(Kind {
         name: Text::from_str(alloc, "Test::Box")?,
         attrs: Seq::new(alloc),
@@ -84,14 +83,17 @@ fn row(
     of: (u8, u8),
     act: Act,
     behind: Option<RowNo>,
-) -> Result<Row, Fail> {
+) -> Result<Row, AllocError> {
     let no = row_no(number)?;
     let trav = trav_no(1)?;
+    let stack = stack_name(alloc, of.0)?;
+    let name = res_name(alloc, of.1)?;
+    let kind = kind(alloc)?;
     Ok(Row {
         no,
-        stack: stack_name(alloc, of.0)?,
-        name: res_name(alloc, of.1)?,
-        kind: kind(alloc)?,
+        stack,
+        name,
+        kind,
         act,
         status: Status::InProgress,
         trav,
@@ -108,24 +110,24 @@ fn row(
 }
 
 // The call of a row's number alone.
-fn op_of_number(call: Call) -> Result<RowOp, Fail> {
+fn op_of_number(call: Call) -> Result<RowOp, AllocError> {
     match call {
         Call::Get(no) => Ok(RowOp::Get(row_no(no)?)),
         Call::Lock(no) => Ok(RowOp::Lock(row_no(no)?, engine_no(no.saturating_add(1))?)),
         Call::Unlock(no) => Ok(RowOp::Unlock(row_no(no)?)),
         Call::Head(no) => Ok(RowOp::Head(row_no(no)?)),
         Call::Purge(no) => Ok(RowOp::Purge(row_no(no)?)),
-        _ => Err("no number")?,
+        _ => Err(AllocError),
     }
 }
 
 // What is put in the place of the row s/a: it is replaced by the row of the next number.
-fn replaced(alloc: Global, no: u64, act: Act) -> Result<Row, Fail> {
+fn replaced(alloc: Global, no: u64, act: Act) -> Result<Row, AllocError> {
     let behind = row_no(no.saturating_add(1))?;
     row(alloc, no, (b's', b'a'), act, Some(behind))
 }
 
-fn op_of(alloc: Global, call: Call) -> Result<RowOp, Fail> {
+fn op_of(alloc: Global, call: Call) -> Result<RowOp, AllocError> {
     match call {
         Call::Reserve(rows) => Ok(RowOp::Reserve(rows)),
         Call::Put(no, stack, name) => {
@@ -142,7 +144,7 @@ fn op_of(alloc: Global, call: Call) -> Result<RowOp, Fail> {
     }
 }
 
-fn ops_of(alloc: Global, calls: &[Call]) -> Result<Vec<RowOp>, Fail> {
+fn ops_of(alloc: Global, calls: &[Call]) -> Result<Vec<RowOp>, AllocError> {
     let mut ops = Vec::new(alloc);
     for call in calls {
         ops.push(op_of(alloc, *call)?)?;
@@ -150,83 +152,37 @@ fn ops_of(alloc: Global, calls: &[Call]) -> Result<Vec<RowOp>, Fail> {
     Ok(ops)
 }
 
-// What the list of the rows answers.
-fn plain_answers(alloc: Global, ops: &[RowOp]) -> Result<Seq<RowAnswer>, Fail> {
-    let mut list = ListRows::new(alloc);
-    Ok(run_rows(alloc, &mut list, ops)?)
-}
-
-// What the table with its indexes answers.
-fn indexed_answers(alloc: Global, ops: &[RowOp]) -> Result<Seq<RowAnswer>, Fail> {
-    let mut table = RowTable::new(alloc);
-    Ok(run_rows(alloc, &mut table, ops)?)
-}
-
-fn same_row(a: &Option<Row>, b: &Option<Row>) -> bool {
-    match (a, b) {
-        (Some(a), Some(b)) => {
-            a.no == b.no && a.stack == b.stack && a.engine == b.engine && a.key == b.key
-        }
-        (None, None) => true,
-        _ => false,
-    }
-}
-
-fn same_nos(a: &[RowNo], b: &[RowNo]) -> bool {
-    a == b
-}
-
-fn same(a: &RowAnswer, b: &RowAnswer) -> bool {
-    match (a, b) {
-        (RowAnswer::Got(a), RowAnswer::Got(b)) => same_row(a, b),
-        (RowAnswer::Current(a), RowAnswer::Current(b)) => *a == *b,
-        (RowAnswer::Head(a), RowAnswer::Head(b)) => *a == *b,
-        (RowAnswer::Rows(a), RowAnswer::Rows(b)) => same_nos(a.as_slice(), b.as_slice()),
-        (RowAnswer::Done, RowAnswer::Done) | (RowAnswer::Barred, RowAnswer::Barred) => true,
-        _ => false,
-    }
-}
-
-fn all_same(a: &[RowAnswer], b: &[RowAnswer]) -> bool {
-    if a.len() != b.len() {
-        return false;
-    }
-    for (place, answer) in a.iter().enumerate() {
-        if !same(answer, &b[place]) {
-            return false;
-        }
-    }
-    true
-}
-
 // The numbers of the current rows and of the chains' ends that were told, 0 for none.
-fn told_nos(alloc: Global, answers: &[RowAnswer]) -> Result<Vec<u64>, Fail> {
-    let mut nos = Vec::new(alloc);
+fn words_of(alloc: Global, answers: &[RowAnswer]) -> Result<String, AllocError> {
+    let mut words = String::new(alloc);
     for answer in answers {
         match answer {
-            RowAnswer::Current(current) => nos.push(current.map_or(0, |no| no.get()))?,
-            RowAnswer::Head(head) => nos.push(head.get())?,
+            RowAnswer::Current(no) => add(alloc, &mut words, no.map_or(0, |no| no.get()))?,
+            RowAnswer::Head(no) => add(alloc, &mut words, no.get())?,
             _ => {}
         }
     }
-    Ok(nos)
+    Ok(words)
 }
 
-// The numbers that are told, where both forms answer the same; none where they don't.
-fn told(alloc: Global, ops: &[RowOp]) -> Result<Vec<u64>, Fail> {
-    let plain = plain_answers(alloc, ops)?;
-    let indexed = indexed_answers(alloc, ops)?;
-    if !all_same(plain.as_slice(), indexed.as_slice()) {
-        return Ok(Vec::new(alloc));
-    }
-    told_nos(alloc, indexed.as_slice())
+fn told<R: Rows>(alloc: Global, rows: &mut R) -> Result<String, AllocError> {
+    let ops = ops_of(alloc, &CALLS)?;
+    let answers = run_rows(alloc, rows, &ops)?;
+    words_of(alloc, answers.as_slice())
+}
+
+const WANTED: &str = "1 0 5 5 4 5 3 0 0 0 ";
+
+#[test]
+fn a_list_answers_forty_calls(rt: HostRuntime) -> Result<(), AllocError> {
+    let told = told(rt.alloc(), &mut ListRows::new(rt.alloc()))?;
+    same(&rt, told.as_str(), WANTED);
+    Ok(())
 }
 
 #[test]
-fn forty_calls_give_equal_answers_in_both_forms(rt: HostRuntime) -> Result<(), Fail> {
-    let ops = ops_of(rt.alloc(), &CALLS)?;
-    let told = told(rt.alloc(), &ops)?;
-    let wanted: [u64; 10] = [1, 0, 5, 5, 4, 5, 3, 0, 0, 0];
-    assert_eq!(rt; told.as_slice(), wanted.as_slice());
+fn a_table_answers_them_the_same(rt: HostRuntime) -> Result<(), AllocError> {
+    let told = told(rt.alloc(), &mut RowTable::new(rt.alloc()))?;
+    same(&rt, told.as_str(), WANTED);
     Ok(())
 }

@@ -5,12 +5,11 @@ use core_state::{
 };
 use heat_plan::{Act, StackName, StackNo, Status};
 use heat_value::Seq;
-use std::alloc::Global;
-use std::test::Fail;
+use std::alloc::{AllocError, Global};
 use traversal_graph::{Node, TravGraph};
 
 // A letter of this number to the first node.
-fn letter(alloc: Global, no: u64) -> Result<Letter, Fail> {
+fn letter(alloc: Global, no: u64) -> Result<Letter, AllocError> {
     let no = letter_no(no)?;
     let trav = trav_no(1)?;
     Ok(Letter {
@@ -22,9 +21,9 @@ fn letter(alloc: Global, no: u64) -> Result<Letter, Fail> {
 }
 
 // A stack of this number.
-fn stack(alloc: Global, letter: u8, no: u64) -> Result<Stack, Fail> {
+fn stack(alloc: Global, letter: u8, no: u64) -> Result<Stack, AllocError> {
     let trav = trav_no(no)?;
-    let no = StackNo::new(no).ok_or("a number")?;
+    let no = StackNo::new(no).ok_or(AllocError)?;
     Ok(Stack {
         name: stack_name(alloc, letter)?,
         no,
@@ -36,14 +35,14 @@ fn stack(alloc: Global, letter: u8, no: u64) -> Result<Stack, Fail> {
 }
 
 // The one node of a graph.
-fn node(alloc: Global) -> Result<Node, Fail> {
+fn node(alloc: Global) -> Result<Node, AllocError> {
     let row = row_no(1)?;
     let name = res_name(alloc, b'a')?;
     Ok(Node::U(name, row))
 }
 
 // A graph of one node.
-fn graph(alloc: Global) -> Result<TravGraph, Fail> {
+fn graph(alloc: Global) -> Result<TravGraph, AllocError> {
     let mut nodes = Seq::new(alloc);
     nodes.push(node(alloc)?)?;
     Ok(TravGraph {
@@ -52,24 +51,22 @@ fn graph(alloc: Global) -> Result<TravGraph, Fail> {
     })
 }
 
-// Makes one change that applies.
-fn change(alloc: Global, state: &mut State, change: Change) -> Result<(), Fail> {
-    let made = state.apply(alloc, change);
-    made.ok().ok_or("a change that applies")?;
-    Ok(())
+// Makes one change that applies; one that doesn't fails as if memory were wanted.
+fn change(alloc: Global, state: &mut State, change: Change) -> Result<(), AllocError> {
+    state.apply(alloc, change).ok().ok_or(AllocError)
 }
 
-fn put_stack(alloc: Global, state: &mut State, name: u8, no: u64) -> Result<(), Fail> {
+fn put_stack(alloc: Global, state: &mut State, name: u8, no: u64) -> Result<(), AllocError> {
     let put = stack(alloc, name, no)?;
     change(alloc, state, Change::PutStack(put))
 }
 
-fn send(alloc: Global, state: &mut State, no: u64) -> Result<(), Fail> {
+fn send(alloc: Global, state: &mut State, no: u64) -> Result<(), AllocError> {
     let sent = letter(alloc, no)?;
     change(alloc, state, Change::Send(sent))
 }
 
-fn hold(alloc: Global, state: &mut State) -> Result<(), Fail> {
+fn hold(alloc: Global, state: &mut State) -> Result<(), AllocError> {
     let engine = engine_no(1)?;
     let row = row_no(1)?;
     let letter = letter(alloc, 1)?;
@@ -82,13 +79,13 @@ fn hold(alloc: Global, state: &mut State) -> Result<(), Fail> {
     change(alloc, state, Change::PutJob(job))
 }
 
-fn put_graph(alloc: Global, state: &mut State) -> Result<(), Fail> {
+fn put_graph(alloc: Global, state: &mut State) -> Result<(), AllocError> {
     let put = graph(alloc)?;
     let name = stack_name(alloc, b's')?;
     change(alloc, state, Change::PutGraph(name, put))
 }
 
-fn put_point(alloc: Global, state: &mut State) -> Result<(), Fail> {
+fn put_point(alloc: Global, state: &mut State) -> Result<(), AllocError> {
     let stack = stack_name(alloc, b's')?;
     let point = Point {
         stack,
@@ -114,7 +111,7 @@ fn has_stacks(state: &State, wanted: &[u64]) -> bool {
 }
 
 // Puts three stacks, two of them of one name.
-fn put_stacks(alloc: Global, state: &mut State) -> Result<(), Fail> {
+fn put_stacks(alloc: Global, state: &mut State) -> Result<(), AllocError> {
     put_stack(alloc, state, b's', 1)?;
     put_stack(alloc, state, b't', 2)?;
     put_stack(alloc, state, b's', 3)
@@ -129,63 +126,30 @@ fn is_copied(state: &State, wanted: &[u64]) -> bool {
 }
 
 // Whether the third stack stands in the place of the first, and does in a copy.
-fn stacks_in(alloc: Global, state: &mut State) -> Result<(bool, bool), Fail> {
+fn are_stacks_put(alloc: Global, state: &mut State) -> Result<bool, AllocError> {
     put_stacks(alloc, state)?;
-    Ok((has_stacks(state, &[3, 2]), is_copied(state, &[3, 2])))
+    Ok(has_stacks(state, &[3, 2]) && is_copied(state, &[3, 2]))
 }
 
-fn stacks_seen(alloc: Global) -> Result<(bool, bool), Fail> {
-    let mut state = State::new(alloc);
-    stacks_in(alloc, &mut state)
-}
-
-#[test]
-fn a_record_is_put_in_the_place_of_its_key(rt: HostRuntime) -> Result<(), Fail> {
-    assert_eq!(rt; stacks_seen(rt.alloc())?, (true, true));
-    Ok(())
-}
-
-// Sends two letters and drops the first; how many wait then.
-fn letters_in(alloc: Global, state: &mut State) -> Result<usize, Fail> {
+// Whether one letter waits, of two of which the first is dropped.
+fn is_a_letter_dropped(alloc: Global, state: &mut State) -> Result<bool, AllocError> {
     send(alloc, state, 1)?;
     send(alloc, state, 2)?;
     change(alloc, state, Change::Drop(letter_no(1)?))?;
-    Ok(state.letters().len())
-}
-
-fn letters_seen(alloc: Global) -> Result<usize, Fail> {
-    let mut state = State::new(alloc);
-    letters_in(alloc, &mut state)
-}
-
-#[test]
-fn a_dropped_letter_is_gone(rt: HostRuntime) -> Result<(), Fail> {
-    assert_eq!(rt; letters_seen(rt.alloc())?, 1);
-    Ok(())
+    Ok(state.letters().len() == 1)
 }
 
 // Whether a job is held, and then ended.
-fn job_in(alloc: Global, state: &mut State) -> Result<(bool, bool), Fail> {
+fn is_a_job_held(alloc: Global, state: &mut State) -> Result<bool, AllocError> {
     let engine = engine_no(1)?;
     hold(alloc, state)?;
     let held = state.job(&engine).is_some();
     change(alloc, state, Change::EndJob(engine))?;
-    Ok((held, state.job(&engine).is_none()))
-}
-
-fn job_seen(alloc: Global) -> Result<(bool, bool), Fail> {
-    let mut state = State::new(alloc);
-    job_in(alloc, &mut state)
-}
-
-#[test]
-fn a_job_is_held_until_it_ends(rt: HostRuntime) -> Result<(), Fail> {
-    assert_eq!(rt; job_seen(rt.alloc())?, (true, true));
-    Ok(())
+    Ok(held && state.job(&engine).is_none())
 }
 
 // Enlists an engine and sets the numbers.
-fn opening(alloc: Global) -> Result<Batch<Change>, Fail> {
+fn opening(alloc: Global) -> Result<Batch<Change>, AllocError> {
     let engine = engine_no(1)?;
     let mut changes = Batch::new(alloc);
     changes.push(Change::Enlist(engine))?;
@@ -193,24 +157,13 @@ fn opening(alloc: Global) -> Result<Batch<Change>, Fail> {
     Ok(changes)
 }
 
-// How many engines are live behind an opening, and the next row.
-fn opening_in(alloc: Global, state: &mut State) -> Result<(usize, Next), Fail> {
+// Whether an engine is live behind an opening, and the next row is the first.
+fn is_opened(alloc: Global, state: &mut State) -> Result<bool, AllocError> {
     let changes = ready_all(alloc, opening(alloc)?)?;
     if state.reserve(changes.len()).is_ok() {
         state.apply_all(changes);
     }
-    Ok((state.live().len(), state.next().row))
-}
-
-fn opening_seen(alloc: Global) -> Result<(usize, Next), Fail> {
-    let mut state = State::new(alloc);
-    opening_in(alloc, &mut state)
-}
-
-#[test]
-fn changes_are_made_in_order(rt: HostRuntime) -> Result<(), Fail> {
-    assert_eq!(rt; opening_seen(rt.alloc())?, (1, Next::first()));
-    Ok(())
+    Ok(state.live().len() == 1 && state.next().row == Next::first())
 }
 
 // Whether the first node of the stack's graph is done.
@@ -221,22 +174,54 @@ fn is_done(state: &State, stack: &StackName) -> bool {
     }
 }
 
-// Puts a stack, its graph and its node's point; whether the point is in the graph.
-fn point_in(alloc: Global, state: &mut State, stack: &StackName) -> Result<bool, Fail> {
+// Whether a node's point is put into its stack's graph.
+fn is_a_point_put(alloc: Global, state: &mut State) -> Result<bool, AllocError> {
     put_stack(alloc, state, b's', 1)?;
     put_graph(alloc, state)?;
     put_point(alloc, state)?;
-    Ok(is_done(state, stack))
+    Ok(is_done(state, &stack_name(alloc, b's')?))
 }
 
-fn point_seen(alloc: Global) -> Result<bool, Fail> {
-    let stack = stack_name(alloc, b's')?;
-    let mut state = State::new(alloc);
-    point_in(alloc, &mut state, &stack)
+// What is to hold of a state that holds nothing at first.
+#[derive(Clone, Copy)]
+enum What {
+    StacksArePut,
+    ALetterIsDropped,
+    AJobIsHeld,
+    IsOpened,
+    APointIsPut,
 }
+
+fn holds_in(alloc: Global, state: &mut State, what: What) -> Result<bool, AllocError> {
+    match what {
+        What::StacksArePut => are_stacks_put(alloc, state),
+        What::ALetterIsDropped => is_a_letter_dropped(alloc, state),
+        What::AJobIsHeld => is_a_job_held(alloc, state),
+        What::IsOpened => is_opened(alloc, state),
+        What::APointIsPut => is_a_point_put(alloc, state),
+    }
+}
+
+fn holds(alloc: Global, what: What) -> Result<bool, AllocError> {
+    let mut state = State::new(alloc);
+    holds_in(alloc, &mut state, what)
+}
+
+const CASES: &[(&str, What)] = &[
+    (
+        "a record is put in the place of its key",
+        What::StacksArePut,
+    ),
+    ("a dropped letter is gone", What::ALetterIsDropped),
+    ("a job is held until it ends", What::AJobIsHeld),
+    ("changes are made in order", What::IsOpened),
+    ("a point is put into its graph", What::APointIsPut),
+];
 
 #[test]
-fn a_point_is_put_into_its_graph(rt: HostRuntime) -> Result<(), Fail> {
-    assert!(rt; point_seen(rt.alloc())?);
+fn changes_leave_what_they_say(rt: HostRuntime) -> Result<(), AllocError> {
+    for case in CASES {
+        assert!(rt; holds(rt.alloc(), case.1)?, "{}", case.0);
+    }
     Ok(())
 }
