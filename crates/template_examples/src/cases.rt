@@ -3,6 +3,7 @@
 use heat_value::{Path, Value, ValueFault};
 use hot_forms::Flaw;
 use std::alloc::{AllocError, Global};
+use std::process::Abort;
 
 /// What is given, and what is to be told of it.
 pub(crate) type Case = (&'static str, &'static str);
@@ -33,6 +34,46 @@ pub(crate) fn wrong_among<T: Teller>(
         Ok(wrong) => Ok(wrong),
         Err(_) => first_wrong(alloc, teller, cases),
     }
+}
+
+/// That each case is told as it is to be.
+pub(crate) fn all_told<T: Teller>(
+    rt: &(impl Abort + AllocGlobal),
+    teller: &T,
+    cases: &[Case],
+) -> Result<(), AllocError> {
+    let wrong = wrong_among(rt.alloc(), teller, cases)?;
+    assert!(rt; wrong.is_empty(), "{wrong}");
+    Ok(())
+}
+
+/// How many there are, and what is to be told of so many.
+pub(crate) type Count = (usize, &'static str);
+
+/// One that tells what comes of so many; it fails where memory was wanted.
+pub(crate) trait Counter {
+    fn told_of(&self, alloc: Global, count: usize) -> Result<String, AllocError>;
+}
+
+// What is told of so many, once more where memory was wanted.
+fn counted<C: Counter>(alloc: Global, counter: &C, count: usize) -> Result<String, AllocError> {
+    match counter.told_of(alloc, count) {
+        Ok(told) => Ok(told),
+        Err(_) => counter.told_of(alloc, count),
+    }
+}
+
+/// That of each count is told what is to be told.
+pub(crate) fn all_counted<C: Counter>(
+    rt: &(impl Abort + AllocGlobal),
+    counter: &C,
+    counts: &[Count],
+) -> Result<(), AllocError> {
+    for count in counts {
+        let told = counted(rt.alloc(), counter, count.0)?;
+        assert!(rt; told.as_str() == count.1, "{}: {told}", count.0);
+    }
+    Ok(())
 }
 
 /// A text in single quotes, read; none where it is no value.

@@ -1,7 +1,7 @@
 //! What conditions choose, and what templates come to that are repeated.
-use crate::cases::{Case, wrong_among};
+use crate::cases::{Case, all_told};
 use crate::plans::Evaluated;
-use std::test::Fail;
+use std::alloc::AllocError;
 
 const CHOSEN: &[Case] = &[
     ("{'if':['on','a','b']}", "'a'"),
@@ -35,10 +35,8 @@ const CHOSEN: &[Case] = &[
 ];
 
 #[test]
-fn conditions_choose(rt: HostRuntime) -> Result<(), Fail> {
-    let wrong = wrong_among(rt.alloc(), &Evaluated, CHOSEN)?;
-    assert_eq!(rt; wrong.as_str(), "");
-    Ok(())
+fn conditions_choose(rt: HostRuntime) -> Result<(), AllocError> {
+    all_told(&rt, &Evaluated, CHOSEN)
 }
 
 const REPEATED: &[Case] = &[
@@ -131,8 +129,6 @@ const REPEATED: &[Case] = &[
 ];
 
 #[test]
-fn templates_are_repeated(rt: HostRuntime) -> Result<(), Fail> {
-    let wrong = wrong_among(rt.alloc(), &Evaluated, REPEATED)?;
-    assert_eq!(rt; wrong.as_str(), "");
-    Ok(())
+fn templates_are_repeated(rt: HostRuntime) -> Result<(), AllocError> {
+    all_told(&rt, &Evaluated, REPEATED)
 }

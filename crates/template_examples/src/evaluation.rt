@@ -1,7 +1,7 @@
 //! What functions come to: the worked examples, what looks something up, and what makes texts, lists and maps.
-use crate::cases::{Case, wrong_among};
+use crate::cases::{Case, all_told};
 use crate::plans::Evaluated;
-use std::test::Fail;
+use std::alloc::AllocError;
 
 const WORKED: &[Case] = &[
     (
@@ -45,10 +45,8 @@ const WORKED: &[Case] = &[
 ];
 
 #[test]
-fn worked_examples(rt: HostRuntime) -> Result<(), Fail> {
-    let wrong = wrong_among(rt.alloc(), &Evaluated, WORKED)?;
-    assert_eq!(rt; wrong.as_str(), "");
-    Ok(())
+fn worked_examples(rt: HostRuntime) -> Result<(), AllocError> {
+    all_told(&rt, &Evaluated, WORKED)
 }
 
 const LOOKED_UP: &[Case] = &[
@@ -83,10 +81,8 @@ const LOOKED_UP: &[Case] = &[
 ];
 
 #[test]
-fn functions_look_up(rt: HostRuntime) -> Result<(), Fail> {
-    let wrong = wrong_among(rt.alloc(), &Evaluated, LOOKED_UP)?;
-    assert_eq!(rt; wrong.as_str(), "");
-    Ok(())
+fn functions_look_up(rt: HostRuntime) -> Result<(), AllocError> {
+    all_told(&rt, &Evaluated, LOOKED_UP)
 }
 
 const MADE: &[Case] = &[
@@ -172,8 +168,6 @@ const MADE: &[Case] = &[
 ];
 
 #[test]
-fn functions_make_values(rt: HostRuntime) -> Result<(), Fail> {
-    let wrong = wrong_among(rt.alloc(), &Evaluated, MADE)?;
-    assert_eq!(rt; wrong.as_str(), "");
-    Ok(())
+fn functions_make_values(rt: HostRuntime) -> Result<(), AllocError> {
+    all_told(&rt, &Evaluated, MADE)
 }

@@ -1,10 +1,9 @@
 //! Sections of templates and parameters from outside, in single quotes: each code with its path, and beside
 //! the next one.
-use crate::cases::{Case, Teller, flaw_words, value_of, wrong_among};
+use crate::cases::{Case, Teller, all_told, flaw_words, value_of};
 use heat_value::{Text, Value};
 use hot_forms::{parameter_flaw, sections_flaw};
 use std::alloc::{AllocError, Global};
-use std::test::Fail;
 
 // What is wrong with the sections that are given.
 struct Sections;
@@ -60,10 +59,8 @@ const SECTIONS: &[Case] = &[
 ];
 
 #[test]
-fn sections_have_their_codes(rt: HostRuntime) -> Result<(), Fail> {
-    let wrong = wrong_among(rt.alloc(), &Sections, SECTIONS)?;
-    assert_eq!(rt; wrong.as_str(), "");
-    Ok(())
+fn sections_have_their_codes(rt: HostRuntime) -> Result<(), AllocError> {
+    all_told(&rt, &Sections, SECTIONS)
 }
 
 // What is wrong with the parameter of this name.
@@ -150,17 +147,12 @@ const PARAMETERS: &[Case] = &[
 ];
 
 #[test]
-fn parameters_have_their_codes(rt: HostRuntime) -> Result<(), Fail> {
-    let wrong = wrong_among(rt.alloc(), &Parameter("p"), PARAMETERS)?;
-    assert_eq!(rt; wrong.as_str(), "");
-    Ok(())
+fn parameters_have_their_codes(rt: HostRuntime) -> Result<(), AllocError> {
+    all_told(&rt, &Parameter("p"), PARAMETERS)
 }
 
 #[test]
-fn names_come_before_what_they_name(rt: HostRuntime) -> Result<(), Fail> {
-    for (name, given) in [("a b", "5"), ("", "{'type':'string'}")] {
-        let wrong = wrong_among(rt.alloc(), &Parameter(name), &[(given, "H07 []")])?;
-        assert_eq!(rt; wrong.as_str(), "");
-    }
-    Ok(())
+fn names_come_before_what_they_name(rt: HostRuntime) -> Result<(), AllocError> {
+    all_told(&rt, &Parameter("a b"), &[("5", "H07 []")])?;
+    all_told(&rt, &Parameter(""), &[("{'type':'string'}", "H07 []")])
 }

@@ -1,10 +1,9 @@
 //! Values and conditions with functions in them, in single quotes, among the parameter `p` and the condition
 //! `c`: each function with a right argument and with a wrong one.
-use crate::cases::{Case, Teller, flaw_words, value_of, wrong_among};
+use crate::cases::{Case, Teller, all_told, flaw_words, value_of};
 use heat_value::{Props, Text, Value};
 use hot_functions::{Place, is_condition, reference_in, value_flaw};
 use std::alloc::{AllocError, Global};
-use std::test::Fail;
 
 // An object with one key.
 fn just(alloc: Global, key: &str) -> Result<Props, AllocError> {
@@ -15,7 +14,8 @@ fn just(alloc: Global, key: &str) -> Result<Props, AllocError> {
 
 // What is wrong with a value at a place.
 fn judged(alloc: Global, place: Place, value: &Value) -> Result<String, AllocError> {
-    let (params, conds) = (just(alloc, "p")?, just(alloc, "c")?);
+    let params = just(alloc, "p")?;
+    let conds = just(alloc, "c")?;
     flaw_words(alloc, &value_flaw(alloc, &params, &conds, place, value)?)
 }
 
@@ -88,10 +88,8 @@ const VALUES: &[Case] = &[
 ];
 
 #[test]
-fn values_have_their_codes(rt: HostRuntime) -> Result<(), Fail> {
-    let wrong = wrong_among(rt.alloc(), &Place::Open, VALUES)?;
-    assert_eq!(rt; wrong.as_str(), "");
-    Ok(())
+fn values_have_their_codes(rt: HostRuntime) -> Result<(), AllocError> {
+    all_told(&rt, &Place::Open, VALUES)
 }
 
 const CONDITIONS: &[Case] = &[
@@ -111,10 +109,8 @@ const CONDITIONS: &[Case] = &[
 ];
 
 #[test]
-fn conditions_have_their_codes(rt: HostRuntime) -> Result<(), Fail> {
-    let wrong = wrong_among(rt.alloc(), &Place::Condition, CONDITIONS)?;
-    assert_eq!(rt; wrong.as_str(), "");
-    Ok(())
+fn conditions_have_their_codes(rt: HostRuntime) -> Result<(), AllocError> {
+    all_told(&rt, &Place::Condition, CONDITIONS)
 }
 
 // The first reference in what may be a condition; `none` where it is none.
@@ -144,8 +140,6 @@ const REFERENCES: &[Case] = &[
 ];
 
 #[test]
-fn conditions_refer_to_no_resource(rt: HostRuntime) -> Result<(), Fail> {
-    let wrong = wrong_among(rt.alloc(), &References, REFERENCES)?;
-    assert_eq!(rt; wrong.as_str(), "");
-    Ok(())
+fn conditions_refer_to_no_resource(rt: HostRuntime) -> Result<(), AllocError> {
+    all_told(&rt, &References, REFERENCES)
 }

@@ -1,11 +1,10 @@
 //! What the properties of an item resolve to, and the names that a value and a map of properties need.
-use crate::cases::{Case, Teller, value_of, value_words, wrong_among};
+use crate::cases::{Case, Teller, all_told, value_of, value_words};
 use crate::plans::{both_known, eval_fault_words, name_of, plan_of, properties_of, props_of};
 use heat_plan::{Item, Kind, Needs, Policy, Properties};
 use heat_value::{Seq, Text, TryCopy, Value};
 use hot_eval::{needs_of, needs_of_props, resolve};
 use std::alloc::{AllocError, Global};
-use std::test::Fail;
 
 // The item r of these properties.
 fn item_of(alloc: Global, props: Properties) -> Result<Item, AllocError> {
@@ -57,10 +56,8 @@ const RESOLVED: &[Case] = &[
 ];
 
 #[test]
-fn properties_are_resolved(rt: HostRuntime) -> Result<(), Fail> {
-    let wrong = wrong_among(rt.alloc(), &Resolved, RESOLVED)?;
-    assert_eq!(rt; wrong.as_str(), "");
-    Ok(())
+fn properties_are_resolved(rt: HostRuntime) -> Result<(), AllocError> {
+    all_told(&rt, &Resolved, RESOLVED)
 }
 
 // The names, parted by commas.
@@ -107,10 +104,8 @@ const NEEDED: &[Case] = &[
 ];
 
 #[test]
-fn values_have_needs(rt: HostRuntime) -> Result<(), Fail> {
-    let wrong = wrong_among(rt.alloc(), &Needed, NEEDED)?;
-    assert_eq!(rt; wrong.as_str(), "");
-    Ok(())
+fn values_have_needs(rt: HostRuntime) -> Result<(), AllocError> {
+    all_told(&rt, &Needed, NEEDED)
 }
 
 // The names that a map of properties needs.
@@ -130,8 +125,6 @@ const NEEDED_UNDER: &[Case] = &[
 ];
 
 #[test]
-fn properties_have_needs(rt: HostRuntime) -> Result<(), Fail> {
-    let wrong = wrong_among(rt.alloc(), &NeededUnder, NEEDED_UNDER)?;
-    assert_eq!(rt; wrong.as_str(), "");
-    Ok(())
+fn properties_have_needs(rt: HostRuntime) -> Result<(), AllocError> {
+    all_told(&rt, &NeededUnder, NEEDED_UNDER)
 }

@@ -1,13 +1,12 @@
 //! Texts from outside, a table for each function of texts: worked examples, published digests, and both sides
 //! of the limit. What is given has two fields, parted by a bar.
-use crate::cases::{Case, Teller, wrong_among};
+use crate::cases::{Case, Teller, all_told};
 use heat_value::{Text, Value, ValueFault};
 use hot_strings::{
     KeyIndex, StringFault, are_distinct, digest, is_digest_name, join, replace, replace_within,
     split,
 };
 use std::alloc::{AllocError, Global};
-use std::test::Fail;
 
 // A fault's code.
 fn code_of(alloc: Global, fault: &StringFault) -> Result<String, AllocError> {
@@ -61,6 +60,11 @@ impl Teller for Replaced {
     }
 }
 
+// A template, and forty keys with their values.
+const FORTY: &str = "a0a1a2a22a3 f2e9 éaéb →k|\
+  a0=A b0=B c0=C d0=D e0=E f0=F g0=G h0=H i0=I j0=J a1=K b1=L c1=M d1=N e1=O f1=P g1=Q h1=R \
+  i1=S j1=T a2=U b2=V c2=W d2=X e2=Y f2=Z a=1 b=2 c=3 d=4 e=5 f=6 g=7 h=8 i=9 é=0 éa=x a22=y →=z 0=!";
+
 const REPLACED: &[Case] = &[
     ("a-ab-b|a=1 ab=2 b=a", "1-2-a"),
     ("abc|ab=X bc=Y", "Xc"),
@@ -71,26 +75,13 @@ const REPLACED: &[Case] = &[
     ("plain|", "plain"),
     ("|a=1", ""),
     ("x|=1", "F03"),
+    // many keys, found by their first byte
+    (FORTY, "AKUy13 Z59 x02 zk"),
 ];
 
 #[test]
-fn replaces(rt: HostRuntime) -> Result<(), Fail> {
-    let wrong = wrong_among(rt.alloc(), &Replaced, REPLACED)?;
-    assert_eq!(rt; wrong.as_str(), "");
-    Ok(())
-}
-
-// A template, and forty keys with their values.
-const FORTY: &str = "a0a1a2a22a3 f2e9 éaéb →k|\
-  a0=A b0=B c0=C d0=D e0=E f0=F g0=G h0=H i0=I j0=J a1=K b1=L c1=M d1=N e1=O f1=P g1=Q h1=R \
-  i1=S j1=T a2=U b2=V c2=W d2=X e2=Y f2=Z a=1 b=2 c=3 d=4 e=5 f=6 g=7 h=8 i=9 é=0 éa=x a22=y →=z 0=!";
-
-#[test]
-fn many_keys_are_found_by_their_first_byte(rt: HostRuntime) -> Result<(), Fail> {
-    let cases: [Case; 1] = [(FORTY, "AKUy13 Z59 x02 zk")];
-    let wrong = wrong_among(rt.alloc(), &Replaced, &cases)?;
-    assert_eq!(rt; wrong.as_str(), "");
-    Ok(())
+fn replaces(rt: HostRuntime) -> Result<(), AllocError> {
+    all_told(&rt, &Replaced, REPLACED)
 }
 
 // The same where each key has to stand in the template.
@@ -112,10 +103,8 @@ const REPLACED_STRICTLY: &[Case] = &[
 ];
 
 #[test]
-fn replaces_strictly(rt: HostRuntime) -> Result<(), Fail> {
-    let wrong = wrong_among(rt.alloc(), &ReplacedStrictly, REPLACED_STRICTLY)?;
-    assert_eq!(rt; wrong.as_str(), "");
-    Ok(())
+fn replaces_strictly(rt: HostRuntime) -> Result<(), AllocError> {
+    all_told(&rt, &ReplacedStrictly, REPLACED_STRICTLY)
 }
 
 // The same with a limit of its own, in bytes of JSON.
@@ -140,16 +129,13 @@ impl Teller for ReplacedWithin {
 }
 
 #[test]
-fn replaces_up_to_its_own_limit(rt: HostRuntime) -> Result<(), Fail> {
-    for (limit, given, wanted) in [
-        (6, "a-b|b=cd", "a-cd"),
-        (5, "a-b|b=cd", "F06"),
-        (5, "a-b|=cd", "F03"),
-    ] {
-        let wrong = wrong_among(rt.alloc(), &ReplacedWithin(limit), &[(given, wanted)])?;
-        assert_eq!(rt; wrong.as_str(), "");
-    }
-    Ok(())
+fn replaces_up_to_its_own_limit(rt: HostRuntime) -> Result<(), AllocError> {
+    all_told(&rt, &ReplacedWithin(6), &[("a-b|b=cd", "a-cd")])?;
+    all_told(
+        &rt,
+        &ReplacedWithin(5),
+        &[("a-b|b=cd", "F06"), ("a-b|=cd", "F03")],
+    )
 }
 
 // A delimiter and a text with a space between, and an index or nothing: the parts, or one of them.
@@ -204,10 +190,8 @@ const SPLIT: &[Case] = &[
 ];
 
 #[test]
-fn splits(rt: HostRuntime) -> Result<(), Fail> {
-    let wrong = wrong_among(rt.alloc(), &Split, SPLIT)?;
-    assert_eq!(rt; wrong.as_str(), "");
-    Ok(())
+fn splits(rt: HostRuntime) -> Result<(), AllocError> {
+    all_told(&rt, &Split, SPLIT)
 }
 
 // A delimiter, and items parted by slashes.
@@ -232,10 +216,8 @@ const JOINED: &[Case] = &[
 ];
 
 #[test]
-fn joins(rt: HostRuntime) -> Result<(), Fail> {
-    let wrong = wrong_among(rt.alloc(), &Joined, JOINED)?;
-    assert_eq!(rt; wrong.as_str(), "");
-    Ok(())
+fn joins(rt: HostRuntime) -> Result<(), AllocError> {
+    all_told(&rt, &Joined, JOINED)
 }
 
 // A digest's name, and a text.
@@ -296,8 +278,6 @@ const DIGESTS: &[Case] = &[
 ];
 
 #[test]
-fn digests(rt: HostRuntime) -> Result<(), Fail> {
-    let wrong = wrong_among(rt.alloc(), &Digested, DIGESTS)?;
-    assert_eq!(rt; wrong.as_str(), "");
-    Ok(())
+fn digests(rt: HostRuntime) -> Result<(), AllocError> {
+    all_told(&rt, &Digested, DIGESTS)
 }

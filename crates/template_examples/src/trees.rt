@@ -1,10 +1,9 @@
 //! Whole templates from outside, in single quotes: each code with its path, and beside the next one; each
 //! version; the length of a name.
-use crate::cases::{Case, Teller, fault_words, value_of, wrong_among};
+use crate::cases::{Case, Count, Counter, Teller, all_counted, all_told, fault_words, value_of};
 use heat_value::Value;
 use hot_tree::{HotFault, Template};
 use std::alloc::{AllocError, Global};
-use std::test::Fail;
 
 // A fault's code and path.
 fn words_of(alloc: Global, fault: &HotFault) -> Result<String, AllocError> {
@@ -89,10 +88,8 @@ const WHOLE: &[Case] = &[
 ];
 
 #[test]
-fn values_have_their_codes(rt: HostRuntime) -> Result<(), Fail> {
-    let wrong = wrong_among(rt.alloc(), &Whole, WHOLE)?;
-    assert_eq!(rt; wrong.as_str(), "");
-    Ok(())
+fn values_have_their_codes(rt: HostRuntime) -> Result<(), AllocError> {
+    all_told(&rt, &Whole, WHOLE)
 }
 
 const VERSIONS: &[Case] = &[
@@ -117,14 +114,12 @@ const VERSIONS: &[Case] = &[
 ];
 
 #[test]
-fn versions_are_known(rt: HostRuntime) -> Result<(), Fail> {
-    let wrong = wrong_among(rt.alloc(), &Version, VERSIONS)?;
-    assert_eq!(rt; wrong.as_str(), "");
-    Ok(())
+fn versions_are_known(rt: HostRuntime) -> Result<(), AllocError> {
+    all_told(&rt, &Version, VERSIONS)
 }
 
 // An output whose name has so many letters.
-fn named(alloc: Global, letters: u32) -> Result<String, AllocError> {
+fn named(alloc: Global, letters: usize) -> Result<String, AllocError> {
     let mut text = String::from_str(alloc, "'outputs':{'")?;
     for _ in 0..letters {
         text.push_str("n")?;
@@ -133,22 +128,33 @@ fn named(alloc: Global, letters: u32) -> Result<String, AllocError> {
     Ok(text)
 }
 
-// Whether a template is right whose output has a name of so many letters.
-fn is_named(alloc: Global, letters: u32) -> Result<bool, AllocError> {
-    let told = Sections.told(alloc, named(alloc, letters)?.as_str())?;
-    Ok(told.as_str() == "right")
+// What a template is read as whose output has a name of so many letters.
+struct NamedOutput;
+
+impl Counter for NamedOutput {
+    fn told_of(&self, alloc: Global, count: usize) -> Result<String, AllocError> {
+        let told = Sections.told(alloc, named(alloc, count)?.as_str())?;
+        String::from_str(
+            alloc,
+            if told.as_str() == "right" {
+                "right"
+            } else {
+                "refused"
+            },
+        )
+    }
 }
 
+const NAMES: &[Count] = &[
+    (0, "refused"),
+    (1, "right"),
+    (255, "right"),
+    (256, "refused"),
+];
+
 #[test]
-fn names_have_255_bytes(rt: HostRuntime) -> Result<(), Fail> {
-    for (letters, wanted) in [(0, false), (1, true), (255, true), (256, false)] {
-        let told = match is_named(rt.alloc(), letters) {
-            Ok(told) => told,
-            Err(_) => is_named(rt.alloc(), letters)?,
-        };
-        assert_eq!(rt; told, wanted, "{letters}");
-    }
-    Ok(())
+fn names_have_255_bytes(rt: HostRuntime) -> Result<(), AllocError> {
+    all_counted(&rt, &NamedOutput, NAMES)
 }
 
 const ENTRIES: &[Case] = &[
@@ -261,10 +267,8 @@ const ENTRIES: &[Case] = &[
 ];
 
 #[test]
-fn entries_have_their_codes(rt: HostRuntime) -> Result<(), Fail> {
-    let wrong = wrong_among(rt.alloc(), &Sections, ENTRIES)?;
-    assert_eq!(rt; wrong.as_str(), "");
-    Ok(())
+fn entries_have_their_codes(rt: HostRuntime) -> Result<(), AllocError> {
+    all_told(&rt, &Sections, ENTRIES)
 }
 
 const FUNCTIONS: &[Case] = &[
@@ -321,8 +325,6 @@ const FUNCTIONS: &[Case] = &[
 ];
 
 #[test]
-fn functions_have_their_codes(rt: HostRuntime) -> Result<(), Fail> {
-    let wrong = wrong_among(rt.alloc(), &Sections, FUNCTIONS)?;
-    assert_eq!(rt; wrong.as_str(), "");
-    Ok(())
+fn functions_have_their_codes(rt: HostRuntime) -> Result<(), AllocError> {
+    all_told(&rt, &Sections, FUNCTIONS)
 }
