@@ -1,19 +1,8 @@
 //! What no clause says: objects from outside, in single quotes, read to the end.
-use heat_value::{Text, Value, ValueFault};
+use crate::cases::{Asked, Case, all_told, value_of};
+use heat_value::Value;
 use hot_parts::{Param, Parts, Res};
 use std::alloc::{AllocError, Global};
-use std::test::Fail;
-
-// The parts of an object in single quotes; none where it is no object.
-fn parts_of(alloc: Global, text: &str) -> Result<Option<Parts>, AllocError> {
-    let text = text.replace(alloc, "'", "\"")?;
-    match Value::read(alloc, text.as_bytes()) {
-        Ok(Value::Fields(fields)) => Ok(Some(Parts::of(alloc, &fields)?)),
-        Ok(_) => Ok(None),
-        Err(ValueFault::Memory) => Err(AllocError),
-        Err(_) => Ok(None),
-    }
-}
 
 // The text of a value that may be missing, in single quotes.
 fn text_of(alloc: Global, value: &Option<Value>) -> Result<String, AllocError> {
@@ -38,60 +27,76 @@ fn res_words(alloc: Global, res: &Res) -> Result<String, AllocError> {
     format!(in alloc; "{} {} {} {} {}", name, kind, policy, count, cond.as_str())
 }
 
-// All parts in words, parted by `; `.
+// The name and a stop.
+fn add(words: &mut String, text: &str) -> Result<(), AllocError> {
+    words.push_str(text)?;
+    words.push_str("; ")
+}
+
+fn add_param(alloc: Global, words: &mut String, param: &Param) -> Result<(), AllocError> {
+    add(words, param_words(alloc, param)?.as_str())
+}
+
+fn add_res(alloc: Global, words: &mut String, res: &Res) -> Result<(), AllocError> {
+    add(words, res_words(alloc, res)?.as_str())
+}
+
+// All parts in words, a `; ` behind each.
 fn words_of(alloc: Global, parts: &Parts) -> Result<String, AllocError> {
     let mut words = String::new(alloc);
     for param in parts.params.as_slice() {
-        words.push_str(param_words(alloc, param)?.as_str())?;
-        words.push_str("; ")?;
+        add_param(alloc, &mut words, param)?;
     }
     for res in parts.resources.as_slice() {
-        words.push_str(res_words(alloc, res)?.as_str())?;
-        words.push_str("; ")?;
+        add_res(alloc, &mut words, res)?;
     }
     for out in parts.outputs.as_slice() {
-        words.push_str(out.name.as_str())?;
-        words.push_str("; ")?;
+        add(&mut words, out.name.as_str())?;
     }
     Ok(words)
 }
 
-fn told(alloc: Global, text: &str) -> Result<String, AllocError> {
-    match parts_of(alloc, text)? {
-        Some(parts) => words_of(alloc, &parts),
-        None => String::from_str(alloc, "unread"),
+// The parts of an object in single quotes, in words.
+#[derive(Clone, Copy)]
+struct PartsOf(&'static str);
+
+impl Asked for PartsOf {
+    fn told(self, alloc: Global) -> Result<String, AllocError> {
+        match &value_of(alloc, self.0)? {
+            Value::Fields(fields) => words_of(alloc, &Parts::of(alloc, fields)?),
+            _ => Err(AllocError),
+        }
     }
 }
 
-// Where memory was wanted, it is asked once more.
-#[test]
-fn parts_are_read(rt: HostRuntime) -> Result<(), Fail> {
-    let rows = [
-        ("{}", ""),
-        ("{'parameters':null,'resources':[]}", ""),
-        (
-            "{'parameters':{'b':{'default':null,'type':'string'},'a':{'default':1}}}",
-            "a 1 0; b - 0; ",
-        ),
-        (
+const PARTS: &[Case<PartsOf>] = &[
+    (PartsOf("{}"), ""),
+    (PartsOf("{'parameters':null,'resources':[]}"), ""),
+    (
+        PartsOf("{'parameters':{'b':{'default':null,'type':'string'},'a':{'default':1}}}"),
+        "a 1 0; b - 0; ",
+    ),
+    (
+        PartsOf(
             "{'parameters':{'a':{'constraints':[{'range':{'min':1}},{'description':''},{'modulo':1}]}}}",
-            "a - 2; ",
         ),
-        (
+        "a - 2; ",
+    ),
+    (
+        PartsOf(
             "{'resources':{'r':{'type':'T'},'q':{'deletion_policy':'retain','properties':{'p':1}}}}",
-            "q  retain 1 -; r T Delete 0 -; ",
         ),
-        (
+        "q  retain 1 -; r T Delete 0 -; ",
+    ),
+    (
+        PartsOf(
             "{'resources':{'r':{'condition':null,'properties':null,'type':'T'}},'outputs':{'o':{}}}",
-            "r T Delete 0 null; o; ",
         ),
-    ];
-    for (text, wanted) in rows {
-        let told = match told(rt.alloc(), text) {
-            Ok(told) => told,
-            Err(_) => told(rt.alloc(), text)?,
-        };
-        assert_eq!(rt; told.as_str(), wanted, "{text}");
-    }
-    Ok(())
+        "r T Delete 0 null; o; ",
+    ),
+];
+
+#[test]
+fn parts_are_read(rt: HostRuntime) -> Result<(), AllocError> {
+    all_told(&rt, PARTS)
 }

@@ -5,24 +5,30 @@ ghost use Rattle.type_catalog.specs.Changes.{ChangeOf};
 ghost use Rattle.hot_registry.specs.Names.{is_listed};
 ghost use Rattle.hot_registry.specs.Shipped.{flavor_test as the_flavor_test};
 
+use crate::cases::{Asked, Case, all_told, value_of};
 use heat_plan::{Kind, Properties};
-use heat_value::{Seq, Text, Value, ValueFault};
+use heat_value::{Seq, Text, TryCopy, Value};
 use hot_registry::{Ask, Change, Registry, box_kind, is_flavor, shipped_registry};
 use std::alloc::{AllocError, Global};
-use std::test::Fail;
 use type_catalog::{Effect, change_of};
 
 // What is asked: the test of a name, of a text; the judge of a kind, of a change from the first properties to
 // the second; the registry, of such a change of a box for which these properties change in place.
-#[derive(Clone, Copy, Debug)]
-enum Asked {
-    Of(&'static str, &'static str),
+#[derive(Clone, Copy)]
+enum Of {
+    Test(&'static str, &'static str),
     Change(&'static str, &'static str, &'static str),
     Box(&'static [&'static str], &'static str, &'static str),
 }
 
+impl Asked for Of {
+    fn told(self, alloc: Global) -> Result<String, AllocError> {
+        String::from_str(alloc, answer(alloc, self)?)
+    }
+}
+
 // What the shipped registry answers.
-fn answer(alloc: Global, asked: Asked) -> Result<&'static str, AllocError> {
+fn answer(alloc: Global, asked: Of) -> Result<&'static str, AllocError> {
     let softs = box_kind(alloc)?.softs()?;
     let change: Change = Box::new(
         alloc,
@@ -37,10 +43,14 @@ fn answer(alloc: Global, asked: Asked) -> Result<&'static str, AllocError> {
         { is_flavor(text) },
     )?;
     let registry = shipped_registry(alloc, change, ask)?;
+    answered(alloc, &registry, asked)
+}
+
+fn answered(alloc: Global, registry: &Registry, asked: Of) -> Result<&'static str, AllocError> {
     match asked {
-        Asked::Of(name, text) => told(alloc, &registry, name, text),
-        Asked::Change(kind, old, new) => judged(alloc, &registry, kind, old, new),
-        Asked::Box(softs, old, new) => changed(alloc, &registry, softs, old, new),
+        Of::Test(name, text) => told(alloc, registry, name, text),
+        Of::Change(kind, old, new) => judged(alloc, registry, kind, old, new),
+        Of::Box(softs, old, new) => changed(alloc, registry, softs, old, new),
     }
 }
 
@@ -50,11 +60,32 @@ fn told(
     name: &str,
     text: &str,
 ) -> Result<&'static str, AllocError> {
+    let name = Text::from_str(alloc, name)?;
     let text = Text::from_str(alloc, text)?;
-    match registry.custom(&Text::from_str(alloc, name)?) {
-        Some(custom) => Ok(if custom.ask(&text) { "true" } else { "false" }),
-        None => Ok("no such test"),
+    Ok(match registry.custom(&name) {
+        Some(custom) => if custom.ask(&text) { "true" } else { "false" },
+        None => "no such test",
+    })
+}
+
+// Properties before a change and behind it.
+struct Pair {
+    old: Properties,
+    new: Properties,
+}
+
+impl Drop for Pair {
+    fn drop(self) {
+        let Pair { old: _, new: _ } = self;
     }
+}
+
+fn pair_of(alloc: Global, old: &str, new: &str) -> Result<Pair, AllocError> {
+    let old = properties(alloc, old)?;
+    Ok(Pair {
+        old,
+        new: properties(alloc, new)?,
+    })
 }
 
 fn judged(
@@ -64,11 +95,9 @@ fn judged(
     old: &str,
     new: &str,
 ) -> Result<&'static str, AllocError> {
-    let (Some(old), Some(new)) = (properties(alloc, old)?, properties(alloc, new)?) else {
-        return Ok("no properties");
-    };
+    let pair = pair_of(alloc, old, new)?;
     match registry.judge(&Text::from_str(alloc, kind)?) {
-        Some(judge) => Ok(word(judge.change(&old, &new))),
+        Some(judge) => Ok(word(judge.change(&pair.old, &pair.new))),
         None => Ok("no such judge"),
     }
 }
@@ -88,78 +117,71 @@ fn changed(
     old: &str,
     new: &str,
 ) -> Result<&'static str, AllocError> {
-    let (Some(old), Some(new)) = (properties(alloc, old)?, properties(alloc, new)?) else {
-        return Ok("no properties");
-    };
-    let mut soft = Seq::new(alloc);
-    for name in softs {
-        soft.push(Text::from_str(alloc, name)?)?;
-    }
-    let kind = Kind {
+    let pair = pair_of(alloc, old, new)?;
+    let kind = kind_of(alloc, softs)?;
+    Ok(word(registry.change(&kind, &pair.old, &pair.new)))
+}
+
+// The kind of boxes for which these properties change in place.
+fn kind_of(alloc: Global, softs: &[&str]) -> Result<Kind, AllocError> {
+    let soft = texts(alloc, softs)?;
+    Ok(Kind {
         name: Text::from_str(alloc, "Test::Box")?,
         attrs: Seq::new(alloc),
         soft,
-    };
-    Ok(word(registry.change(&kind, &old, &new)))
+    })
 }
 
-// Properties of a text in single quotes; none where it is no map.
-fn properties(alloc: Global, text: &str) -> Result<Option<Properties>, AllocError> {
-    let text = text.replace(alloc, "'", "\"")?;
-    match Value::read(alloc, text.as_bytes()) {
-        Ok(Value::Fields(props)) => Ok(Properties::from_props(props)),
-        Ok(_) => Ok(None),
-        Err(ValueFault::Memory) => Err(AllocError),
-        Err(_) => Ok(None),
+fn texts(alloc: Global, names: &[&str]) -> Result<Seq<Text>, AllocError> {
+    let mut all = Seq::new(alloc);
+    for name in names {
+        all.push(Text::from_str(alloc, name)?)?;
+    }
+    Ok(all)
+}
+
+// Properties of a text in single quotes; it fails where it is no map.
+fn properties(alloc: Global, text: &str) -> Result<Properties, AllocError> {
+    match &value_of(alloc, text)? {
+        Value::Fields(props) => Properties::from_props(props.copy()?).ok_or(AllocError),
+        _ => Err(AllocError),
     }
 }
+
+const ASKED: &[Case<Of>] = &[
+    (Of::Test("nova.flavor", "m1.tiny"), "true"),
+    (Of::Test("nova.flavor", "m1.small"), "true"),
+    (Of::Test("nova.flavor", "m1.medium"), "true"),
+    (Of::Test("nova.flavor", "m1.large"), "true"),
+    (Of::Test("nova.flavor", "m1.huge"), "false"),
+    (Of::Test("nova.flavor", ""), "false"),
+    (Of::Test("nope", "m1.tiny"), "no such test"),
+    (Of::Change("Test::Box", "{'size':1}", "{'size':1}"), "same"),
+    (
+        Of::Change("Test::Box", "{'size':1}", "{'size':2}"),
+        "in place",
+    ),
+    (
+        Of::Change("Test::Box", "{'size':1}", "{'link':1}"),
+        "in place",
+    ),
+    (
+        Of::Change("Test::Box", "{'size':1}", "{'zone':1}"),
+        "replace",
+    ),
+    (
+        Of::Change("Test::Box", "{'zone':1}", "{'zone':2}"),
+        "replace",
+    ),
+    (Of::Change("Test::Box", "{}", "{'colour':1}"), "replace"),
+    (Of::Change("Test::Bag", "{}", "{}"), "no such judge"),
+    (Of::Box(&["link", "size"], "{}", "{'size':1}"), "in place"),
+    (Of::Box(&["link"], "{}", "{'size':1}"), "replace"),
+    (Of::Box(&["zone"], "{}", "{'zone':1}"), "in place"),
+    (Of::Box(&[], "{'size':1}", "{'size':1}"), "same"),
+];
 
 #[test]
-fn the_shipped_registry_answers(rt: HostRuntime) -> Result<(), Fail> {
-    let rows = [
-        (Asked::Of("nova.flavor", "m1.tiny"), "true"),
-        (Asked::Of("nova.flavor", "m1.small"), "true"),
-        (Asked::Of("nova.flavor", "m1.medium"), "true"),
-        (Asked::Of("nova.flavor", "m1.large"), "true"),
-        (Asked::Of("nova.flavor", "m1.huge"), "false"),
-        (Asked::Of("nova.flavor", ""), "false"),
-        (Asked::Of("nope", "m1.tiny"), "no such test"),
-        (
-            Asked::Change("Test::Box", "{'size':1}", "{'size':1}"),
-            "same",
-        ),
-        (
-            Asked::Change("Test::Box", "{'size':1}", "{'size':2}"),
-            "in place",
-        ),
-        (
-            Asked::Change("Test::Box", "{'size':1}", "{'link':1}"),
-            "in place",
-        ),
-        (
-            Asked::Change("Test::Box", "{'size':1}", "{'zone':1}"),
-            "replace",
-        ),
-        (
-            Asked::Change("Test::Box", "{'zone':1}", "{'zone':2}"),
-            "replace",
-        ),
-        (Asked::Change("Test::Box", "{}", "{'colour':1}"), "replace"),
-        (Asked::Change("Test::Bag", "{}", "{}"), "no such judge"),
-        (
-            Asked::Box(&["link", "size"], "{}", "{'size':1}"),
-            "in place",
-        ),
-        (Asked::Box(&["link"], "{}", "{'size':1}"), "replace"),
-        (Asked::Box(&["zone"], "{}", "{'zone':1}"), "in place"),
-        (Asked::Box(&[], "{'size':1}", "{'size':1}"), "same"),
-    ];
-    for (asked, wanted) in rows {
-        let told = match answer(rt.alloc(), asked) {
-            Ok(told) => told,
-            Err(_) => answer(rt.alloc(), asked)?,
-        };
-        assert_eq!(rt; told, wanted, "{asked:?}");
-    }
-    Ok(())
+fn the_shipped_registry_answers(rt: HostRuntime) -> Result<(), AllocError> {
+    all_told(&rt, ASKED)
 }
