@@ -5,8 +5,8 @@ use Rattle.heat_value.specs.Reading.{IsOfNumber, first_bad}
 use Rattle.cloud_file.specs.Sorts.{map_read, bad_number}
 use Rattle.cloud_file.proofs.sorts.object.Goals as goal
 
-pub returns-in-Ok : goal.returns-in-Ok
-returns-in-Ok c = map_read c.properties.result (ap json_of (sym c.properties.ensures) ∙ c.in-Ok.ensures.ok)
+pub returns-in_ok-properties-in-Ok : goal.returns-in_ok-properties-in-Ok
+returns-in_ok-properties-in-Ok c = map_read c.in_ok-properties-in-Ok.field-0 (ap json_of (sym c.in_ok-properties-in-Ok.ensures) ∙ c.in-Ok.ensures.ok)
     (c.if-not-nests_within.ensures.0 refl) c.in-Ok.ensures.whole refl
 
 pub returns-in-Err-BadNumber : goal.returns-in-Err-BadNumber
