@@ -1,4 +1,4 @@
--- What a mark that was read says, in history's words.
+-- What a mark that was read says, in the words of step_relation.
 use Rattle.std.specs.Prelude.{ℕ, List, Option, None, Some, fold}
 use Rattle.heat_plan.specs.declared.phase.Status.{Status}
 use Rattle.heat_plan.specs.declared.phase.Status.TheVariants.{Complete, Failed, InProgress}

@@ -1,6 +1,6 @@
-//! A plain, slow reading of a history: the words of the headline, computed on a list of entries that
-//! begins with nothing standing and nothing alive. It is what a reader trusts the definitions of history
-//! by; nothing here is fast, decides a step, or asks a cloud. Its contracts are those definitions.
+//! A plain, slow reading of a history: the words of the main theorem, computed on a list of entries that
+//! begins with nothing standing and nothing alive. It is what a reader trusts the definitions of
+//! step_relation by; nothing here is fast, decides a step, or asks a cloud. Its contracts are those definitions.
 #![tactic(auto)]
 
 mod after;
