@@ -1,4 +1,4 @@
-//! What each answer makes of a state in which a token may be: the cloud's table, row by row.
+//! What each answer makes of a state in which a token may be: the cloud's table, line by line.
 ghost use Rattle.std.specs.Prelude.{◌≡◌, ◌∷◌, ◌++◌, [], IfOk, OnOk, filter, not};
 ghost use Rattle.provider.specs.Table.{after, after_each, once, same_state};
 

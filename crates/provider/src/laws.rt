@@ -5,7 +5,7 @@ ghost use Rattle.heat_plan.specs.declared.token.Token.{Token};
 ghost use Rattle.provider.specs.Cloud.{Cloud, HasNone, state_of};
 ghost use Rattle.provider.specs.Moves.{CallsMove, CallsRest, FoldKeeps};
 
-/// Each answer moves the asked token as a row of the table says, and leaves every other token.
+/// Each answer moves the asked token as a line of the table says, and leaves every other token.
 pub fn calls_move_tokens()
     ensures moves { (old new : Cloud) (token : Token) → CallsMove old new token }
     ensures rests { (old new : Cloud) → CallsRest old new }

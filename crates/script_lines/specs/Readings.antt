@@ -1,5 +1,5 @@
--- What a line is read as: what it asks for, or what is wrong with it. One case for each row of the formats, in
--- their order.
+-- What a line is read as: what it asks for, or what is wrong with it. Behind each first word there is a case for each
+-- fault, in their order, and one for what is asked.
 use Rattle.std.specs.Prelude.{◌≡◌, ◌≢◌, ℕ, List, Result, Ok, Err, Some, None, IsUtf8, decimal}
 use Rattle.heat_value.specs.Reading.{IsReadAs}
 use Rattle.heat_value.specs.Meaning.{data_of}

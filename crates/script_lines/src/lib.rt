@@ -1,5 +1,5 @@
-//! What a line of the script says. `Line::read` takes every form and answers to `specs/Readings.antt`,
-//! which has a case for each row of the formats; what a body asks for is in `specs/Requested.antt`.
+//! What a line of the script says. `Line::read` takes every form and answers to `specs/Readings.antt`, which
+//! has a case for each form and each fault; what a body asks for is in `specs/Requested.antt`.
 //! Nothing here makes a plan or knows of a state: whether the stack is there, another layer says.
 #![tactic(auto)]
 

@@ -1,4 +1,4 @@
--- One turn of an engine but for the rollback that a failure may bring: a case for each row of the table of turns.
+-- One turn of an engine but for the rollback that a failure may bring: a case for each line of the table of turns.
 use Rattle.std.specs.Prelude.{Contains, List, None, Option, Some, [], ℕ, ◌++◌, ◌∷◌, ◌≡◌, ◌≢◌}
 use Rattle.heat_value.specs.Data.{Members}
 use Rattle.heat_value.specs.declared.path.Step.{Step}
