@@ -3,6 +3,7 @@ ghost use Rattle.std.specs.Prelude.{[]};
 
 use book_lock::Chronicle;
 
+/// How often it was held.
 #[derive(Drop)]
 pub struct Tally {
     pub holds: u64,

@@ -60,6 +60,7 @@ fn beside<T>(passes: &[Pass<T>], pass: &Pass<T>) -> usize
 impl<T: Chronicle> Shared<T> {
     ghost use Rattle.book_lock.specs.Closing.{AreAll, IsFree, joined_pass, Settled, JoinsTwo};
 
+    // The pass takes its sibling's account beside its own.
     fn join(&self, pass: &mut Pass<T>, other: Pass<T>)
         requires free { IsFree self.now pass.old }
         requires other { IsFree self.now other }
@@ -75,6 +76,7 @@ impl<T: Chronicle> Shared<T> {
         take_back(&mut pass.name);
     }
 
+    // One pass fewer: the one that was split most often goes to its sibling.
     fn join_two(&self, passes: &mut Vec<Pass<T>>)
         requires some { 1 < vec_len passes.old }
         requires free { All (IsFree self.now) passes.old.items }

@@ -20,6 +20,8 @@ impl<T: Chronicle> TableRule<Option<T>, View<T>, Snapshot<T>> for Law<T> {
     ghost first = { λ key. first_view key.value };
 }
 
+/// The two words, the slot and the views of all passes, under the rule.
 pub type Board<T> = Table<Option<T>, View<T>, Snapshot<T>, Law<T>, Global>;
 
+/// What a pass steps with: its view, and the slot where it has it.
 pub type Place<T> = Seat<Option<T>, View<T>>;

@@ -29,6 +29,7 @@ impl<T: Chronicle> Model for Shared<T> {
     ghost invariant = { λ a. IsSized a.board.shared.table_id };
 }
 
+// The slot, with the value in it.
 fn slot_of<T>(alloc: Global, value: T) -> Result<Vec<Option<T>>, (T, AllocError)>
     ensures ok { IfOk result (λ v. v.items ≡ Some value ∷ []) }
     ensures err { IfErr result (λ e. e.0 ≡ value) }
@@ -43,6 +44,7 @@ fn slot_of<T>(alloc: Global, value: T) -> Result<Vec<Option<T>>, (T, AllocError)
     }
 }
 
+// The value out of its slot.
 fn value_of<T>(mut slots: Vec<Option<T>>) -> T
     requires { (value : T) × (slots.items ≡ Some value ∷ []) }
     ensures { slots.items ≡ Some result ∷ [] }

@@ -24,6 +24,7 @@ pub fn alive(alloc: Global, value: &Json) -> Result<Result<Seq<Held>, Path>, All
     }
 }
 
+// The resources of a list, or the path of the first fault.
 fn alive_in(alloc: Global, items: &Vec<Json>) -> Result<Result<Seq<Held>, Path>, AllocError>
     ensures read { IfOk result (λ r. ReadsItems ReadsResource 0 [] (items_view items.now.items) r) }
     ensures fit { IfOk result (λ r. IfOk r IsHolding) }
@@ -51,6 +52,7 @@ fn resource(alloc: Global, held: &Holdings, value: &Json) -> Result<Result<Held,
     }
 }
 
+// The resource that an object tells, or the path of its first fault.
 fn resource_in(
     alloc: Global,
     held: &Holdings,

@@ -36,6 +36,7 @@ pub fn quotas(alloc: Global, value: &Json) -> Result<Result<Seq<KindQuota>, Path
     }
 }
 
+// The quotas of kinds, or the path of the first fault.
 fn quotas_in(
     alloc: Global,
     members: &Map<String, Json>,
@@ -52,6 +53,7 @@ fn quotas_in(
     Ok(Ok(all))
 }
 
+// How many of this kind may be alive, or the fault's path.
 fn quota(alloc: Global, kind: &str, value: &Json) -> Result<Result<KindQuota, Path>, AllocError>
     ensures { IfOk result (λ r. ReadsQuota kind.now (view value.now) r) }
 {
@@ -79,6 +81,7 @@ pub fn delays(alloc: Global, value: &Json) -> Result<Result<Seq<KindDelay>, Path
     }
 }
 
+// How long kinds take, or the path of the first fault.
 #[tactic(auto, using(crate::proofs::Few::few_push))]
 fn delays_in(
     alloc: Global,
@@ -98,6 +101,7 @@ fn delays_in(
     Ok(Ok(all))
 }
 
+// How many polls this kind takes, or the fault's path.
 fn delay(alloc: Global, kind: &str, value: &Json) -> Result<Result<KindDelay, Path>, AllocError>
     ensures read { IfOk result (λ r. ReadsDelay kind.now (view value.now) r) }
     ensures few { IfOk result (λ r. IfOk r (λ d. d.polls ≤ 64)) }
@@ -125,6 +129,7 @@ pub fn codes(alloc: Global, value: &Json) -> Result<Result<Seq<NameCode>, Path>,
     }
 }
 
+// The names that break with their codes, or the path of the first fault.
 fn codes_in(
     alloc: Global,
     members: &Map<String, Json>,
@@ -141,6 +146,7 @@ fn codes_in(
     Ok(Ok(all))
 }
 
+// The code with which this name breaks, or the fault's path.
 fn code(alloc: Global, name: &str, value: &Json) -> Result<Result<NameCode, Path>, AllocError>
     ensures { IfOk result (λ r. ReadsBroken name.now (view value.now) r) }
 {
@@ -151,6 +157,7 @@ fn code(alloc: Global, name: &str, value: &Json) -> Result<Result<NameCode, Path
     }
 }
 
+// Whether a resource may have this name.
 fn is_resource_name(alloc: Global, text: &str) -> Result<bool, AllocError>
     ensures { IfOk result (λ b. IsTrue b ↔ IsResName text.now) }
 {
@@ -186,6 +193,7 @@ pub fn calls(alloc: Global, value: &Json) -> Result<Result<Seq<u64>, Path>, Allo
     }
 }
 
+// The numbers of calls that are to fail, or the path of the first fault.
 fn calls_in(alloc: Global, items: &Vec<Json>) -> Result<Result<Seq<u64>, Path>, AllocError>
     ensures { IfOk result (λ r. ReadsItems ReadsCall 0 [] (items_view items.now.items) r) }
 {
@@ -207,6 +215,7 @@ fn is_kind_name(text: &str) -> bool
     !name.is_empty() && name.len() <= 255 && name.iter().all(|byte| is_kind_byte(*byte))
 }
 
+// A letter or digit, all ASCII, or one of `_`, `.`, `-` and `:`.
 fn is_kind_byte(byte: u8) -> bool
     ensures { IsTrue result ↔ (IsNameByte byte ⊎ (byte ≡ 58)) }
 {
@@ -221,6 +230,7 @@ fn is_code(text: &str) -> bool
     !code.is_empty() && code.len() <= 32 && code.iter().all(|byte| is_code_byte(*byte))
 }
 
+// A small letter, a digit, or `_`.
 fn is_code_byte(byte: u8) -> bool
     ensures { IsTrue result ↔ IsCodeByte byte }
 {

@@ -8,6 +8,7 @@ use crate::bytes::overwrite;
 use std::alloc::{AllocError, Global};
 use std::marker::Model;
 
+/// A half in memory, with so much room: up to an end, for bytes and for calls.
 pub(crate) struct Content {
     start: Vec<u8>,
     held: Vec<u8>,
@@ -44,6 +45,7 @@ impl Model for Content {
 }
 
 impl Content {
+    /// A half with these bytes from the start, without room.
     pub(crate) fn new(alloc: Global, bytes: &[u8]) -> Result<Content, AllocError>
         ensures { IfOk result (λ half. half
             ≡ record { start = bytes.now; held = bytes.now; room = no_room }) }
@@ -57,12 +59,14 @@ impl Content {
         })
     }
 
+    /// What it began with.
     pub(crate) fn start(&self) -> &[u8]
         ensures { result.now ≡ self.now.start }
     {
         &self.start
     }
 
+    /// What it has now.
     pub(crate) fn held(&self) -> &[u8]
         ensures { result.now ≡ self.now.held }
     {
@@ -111,6 +115,7 @@ impl Content {
         Ok(())
     }
 
+    /// Puts bytes over those from the place on, by the room.
     pub(crate) fn write(&mut self, at: u64, bytes: &[u8])
         requires at { at ≤ length self.old.held }
         requires room { HasRoom self.old.room at (length bytes.now) }
@@ -128,6 +133,7 @@ impl Content {
         self.calls -= 1;
     }
 
+    /// Keeps so many of the first bytes.
     pub(crate) fn cut(&mut self, len: u64)
         requires { HasRoom self.old.room 0 0 }
         ensures { self.new ≡ record {
@@ -140,6 +146,7 @@ impl Content {
         self.calls -= 1;
     }
 
+    /// Spends a call of the room, and no more.
     pub(crate) fn sync(&mut self)
         requires { HasRoom self.old.room 0 0 }
         ensures { self.new ≡ record {

@@ -13,6 +13,7 @@ use std::alloc::AllocError;
 #[derive(Clone, Copy, Debug, PartialEq, Eq)]
 pub struct DiskFailed;
 
+/// Two halves of bytes that may be read, written, cut and synced.
 pub trait Disk {
     /// What it tells, reads as, may leave after a crash, and has room for.
     ghost shown: { Self → ShownDisk };

@@ -15,6 +15,7 @@ use heat_value::Text;
 use std::alloc::AllocError;
 use std::io;
 
+/// Two files as a disk. Room is always made, also on a half that is lost.
 pub struct FileDisk {
     first: Opened,
     second: Opened,
@@ -58,6 +59,7 @@ impl FileDisk {
         self.faults
     }
 
+    // The file that is this half.
     fn opened(&self, half: Half) -> &Opened
         ensures { result.now ≡ part half (files_of self.now) }
     {
@@ -68,6 +70,7 @@ impl FileDisk {
     }
 }
 
+// The disk of a path's two files, for this purpose.
 fn opened_for(rt: &HostRuntime, purpose: Purpose, path: &str) -> FileDisk
     ensures room { (files_shown result).room ≡ (no_room, no_room) }
     ensures faults { file_faults result ≡ 0 }
@@ -79,6 +82,7 @@ fn opened_for(rt: &HostRuntime, purpose: Purpose, path: &str) -> FileDisk
     }
 }
 
+// How Second is reached: at the path with `.2` behind it.
 fn way_to_second(rt: &HostRuntime, purpose: Purpose, path: &str) -> Way {
     match format!(in rt.alloc(); "{path}.2") {
         Ok(name) => way_to(rt, purpose, name.as_str()),
@@ -186,7 +190,6 @@ impl Disk for FileDisk {
         note(&mut self.faults, outcome)
     }
 
-    /// It always succeeds, also on a half that is lost.
     fn room(&mut self, half: Half, end: u64, bytes: u64, calls: u64) -> Result<(), AllocError>
         ensures ok { IsOk result }
         ensures exact { Widens half end bytes calls self.old self.new }

@@ -9,6 +9,7 @@ ghost use Rattle.heat_disk.specs.Fuse.{disk_of, passes_left, own_faults, Burns};
 use crate::{Disk, DiskFailed, Half};
 use std::alloc::AllocError;
 
+/// A disk that passes so many calls on and fails all others. Making room is no call that counts.
 #[derive(Drop)]
 pub struct Fuse<D: Disk> {
     disk: D,
@@ -17,6 +18,7 @@ pub struct Fuse<D: Disk> {
 }
 
 impl<D: Disk> Fuse<D> {
+    /// A fuse that has passed nothing on yet.
     pub fn new(disk: D, passes: u64) -> Fuse<D>
         ensures disk { disk_of result ≡ disk }
         ensures passes { passes_left result ≡ passes }
@@ -42,6 +44,7 @@ impl<D: Disk> Fuse<D> {
     }
 }
 
+// One call fewer is passed on; where none was left, it fails.
 fn spend(passes: &mut u64, faults: &mut u64) -> Result<(), DiskFailed>
     ensures blown { IsErr result ↔ (passes.old ≡ 0) }
     ensures spent { passes.new ≡ passes.old - 1 }
@@ -137,7 +140,6 @@ impl<D: Disk> Disk for Fuse<D> {
         self.disk.sync(half)
     }
 
-    /// It is no call that counts.
     fn room(&mut self, half: Half, end: u64, bytes: u64, calls: u64) -> Result<(), AllocError>
         ensures passes { self.new.passes ≡ self.old.passes }
         ensures own { self.new.faults ≡ self.old.faults }

@@ -2,6 +2,7 @@
 ghost use Rattle.std.specs.Prelude.{◌≡◌};
 ghost use Rattle.heat_disk.specs.History.{is_same};
 
+/// One of the two.
 #[derive(Clone, Copy, Debug, PartialEq, Eq)]
 pub enum Half {
     First,
@@ -9,6 +10,7 @@ pub enum Half {
 }
 
 impl Half {
+    /// Whether it is the same one.
     pub(crate) fn is(self, other: Half) -> bool
         ensures { result ≡ is_same self other }
     {

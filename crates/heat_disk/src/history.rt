@@ -9,6 +9,7 @@ use crate::half::Half;
 use std::alloc::{AllocError, Global};
 use std::marker::Model;
 
+/// What was done to a half; the bytes of a write stand in the store.
 #[derive(Clone, Copy)]
 pub(crate) enum Act {
     Write { at: u64, len: usize },
@@ -62,6 +63,7 @@ impl Act {
     }
 }
 
+/// One act on one half.
 #[derive(Clone, Copy)]
 pub(crate) struct Event {
     half: Half,
@@ -99,6 +101,7 @@ impl Model for History {
 }
 
 impl History {
+    /// A history in which nothing was done.
     pub(crate) fn new(alloc: Global) -> History
         ensures { result.calls ≡ [] }
     {
@@ -119,6 +122,7 @@ impl History {
         self.store.reserve(bytes)
     }
 
+    /// Notes a write, within the room.
     pub(crate) fn wrote(&mut self, half: Half, at: u64, bytes: &[u8])
         requires call { 0 < self.old.more_calls }
         requires bytes { length bytes.now ≤ self.old.more_bytes }
@@ -137,6 +141,7 @@ impl History {
         }
     }
 
+    /// Notes a cut, within the room.
     pub(crate) fn cut(&mut self, half: Half, len: u64)
         requires { 0 < self.old.more_calls }
         ensures calls { self.new.calls ≡ (half, cut_to len) ∷ self.old.calls }
@@ -147,6 +152,7 @@ impl History {
         self.events.push_reserved(Event { half, act });
     }
 
+    /// Notes a sync, within the room.
     pub(crate) fn synced(&mut self, half: Half)
         requires { 0 < self.old.more_calls }
         ensures calls { self.new.calls ≡ (half, synced) ∷ self.old.calls }

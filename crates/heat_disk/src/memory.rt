@@ -15,6 +15,7 @@ use crate::history::History;
 use std::alloc::{AllocError, Global};
 use std::marker::Model;
 
+/// Both halves with all calls on them, and the numbers of those that fail.
 pub struct MemDisk {
     first: Content,
     second: Content,
@@ -112,6 +113,7 @@ impl MemDisk {
         Ok(())
     }
 
+    /// Writes bytes, and notes the write.
     pub(crate) fn write(&mut self, half: Half, at: u64, bytes: &[u8])
         requires at { at ≤ length (part half (shown_by self.old).seen) }
         requires room { HasRoom (part half self.old.room) at (length bytes.now) }
@@ -124,6 +126,7 @@ impl MemDisk {
         }
     }
 
+    /// Cuts a half to this length, and notes the cut.
     pub(crate) fn shorten(&mut self, half: Half, len: u64)
         requires { HasRoom (part half self.old.room) 0 0 }
         ensures { self.new ≡ done half (cut_to len) self.old }
@@ -135,6 +138,7 @@ impl MemDisk {
         }
     }
 
+    /// Notes the sync of a half.
     pub(crate) fn settle(&mut self, half: Half)
         requires { HasRoom (part half self.old.room) 0 0 }
         ensures { self.new ≡ done half synced self.old }

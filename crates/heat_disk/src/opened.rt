@@ -72,6 +72,7 @@ fn sync_folder(rt: &HostRuntime, path: &str) -> io::Result<()> {
 }
 
 impl Opened {
+    /// A half that is come by in this way, without room.
     pub(crate) fn new(way: Way) -> Opened
         ensures { room_of result ≡ no_room }
     {
@@ -83,6 +84,7 @@ impl Opened {
         }
     }
 
+    /// Its room is at least this, and no less than before.
     pub(crate) fn widen(&mut self, end: u64, bytes: u64, calls: u64)
         ensures room { room_of self.new ≡ widened end bytes calls (room_of self.old) }
         ensures lost { IsLostFile self.new ↔ IsLostFile self.old }
@@ -100,6 +102,7 @@ impl Opened {
         };
     }
 
+    /// How many bytes the file has.
     pub(crate) fn size(&self) -> io::Result<u64>
         ensures { IsLostFile self.now → IsErr result }
     {
@@ -110,6 +113,7 @@ impl Opened {
         }
     }
 
+    /// Reads from a place on, as far as the buffer goes.
     pub(crate) fn read_at(&self, at: u64, buf: &mut [u8]) -> io::Result<usize>
         ensures count { IfOk result (λ n. n ≤ length buf.old) }
         ensures lost { IsLostFile self.now → IsErr result }
@@ -121,12 +125,14 @@ impl Opened {
         }
     }
 
+    /// Writes all bytes from a place on.
     pub(crate) fn write_at(&self, at: u64, bytes: &[u8]) -> io::Result<()>
         ensures { IsLostFile self.now → IsErr result }
     {
         self.file()?.write_all_at(bytes, at)
     }
 
+    /// Cuts the file to this length.
     pub(crate) fn cut(&self, len: u64) -> io::Result<()>
         ensures { IsLostFile self.now → IsErr result }
     {
@@ -147,6 +153,7 @@ impl Opened {
         outcome
     }
 
+    // Puts on the disk what the file has; a half without a file fails.
     fn sync_file(&self) -> io::Result<()>
         ensures { IsLostFile self.now → IsErr result }
     {

@@ -6,6 +6,7 @@ ghost use Rattle.heat_io.specs.Numbered.{fails_next, counted, uncalled};
 use std::alloc::{AllocError, Global};
 use std::marker::Model;
 
+/// Which calls fail, how many were made, and how many of them have failed.
 #[derive(Drop)]
 pub(crate) struct Calls {
     fails: Vec<u64>,
@@ -22,6 +23,7 @@ impl Model for Calls {
 }
 
 impl Calls {
+    /// None made, and these to fail.
     pub(crate) fn new(alloc: Global, fails: &[u64]) -> Result<Calls, AllocError>
         ensures { IfOk result (λ calls. calls ≡ uncalled fails.now) }
     {

@@ -15,6 +15,7 @@ use std::marker::Model;
 /// The most bytes of a line, its CR counted and its LF not.
 pub const LINE_LIMIT: usize = 1_048_576;
 
+// How many bytes one read asks for at most.
 const PIECE: usize = 4_096;
 
 /// What one read came to.
@@ -39,6 +40,7 @@ pub(crate) enum Found {
     Memory,
 }
 
+/// What was read, from the first byte on that wasn't given.
 #[derive(Drop)]
 pub(crate) struct HeldBytes {
     all: Vec<u8>,
@@ -57,6 +59,7 @@ impl Model for HeldBytes {
 }
 
 impl HeldBytes {
+    /// A reader's bytes before its first read.
     pub(crate) fn new(alloc: Global) -> HeldBytes
         ensures { result ≡ [] }
     {
@@ -66,6 +69,7 @@ impl HeldBytes {
         }
     }
 
+    /// The bytes that wait to be given.
     pub(crate) fn as_slice(&self) -> &[u8]
         ensures held { result.now ≡ self.now }
         ensures room { length result.now ≤ most_held }
@@ -73,6 +77,7 @@ impl HeldBytes {
         &self.all[self.from..]
     }
 
+    /// How many there are.
     pub(crate) fn len(&self) -> usize
         ensures held { result ≡ length self.now }
         ensures room { result ≤ most_held }
@@ -159,12 +164,14 @@ impl HeldBytes {
     }
 }
 
+// Where the first LF stands.
 fn first_lf(bytes: &[u8]) -> Option<usize>
     ensures { result ≡ position is_lf bytes.now }
 {
     bytes.iter().position(|b| *b == b'\n')
 }
 
+// Takes bytes off the front.
 fn drop_front(all: &mut Vec<u8>, count: usize)
     requires { count ≤ vec_len all.old }
     ensures { all.new.items ≡ drop count all.old.items }
@@ -176,6 +183,7 @@ fn drop_front(all: &mut Vec<u8>, count: usize)
     }
 }
 
+// Puts bytes behind the others, within the room.
 fn append(all: &mut Vec<u8>, bytes: &[u8])
     requires { vec_len all.old + length bytes.now ≤ vec_capacity all.old }
     ensures { all.new.items ≡ all.old.items ++ bytes.now }

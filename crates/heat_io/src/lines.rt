@@ -135,6 +135,7 @@ impl LineReader {
     }
 }
 
+// How long a line is without a CR at its end.
 fn len_before_cr(line: &[u8]) -> usize
     ensures within { result ≤ length line.now }
     ensures front { take result line.now ≡ strip_last 13 line.now }

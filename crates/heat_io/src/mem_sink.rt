@@ -9,6 +9,7 @@ use crate::sink::{Put, Sink};
 use std::alloc::{AllocError, Global};
 use std::marker::Model;
 
+/// The bytes that were written, with how many a call takes at most. A call that answers Memory has no number.
 pub struct MemSink {
     held: Vec<u8>,
     piece: usize,
@@ -73,7 +74,6 @@ impl Sink for MemSink {
 
     ghost faults = { λ s. s.calls.faults };
 
-    /// One that answers Memory has no number.
     fn write(&mut self, bytes: &[u8]) -> Put
         requires { 0 < length bytes.now }
         ensures written { IsWritten self.old self.new result bytes.now }

@@ -9,6 +9,7 @@ use crate::source::{Got, Source};
 use std::alloc::{AllocError, Global};
 use std::marker::Model;
 
+/// The bytes of a script, with how many were read and how many a call gives at most.
 pub struct MemSource {
     all: Vec<u8>,
     read: usize,

@@ -14,6 +14,7 @@ pub enum Put {
     Memory,
 }
 
+/// Takes bytes, as many at once as it likes.
 pub trait Sink {
     /// The bytes that it holds, where the sink tells.
     ghost holds: { Self → Option (List ℕ) };

@@ -14,6 +14,7 @@ pub enum Got {
     Failed,
 }
 
+/// Gives bytes, as many at once as it likes.
 pub trait Source {
     /// The bytes that are left, where the source tells.
     ghost left: { Self → Option (List ℕ) };

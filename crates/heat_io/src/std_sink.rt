@@ -6,6 +6,7 @@ ghost use Rattle.heat_io.specs.Adapted.{sink_faults};
 use crate::sink::{Put, Sink};
 use std::io::Write;
 
+/// A writer, and how often it has failed: also where it took nothing.
 #[derive(Drop)]
 pub struct StdSink<W> {
     inner: W,
@@ -13,6 +14,7 @@ pub struct StdSink<W> {
 }
 
 impl<W: Write> StdSink<W> {
+    /// A sink over this writer, which hasn't failed.
     pub fn new(inner: W) -> StdSink<W>
         ensures { sink_faults result ≡ 0 }
     {
@@ -35,7 +37,6 @@ impl<W: Write> Sink for StdSink<W> {
 
     ghost faults = { sink_faults };
 
-    /// A writer that takes nothing has failed.
     fn write(&mut self, bytes: &[u8]) -> Put {
         match self.inner.write(bytes) {
             Ok(count) if count > 0 => Put::Took(count),

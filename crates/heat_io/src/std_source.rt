@@ -5,6 +5,7 @@ ghost use Rattle.heat_io.specs.Adapted.{source_faults};
 use crate::source::{Got, Source};
 use std::io::Read;
 
+/// A reader, and how often it has failed.
 #[derive(Drop)]
 pub struct StdSource<R> {
     inner: R,
@@ -12,6 +13,7 @@ pub struct StdSource<R> {
 }
 
 impl<R: Read> StdSource<R> {
+    /// A source over this reader, which hasn't failed.
     pub fn new(inner: R) -> StdSource<R>
         ensures { source_faults result ≡ 0 }
     {

@@ -82,6 +82,7 @@ fn names_rise<T: HasName>(list: &[T]) -> bool
     true
 }
 
+// The one of this name, where names rise.
 fn searched<'a, T: HasName>(list: &'a [T], name: &Text) -> Option<&'a T>
     requires { Rising (map T.name_of list.now) }
     ensures { option_map (λ x. x.now) result ≡ the_first_named T.name_of name.now list.now }
@@ -92,6 +93,7 @@ fn searched<'a, T: HasName>(list: &'a [T], name: &Text) -> Option<&'a T>
     }
 }
 
+// The first one of this name.
 fn met_first<'a, T: HasName>(list: &'a [T], name: &Text) -> Option<&'a T>
     ensures { option_map (λ x. x.now) result ≡ the_first_named T.name_of name.now list.now }
 {

@@ -129,18 +129,21 @@ fn text_of_name(alloc: Global, name: &[u8]) -> Result<Text, AllocError>
     }
 }
 
+// A letter or digit, or one of `_`, `.` and `-`.
 fn is_name_byte(byte: u8) -> bool
     ensures { IsTrue result ↔ IsNameByte byte }
 {
     byte.is_ascii_alphanumeric() || byte == b'_' || byte == b'.' || byte == b'-'
 }
 
+// 1 to 255 of such bytes.
 fn is_resource_name(name: &[u8]) -> bool
     ensures { IsTrue result ↔ IsResName name.now }
 {
     !name.is_empty() && name.len() <= 255 && name.iter().all(|byte| is_name_byte(*byte))
 }
 
+// Such a name that begins with a letter.
 fn is_stack_name(name: &[u8]) -> bool
     ensures { IsTrue result ↔ IsStackName name.now }
 {

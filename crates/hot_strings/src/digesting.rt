@@ -32,6 +32,7 @@ pub fn digest(alloc: Global, name: &Text, text: &Text) -> Result<Text, StringFau
     Ok(Text::from_string(hex))
 }
 
+// The digest of this name, as text.
 fn hex_digest(alloc: Global, name: &str, bytes: &[u8]) -> Result<String, AllocError>
     requires { IsDigestName name.now }
     ensures { IfOk result (λ s. IsDigest name.now bytes.now (string_bytes s)) }

@@ -27,6 +27,7 @@ pub fn read_header(half: &[u8]) -> Option<Header>
     Some(Header { version, epoch })
 }
 
+// The version that a snapshot's first bytes tell.
 fn snapshot_version(mark: &[u8]) -> Option<Version>
     ensures { (v : version_type) → (result ≡ Some v) ↔ (mark.now ≡ snapshot_mark v) }
 {

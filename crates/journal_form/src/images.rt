@@ -67,6 +67,7 @@ fn half_image(
     }
 }
 
+// What the records behind a snapshot's header stand for, if they are any.
 fn born_image(
     alloc: Global,
     half: Half,
@@ -90,6 +91,7 @@ fn born_image(
     }
 }
 
+// What a half stands for that no snapshot has begun.
 fn plain_image(alloc: Global, half: Half, bytes: &[u8]) -> Result<Option<Image>, AllocError>
     ensures image { Exactly (Gives half bytes.now None) result }
     ensures len { HasLength result }
@@ -106,6 +108,7 @@ fn plain_image(alloc: Global, half: Half, bytes: &[u8]) -> Result<Option<Image>,
     }
 }
 
+// The image of records behind a mark, without a snapshot.
 fn marked_image(half: Half, version: Version, payloads: Vec<Payload>, len: usize) -> Image
     ensures { result ≡ record {
       half = half;
@@ -126,6 +129,7 @@ fn marked_image(half: Half, version: Version, payloads: Vec<Payload>, len: usize
     }
 }
 
+// The version that a journal's first bytes tell.
 fn journal_version(mark: &[u8]) -> Option<Version>
     ensures { (v : version_type) → (result ≡ Some v) ↔ (mark.now ≡ journal_mark v) }
 {

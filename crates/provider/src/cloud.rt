@@ -12,6 +12,7 @@ ghost use Rattle.provider.specs.Calls.{IsBroken, IsGone, Lingers, Lists, ListsNo
 use crate::{Answer, Gone, Listed, Poll};
 use heat_plan::{Kind, Properties, Token};
 
+/// Has resources by their tokens, and is asked for them.
 pub trait Provider {
     /// All that it shows: the alive list, which tokens are leaving, the polls left of each, the trace,
     /// the quotas, and how often it has failed.

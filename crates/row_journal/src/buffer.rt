@@ -7,6 +7,7 @@ ghost use Rattle.row_journal.specs.Shown.{BufferData};
 use std::alloc::{AllocError, Global};
 use std::marker::Model;
 
+/// Bytes of a record, in room that was made for them.
 #[derive(Debug, Drop)]
 pub(crate) struct Buffer {
     bytes: Vec<u8>,
@@ -22,12 +23,14 @@ impl Model for Buffer {
 }
 
 impl Buffer {
+    /// A buffer without bytes or room.
     pub(crate) fn new(alloc: Global) -> Buffer {
         Buffer {
             bytes: Vec::new(alloc),
         }
     }
 
+    /// The bytes that it has.
     pub(crate) fn as_slice(&self) -> &[u8]
         ensures { result.now ≡ self.now.bytes }
     {
@@ -56,6 +59,7 @@ impl Buffer {
         self.add(&[0]);
     }
 
+    // Puts bytes behind the others, within the room.
     fn add(&mut self, more: &[u8])
         requires { length self.old.bytes + length more.now ≤ self.old.room }
         ensures bytes { self.new.bytes ≡ self.old.bytes ++ more.now }

@@ -5,6 +5,7 @@ ghost use Rattle.row_journal.specs.declared.fault.ReadFault.TheVariants.{Memory,
 use heat_disk::DiskFailed;
 use std::alloc::AllocError;
 
+/// No image stands there, the disk failed, or memory was wanted.
 #[derive(Clone, Copy, Debug, PartialEq, Eq)]
 pub(crate) enum ReadFault {
     Foreign,

@@ -53,6 +53,7 @@ pub(crate) fn look(alloc: Global, first: &[u8], second: &[u8]) -> Result<Option<
     }
 }
 
+// What belongs to this half.
 fn part<'a>(half: Half, first: &'a [u8], second: &'a [u8]) -> &'a [u8]
     ensures { result.now ≡ part half (first.now, second.now) }
 {
@@ -62,6 +63,7 @@ fn part<'a>(half: Half, first: &'a [u8], second: &'a [u8]) -> &'a [u8]
     }
 }
 
+// How the bytes of the live half end.
 fn ending_of(half: Half, live: &[u8], end: u64) -> Ending
     ensures { EndsBy half live.now end result }
 {
@@ -74,6 +76,7 @@ fn ending_of(half: Half, live: &[u8], end: u64) -> Ending
     Ending::Open
 }
 
+// Where the image stands on the disk.
 fn place_of(image: &Image) -> Place
     requires fits { image.now.start + image.now.len < 2 ^ 64 }
     requires len { image.now.len ≡ length (spelled image.now.version 1 image.now.payloads.items) }

@@ -16,6 +16,7 @@ use crate::looking::Ending;
 use crate::place::Place;
 use heat_disk::{Disk, DiskFailed, Half};
 
+/// The half that isn't this one.
 pub(crate) fn other(half: Half) -> Half
     ensures { result ≡ other half }
 {

@@ -31,6 +31,7 @@ pub(crate) fn find<D: Disk>(alloc: Global, disk: &mut D) -> Result<Found, ReadFa
     }
 }
 
+// All bytes of one half.
 fn read_half<D: Disk>(alloc: Global, disk: &mut D, half: Half) -> Result<Vec<u8>, ReadFault>
     ensures bytes { IsTrue (D.shown disk.old).tells →
         IfOk result (λ v. v.items ≡ part half (D.shown disk.old).seen) }

@@ -72,6 +72,7 @@ fn shut<D: Disk>(disk: &mut D, half: Half) -> Result<(), DiskFailed>
     disk.sync(half)
 }
 
+// Sees to it that the gate at place 16 isn't open, and that the half reaches it.
 fn shut_gate<D: Disk>(disk: &mut D, half: Half) -> Result<(), DiskFailed>
     requires room { IsAtLeast 17 17 2 (part half (D.shown disk.old).room) }
     requires durable { IsTrue (D.shown disk.old).tells → IsDurable (D.shown disk.old) }
@@ -137,6 +138,7 @@ fn fill<D: Disk>(
     disk.sync(half)
 }
 
+// What a half begins with that a snapshot has made.
 fn header(epoch: u64) -> [u8; 16]
     ensures { result ≡ header_of epoch }
 {

@@ -17,6 +17,7 @@ use crate::reading::find;
 use heat_disk::Disk;
 use std::alloc::{AllocError, Global};
 
+/// The image with its place, where there is one; the journal may go on from there.
 pub(crate) fn take_up<D: Disk>(alloc: Global, disk: &mut D) -> Result<Found, ReadFault>
     ensures taken { IsTrue (D.shown disk.old).tells →
         IfOk result (λ found. HasOpened (D.shown disk.old) (D.shown disk.new)

@@ -46,6 +46,7 @@ pub fn polls_at(answers: &Seq<ScriptedAnswer>, next: usize) -> u8
     }
 }
 
+// As many polls as a provider may have left.
 fn at_most_64(polls: u8) -> u8
     ensures { result ≡ min polls 64 }
 {

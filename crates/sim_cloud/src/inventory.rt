@@ -123,6 +123,7 @@ impl Inventory {
         }
     }
 
+    // Whether no more of this kind may be alive.
     fn is_full(&self, kind: &Text) -> bool
         ensures full { IsTrue result → IsFull (shown_by self.now) kind.now }
         ensures room { IsFalse result → ¬ IsFull (shown_by self.now) kind.now }
@@ -133,6 +134,7 @@ impl Inventory {
         }
     }
 
+    // How many of this kind may be alive; none where there is no quota.
     fn quota_of(&self, kind: &Text) -> Option<u32>
         ensures { result ≡ quota_in self.now.quotas kind.now }
     {

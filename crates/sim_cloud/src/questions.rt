@@ -305,6 +305,7 @@ impl Inventory {
         }
     }
 
+    // A listing that works: all that is alive.
     fn list_now(&mut self) -> Result<Seq<Alive>, AllocError>
         ensures ok { IfOk result (λ all. Lists all (shown_by self.old) (shown_by self.new)) }
         ensures memory { OnErr result (IsAsBefore (shown_by self.old) (shown_by self.new)) }
@@ -315,6 +316,7 @@ impl Inventory {
         Ok(all)
     }
 
+    // A listing that fails, and is counted.
     fn fail_list(&mut self) -> Result<(), AllocError>
         ensures ok { OnOk result (ListsNone (shown_by self.old) (shown_by self.new)) }
         ensures memory { OnErr result (IsAsBefore (shown_by self.old) (shown_by self.new)) }

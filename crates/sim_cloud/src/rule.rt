@@ -28,6 +28,7 @@ pub fn new_resource(
     })
 }
 
+// What a resource tells once it is ready: its id and its attributes.
 fn new_facts(
     alloc: Global,
     names: &Seq<Text>,
@@ -42,6 +43,7 @@ fn new_facts(
     })
 }
 
+// The id of a resource, by its row.
 fn new_id(alloc: Global, row: RowNo) -> Result<Text, AllocError>
     ensures { IfOk result (λ t. t ≡ id_of row) }
 {
@@ -95,6 +97,7 @@ fn attributes(
     }
 }
 
+// The values of these attributes.
 fn values(
     alloc: Global,
     names: &Seq<Text>,
