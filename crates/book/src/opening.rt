@@ -37,6 +37,7 @@ pub(crate) fn start_of(alloc: Global, workers: u8) -> Result<Start, AllocError>
     Ok(Start { opening, state })
 }
 
+// A state with so many live engines, and nothing else.
 fn opening_of(alloc: Global, workers: u8) -> Result<State, AllocError>
     ensures { IfOk result (λ s. s.state ≡ opened workers) }
 {

@@ -40,6 +40,7 @@ pub(crate) fn after(
     }
 }
 
+// One state that a token may be in.
 fn one(alloc: Global, state: Option<Living>) -> Result<Seq<Option<Living>>, AllocError>
     ensures { IfOk result (λ s. s ≡ state ∷ []) }
 {
@@ -48,6 +49,7 @@ fn one(alloc: Global, state: Option<Living>) -> Result<Seq<Option<Living>>, Allo
     Ok(states)
 }
 
+// Two states that it may be in.
 fn two(
     alloc: Global,
     first: Option<Living>,
@@ -101,6 +103,7 @@ fn created_again(
     }
 }
 
+// What an update and its answer make of an alive resource.
 fn updated(
     alloc: Global,
     props: &Properties,
@@ -121,6 +124,7 @@ fn updated(
     }
 }
 
+// What a delete and its answer make of it.
 fn deleted(alloc: Global, answer: &Answered, it: &Living) -> Result<Seq<Option<Living>>, AllocError>
     ensures { IfOk result (λ s. s ≡ after Request.Delete answer.now (Some it.now)) }
 {
@@ -149,6 +153,7 @@ fn deleted_again(alloc: Global, answer: &Answered) -> Result<Seq<Option<Living>>
     }
 }
 
+// What a poll and its answer make of it.
 fn polled(alloc: Global, answer: &Answered, it: &Living) -> Result<Seq<Option<Living>>, AllocError>
     ensures { IfOk result (λ s. s ≡ after Request.Poll answer.now (Some it.now)) }
 {
@@ -209,6 +214,7 @@ pub(crate) fn after_each(
     once(alloc, all.as_slice())
 }
 
+// Puts the states behind those that were found before.
 fn add(all: &mut Seq<Option<Living>>, more: &[Option<Living>]) -> Result<(), AllocError>
     ensures { OnOk result (all.new ≡ all.old ++ more.now) }
 {

@@ -16,6 +16,7 @@ pub(crate) fn copy_cause(cause: &Cause) -> Result<Cause, AllocError>
     })
 }
 
+// A copy of the reason of a failure.
 fn copy_why(why: &Why) -> Result<Why, AllocError>
     ensures { IfOk result (λ w. w ≡ why.now) }
 {

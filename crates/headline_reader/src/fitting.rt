@@ -42,12 +42,14 @@ fn finds(alloc: Global, all: &[Possible], plan: &Plan) -> Result<bool, AllocErro
     }
 }
 
+// Whether each called token has one possible state.
 fn are_certain(all: &[Possible]) -> bool
     ensures { IsTrue result ↔ All (λ p. IsCertain p.states) all.now }
 {
     all.iter().all(|it| is_certain(it))
 }
 
+// Whether each item's needs are there, and its one resource.
 fn have_all(
     alloc: Global,
     plan: &Plan,
@@ -64,6 +66,7 @@ fn have_all(
     Ok(true)
 }
 
+// Whether each token that may be alive has the name of an item.
 fn are_planned(all: &[Possible], items: &[Item]) -> bool
     ensures { IsTrue result ↔ All (IsPlanned items.now) all.now }
 {

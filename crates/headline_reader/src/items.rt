@@ -46,6 +46,7 @@ fn has_resolved(
     }
 }
 
+// Whether one token, and no other of its name, is the item's resource.
 #[tactic(auto, unfolding(crate::specs::Items::HasOne))]
 fn has_one(all: &[Possible], item: &Item, props: &Properties) -> bool
     ensures { IsTrue result ↔ HasOne all.now item.now props.now }
@@ -53,6 +54,7 @@ fn has_one(all: &[Possible], item: &Item, props: &Properties) -> bool
     all.iter().any(|it| is_only_of_item(all, it, item, props))
 }
 
+// Whether this token is that resource, and no other may be.
 fn is_only_of_item(all: &[Possible], it: &Possible, item: &Item, props: &Properties) -> bool
     ensures { IsTrue result ↔ (IsOfItem item.now props.now it.now × IsOnly all.now it.now) }
 {
@@ -69,6 +71,7 @@ fn is_of_item(it: &Possible, item: &Item, props: &Properties) -> bool
     }
 }
 
+// Whether what is alive is as the item asks: its kind and properties, ready, not leaving.
 fn is_as(living: &Living, item: &Item, props: &Properties) -> bool
     ensures { IsTrue result ↔ IsAs item.now props.now living.now }
 {
@@ -85,6 +88,7 @@ fn is_only(all: &[Possible], it: &Possible) -> bool
     all.iter().all(|other| is_same(it, other))
 }
 
+// Whether the other can't be a second one: not alive, of another name, or of the same row.
 fn is_same(it: &Possible, other: &Possible) -> bool
     ensures { IsTrue result ↔ IsSame it.now other.now }
 {
@@ -99,6 +103,7 @@ pub(crate) fn is_planned(items: &[Item], it: &Possible) -> bool
     !may_live(it) || has_name(items, &it.token.name)
 }
 
+// Whether the plan has an item of this name.
 fn has_name(items: &[Item], name: &ResName) -> bool
     ensures { IsTrue result ↔ HasName items.now name.now }
 {

@@ -130,12 +130,14 @@ fn same_props(a: &Properties, b: &Properties) -> bool
     a.equals(b)
 }
 
+// Whether two resources have told the same.
 fn same_facts(a: &Facts, b: &Facts) -> bool
     ensures { result ≡ same_facts a.now b.now }
 {
     a.id == b.id && same_props(&a.attrs, &b.attrs)
 }
 
+// Whether neither is ready, or both have told the same.
 fn same_told(a: &Option<Facts>, b: &Option<Facts>) -> bool
     ensures { result ≡ same_told a.now b.now }
 {
@@ -161,6 +163,7 @@ pub(crate) fn same_state(a: &Option<Living>, b: &Option<Living>) -> bool
     }
 }
 
+// Whether two alive resources are in one state.
 fn same_living(a: &Living, b: &Living) -> bool
     ensures { result ≡ same_state (Some a.now) (Some b.now) }
 {

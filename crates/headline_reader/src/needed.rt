@@ -48,6 +48,7 @@ fn facts_under<'a>(all: &'a [Possible], need: &ResName) -> Option<&'a Facts>
     None
 }
 
+// The facts of a token that has the needed name, where it is ready.
 fn facts_named<'a>(it: &'a Possible, need: &ResName) -> Option<&'a Facts>
     ensures { option_map (λ f. f.now) result ≡ facts_named need.now it.now }
 {

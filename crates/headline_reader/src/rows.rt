@@ -31,6 +31,7 @@ fn store(rows: &mut ListTable<Row>, what: &What) -> Result<(), AllocError>
     }
 }
 
+// The rows after all writes of an entry.
 fn store_all(rows: &mut ListTable<Row>, writes: &[RowWrite]) -> Result<(), AllocError>
     ensures { OnOk result (rows.new.items ≡ fold written rows.old.items writes.now) }
 {

@@ -45,6 +45,7 @@ pub fn load(rt: &HostRuntime, path: &Text) -> Result<SimCloud, KeepFault> {
     }
 }
 
+// Want of memory, told apart from all else that a file may meet.
 fn fault_of(kind: ErrorKind) -> KeepFault {
     if kind == ErrorKind::OutOfMemory {
         KeepFault::Memory

@@ -15,6 +15,7 @@ pub fn words_for(ended: &Ended) -> &'static str
     }
 }
 
+// What is said of each way to end.
 fn words_for_exit(exit: &Exit) -> &'static str
     ensures { result.now ≡ said_of_exit exit.now }
 {

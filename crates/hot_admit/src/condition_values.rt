@@ -99,6 +99,7 @@ fn values_in(
     Ok(ByName::from_list(known))
 }
 
+// A condition that has a value.
 fn named(name: &Text, value: bool) -> Result<Condition, AllocError>
     ensures { IfOk result (λ c. c ≡ record { name = name.now; value = value }) }
 {
@@ -131,6 +132,7 @@ fn evaluated(
     Ok(values)
 }
 
+// So many conditions, none with a value.
 fn no_values(alloc: Global, count: usize) -> Result<Vec<Option<bool>>, AllocError>
     ensures { IfOk result (λ values. values.items ≡ replicate count None) }
 {
@@ -335,6 +337,7 @@ fn unvalued_in(alloc: Global, section: &str, name: &Text) -> CondFault
     }
 }
 
+// The place of the condition that an entry of a section has.
 fn entry_path(alloc: Global, section: &str, name: &Text) -> Result<Path, AllocError>
     ensures { IfOk result (λ p. p ≡ the_entry_path section.now name.now) }
 {

@@ -80,6 +80,7 @@ fn item_of(alloc: Global, basis: &Basis, res: &Res, names: &[ResName]) -> Result
     }
 }
 
+// What the plan asks for in the place of a resource of this kind.
 fn item_with(
     alloc: Global,
     res: &Res,
@@ -112,6 +113,7 @@ fn properties_of(props: &Props) -> Result<Properties, AllocError>
     }
 }
 
+// To retain where the template says so, in either spelling; else to delete.
 fn policy_of(policy: &str) -> Policy
     ensures { result ≡ the_policy_of policy.now }
 {

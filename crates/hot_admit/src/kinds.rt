@@ -43,6 +43,7 @@ pub fn with_unknown_property(
     behind_name(alloc, "properties", unknown)
 }
 
+// The place of the first property that the kind doesn't have.
 fn unknown_property(
     alloc: Global,
     res: &Res,
@@ -111,6 +112,7 @@ pub fn without_property(alloc: Global, basis: &Basis, res: &Res) -> Result<Optio
     behind_name(alloc, "properties", missing)
 }
 
+// That a property is missing which the kind requires.
 fn missing_property(alloc: Global, res: &Res, kind: Option<&KindDef>) -> Option<Path>
     ensures { result ≡ the_missing_property (resource_data res.now) (option_map (λ k. k.now) kind.entry) }
 {

@@ -70,6 +70,7 @@ fn add_read<'a>(place: Place, value: &'a Value, names: &mut Vec<&'a Text>) -> Re
     }
 }
 
+// Adds the conditions that the items of a list name.
 #[cycle(names_read)]
 #[tactic(auto, using(crate::proofs::Weights::for_walks))]
 fn add_read_among<'a>(
@@ -86,6 +87,7 @@ fn add_read_among<'a>(
     Ok(())
 }
 
+// Adds those that the values of an object name.
 #[cycle(names_read)]
 #[tactic(auto, using(crate::proofs::Weights::for_walks))]
 fn add_read_under<'a>(

@@ -117,6 +117,7 @@ fn outputs_of(alloc: Global, outputs: &[Out], wanted: &[Wanted]) -> Result<Seq<O
     Ok(all)
 }
 
+// An output's value where the output is wanted; else null.
 fn value_where(wanted: bool, value: &Value) -> Result<Expression, AllocError>
     requires { depth (data_of value.now) ≤ 64 }
     ensures { IfOk result (λ e. e ≡ (if wanted then data_of value.now else null)) }

@@ -38,6 +38,7 @@ pub fn is_unknown_reference(basis: &Basis, member: &Member) -> bool
     is_unknown_resource(basis, member) || is_unknown_file(basis, member)
 }
 
+// Whether it refers to a resource that the template doesn't have.
 fn is_unknown_resource(basis: &Basis, member: &Member) -> bool
     ensures { result ≡ the_is_unknown_resource (basis_data basis.now).resources member.now.key
         (data_of member.now.value) }
@@ -48,6 +49,7 @@ fn is_unknown_resource(basis: &Basis, member: &Member) -> bool
     }
 }
 
+// Whether it gets a file that the body doesn't have.
 fn is_unknown_file(basis: &Basis, member: &Member) -> bool
     ensures { result ≡ the_is_unknown_file (basis_data basis.now).files member.now.key
         (data_of member.now.value) }
@@ -168,6 +170,7 @@ fn first_two_texts(argument: &Value) -> Option<(&Text, &Text)>
     }
 }
 
+// The two texts that a list begins with.
 fn two_texts(values: &[Value]) -> Option<(&Text, &Text)>
     ensures { option_map (λ p. (p.0.now, p.1.now)) result ≡ the_two_texts (nodes_of values.now) }
 {
@@ -178,6 +181,7 @@ fn two_texts(values: &[Value]) -> Option<(&Text, &Text)>
     }
 }
 
+// A pair, where neither is missing.
 fn both_texts<'a>(first: Option<&'a Text>, second: Option<&'a Text>) -> Option<(&'a Text, &'a Text)>
     ensures { option_map (λ p. (p.0.now, p.1.now)) result
         ≡ the_both_texts (option_map (λ t. t.now) first.entry) (option_map (λ t. t.now) second.entry) }
@@ -238,6 +242,7 @@ fn is_listed(texts: &[Text], text: &str) -> bool
     any_is(texts, text)
 }
 
+// Whether one of the texts is this one.
 fn any_is(texts: &[Text], text: &str) -> bool
     ensures { result ≡ list_any (bytes_eq text.now) texts.now }
 {

@@ -58,6 +58,7 @@ pub fn place_in(alloc: Global, sought: Sought, value: &Value) -> Result<Option<P
     }
 }
 
+// The place of the first one in a list.
 #[cycle(places)]
 #[tactic(auto, using(crate::proofs::Weights::for_walks))]
 fn place_among(alloc: Global, sought: Sought, values: &[Value]) -> Result<Option<Path>, AllocError>
@@ -101,6 +102,7 @@ fn is_sought_alone(sought: Sought, members: &[Member]) -> bool
     }
 }
 
+// Whether this object's one member is of the sort.
 fn is_sought(sought: Sought, member: &Member) -> bool
     ensures { result ≡ sort_of sought.entry member.now.key (data_of member.now.value) }
 {

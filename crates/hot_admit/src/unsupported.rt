@@ -33,12 +33,14 @@ pub fn is_unsupported(member: &Member) -> bool
     member.key.as_str() == "repeat" && holds_permutations(&member.value)
 }
 
+// Whether the key is that of a function that no plan has.
 fn is_left_out(key: &str) -> bool
     ensures { result ≡ the_is_left_out key.now }
 {
     is_among(&LEFT_OUT, key) || key.starts_with("Fn::")
 }
 
+// Whether an argument is an object with the key `permutations`.
 fn holds_permutations(argument: &Value) -> bool
     ensures { result ≡ the_stands (codes "permutations") (members_in (data_of argument.now)) }
 {
@@ -70,6 +72,7 @@ pub fn unsupported_in_resource(alloc: Global, res: &Res) -> Result<Option<Path>,
     behind_name(alloc, "update_policy", here_unless(alloc, empty))
 }
 
+// Whether an object has no member.
 fn is_empty(map: &Props) -> bool
     ensures { result ≡ the_is_empty map.now }
 {
@@ -79,6 +82,7 @@ fn is_empty(map: &Props) -> bool
     }
 }
 
+// Whether a policy asks for a snapshot, in either spelling.
 fn is_snapshot(policy: &str) -> bool
     ensures { result ≡ the_is_snapshot policy.now }
 {

@@ -21,7 +21,7 @@ impl Due {
         Due { tries: 0, place }
     }
 
-    /// The same condition, once more.
+    // The same condition, once more.
     fn again(self) -> Due
         ensures { result.place ≡ self.place }
     {
@@ -87,6 +87,7 @@ impl Waiting {
         }
     }
 
+    // Those that wait for this condition are due.
     fn wake(&mut self, place: usize) -> Result<(), AllocError>
         requires { place < self.old }
         ensures { self.new ≡ self.old }
@@ -97,6 +98,7 @@ impl Waiting {
         Ok(())
     }
 
+    // One waits for the condition at this place.
     fn wait(&mut self, due: Due, place: usize) -> Result<(), AllocError>
         requires { due.place < self.old }
         ensures { self.new ≡ self.old }

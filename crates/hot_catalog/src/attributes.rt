@@ -19,6 +19,7 @@ pub fn attributes_in(alloc: Global, definition: &Value) -> Result<Seq<Text>, All
     keys_of(alloc, &names_in(alloc, held)?)
 }
 
+// The keys of an object, in their order.
 fn keys_of(alloc: Global, names: &Props) -> Result<Seq<Text>, AllocError>
     ensures { IfOk result (λ s. s ≡ the_keys_of names.now) }
 {
@@ -41,6 +42,7 @@ fn names_in(alloc: Global, held: Option<&Value>) -> Result<Props, AllocError>
     }
 }
 
+// The texts of a list, as keys: in byte order, each once.
 fn with_texts(alloc: Global, items: &Items) -> Result<Props, AllocError>
     ensures { IfOk result (λ p. p ≡ the_with_texts items.now no_members) }
 {

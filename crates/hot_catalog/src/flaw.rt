@@ -87,6 +87,7 @@ fn with_many_attributes(alloc: Global, definition: &Value) -> Result<Option<Path
     )
 }
 
+// Whether the program has registered a kind of this name.
 fn is_registered(registered: &[KindDef], name: &Text) -> bool
     ensures { result ≡ is_some (kind_named name.now registered.now) }
 {
@@ -101,12 +102,14 @@ fn is_kind_name(name: &str) -> bool
     1 <= bytes.len() && bytes.len() <= 255 && are_kind_bytes(bytes)
 }
 
+// Whether the bytes are all such as a kind's name has.
 fn are_kind_bytes(bytes: &[u8]) -> bool
     ensures { result ≡ list_all the_is_kind_byte bytes.now }
 {
     bytes.iter().all(|byte| is_kind_byte(*byte))
 }
 
+// A letter or digit, all ASCII, or one of `_`, `.`, `:` and `-`.
 fn is_kind_byte(byte: u8) -> bool
     ensures { result ≡ the_is_kind_byte byte }
 {

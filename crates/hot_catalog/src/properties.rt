@@ -22,6 +22,7 @@ pub fn properties_in(alloc: Global, definition: &Value) -> Result<Seq<PropDef>, 
     properties_among(alloc, members_there(held, &none))
 }
 
+// The properties that an object defines, in the order of its keys.
 fn properties_among(alloc: Global, members: &Props) -> Result<Seq<PropDef>, AllocError>
     ensures { IfOk result (λ s. s ≡ the_properties_among members.now) }
 {
@@ -32,6 +33,7 @@ fn properties_among(alloc: Global, members: &Props) -> Result<Seq<PropDef>, Allo
     Ok(props)
 }
 
+// The property that one member defines.
 fn property_of(alloc: Global, member: &Member) -> Result<PropDef, AllocError>
     ensures { IfOk result (λ p. p ≡ the_property_of member.now.key (data_of member.now.value)) }
 {
@@ -39,6 +41,7 @@ fn property_of(alloc: Global, member: &Member) -> Result<PropDef, AllocError>
     property_with(alloc, &member.key, members_in(&member.value, &none))
 }
 
+// A property of this name, with the flags that are on.
 fn property_with(alloc: Global, name: &Text, flags: &Props) -> Result<PropDef, AllocError>
     ensures { IfOk result (λ p. p ≡ the_property_with name.now flags.now) }
 {

@@ -37,6 +37,7 @@ fn parts_shape(alloc: Global, parts: &Props) -> Result<Option<Path>, AllocError>
     properties_part(alloc, parts)
 }
 
+// The place of what is wrong with the attributes, where there are some.
 fn attributes_part(alloc: Global, parts: &Props) -> Result<Option<Path>, AllocError>
     ensures { IfOk result (λ o. o ≡ part_shape (codes "attributes") the_attributes_shape parts.now) }
 {
@@ -46,6 +47,7 @@ fn attributes_part(alloc: Global, parts: &Props) -> Result<Option<Path>, AllocEr
     }
 }
 
+// The place of what is wrong with the properties, where there are some.
 fn properties_part(alloc: Global, parts: &Props) -> Result<Option<Path>, AllocError>
     ensures { IfOk result (λ o. o ≡ part_shape (codes "properties") the_properties_shape parts.now) }
 {
@@ -81,6 +83,7 @@ fn with_no_text(alloc: Global, items: &Items) -> Result<Option<Path>, AllocError
     Ok(None)
 }
 
+// The place of what is wrong with them: no object, or one of them.
 fn properties_shape(alloc: Global, value: &Value) -> Result<Option<Path>, AllocError>
     ensures { IfOk result (λ o. o ≡ the_properties_shape (data_of value.now)) }
 {
@@ -117,6 +120,7 @@ fn property_shape(alloc: Global, value: &Value) -> Result<Option<Path>, AllocErr
     }
 }
 
+// The place of the first of a property's two flags that is none.
 fn flags_shape(alloc: Global, flags: &Props) -> Result<Option<Path>, AllocError>
     ensures { IfOk result (λ o. o ≡ the_property_shape (fields flags.now)) }
 {
@@ -126,6 +130,7 @@ fn flags_shape(alloc: Global, flags: &Props) -> Result<Option<Path>, AllocError>
     flag_shape(alloc, "update_allowed", flags)
 }
 
+// The place of this key, where it is there and no flag.
 fn flag_shape(alloc: Global, key: &str, flags: &Props) -> Result<Option<Path>, AllocError>
     ensures { IfOk result (λ o. o ≡ the_flag_shape key.now flags.now) }
 {
@@ -143,6 +148,7 @@ fn unflagged(alloc: Global, value: Option<&Value>) -> Option<Path>
     }
 }
 
+// Whether a value is true or false.
 fn is_flag(value: &Value) -> bool
     ensures { result ≡ the_is_flag (data_of value.now) }
 {

@@ -30,6 +30,7 @@ pub fn pick<'a>(flag: Option<bool>, branches: &'a [Value]) -> Picked<'a>
     }
 }
 
+// What a true condition picks: the first branch, if there is one.
 fn first_branch(branches: &[Value]) -> Picked
     ensures { IsPicked result (Some true) (nodes_of branches.now) }
 {
@@ -39,6 +40,7 @@ fn first_branch(branches: &[Value]) -> Picked
     }
 }
 
+// What a false condition picks: the second branch, and null where there is none.
 fn second_branch(branches: &[Value]) -> Picked
     ensures { IsPicked result (Some false) (nodes_of branches.now) }
 {

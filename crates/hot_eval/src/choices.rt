@@ -80,6 +80,7 @@ fn lists_in<'a>(alloc: Global, members: &'a [Member]) -> Result<Option<Vec<Liste
     Ok(Some(lists))
 }
 
+// Whether some list stands under the empty text.
 fn has_empty_key(lists: &[Listed]) -> bool
     ensures { result ≡ list_any (λ l. is_empty l.0) (lists_of lists.now) }
 {

@@ -202,6 +202,7 @@ pub fn condition(set: &Setting, given: &Value, sum: &mut Sum) -> Result<Value, E
     }
 }
 
+// An object as a condition: what its condition function gives, else the object.
 #[cycle(evaluation)]
 fn condition_object(set: &Setting, given: &Props, sum: &mut Sum) -> Result<Value, EvalFault>
     ensures { IsOutcome data_of result sum.new

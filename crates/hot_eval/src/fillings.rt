@@ -115,6 +115,7 @@ pub fn fill(
     value_filled(alloc, choice, template, room)
 }
 
+// A part of the template with the items in place of the keys.
 #[cycle(filling)]
 fn value_filled(
     alloc: Global,
@@ -136,6 +137,7 @@ fn value_filled(
     }
 }
 
+// A list, each of its parts filled.
 #[cycle(filling)]
 #[tactic(auto, using(crate::proofs::Weights::for_walks))]
 fn items_filled(
@@ -159,6 +161,7 @@ fn items_filled(
     Ok(Filled::Template(Value::Items(items)))
 }
 
+// An object, its keys and its values filled.
 #[cycle(filling)]
 #[tactic(auto, using(crate::proofs::Weights::for_walks))]
 fn fields_filled(

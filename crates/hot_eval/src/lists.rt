@@ -115,6 +115,7 @@ pub fn contains(argument: &Value) -> Result<Value, FunctionFault>
     contains_in(value, whole)
 }
 
+// Whether a list has the value as an item, or a text has it as a part.
 fn contains_in(value: &Value, whole: &Value) -> Result<Value, FunctionFault>
     ensures { IsAnswer result (the_contains_in (data_of value.now) (data_of whole.now)) }
 {
@@ -132,6 +133,7 @@ fn contains_text(text: &Text, value: &Value) -> Result<Value, FunctionFault>
     Ok(Value::Flag(has_part(text.as_str(), part.as_str())))
 }
 
+// Whether one text stands somewhere in another.
 fn has_part(text: &str, part: &str) -> bool
     ensures { result ≡ is_part part.now text.now }
 {
@@ -158,6 +160,7 @@ fn has(value: &Value, items: &[Value]) -> bool
     false
 }
 
+// Whether two values hold the same.
 fn are_one(one: &Value, other: &Value) -> bool
     ensures { result ≡ the_is_same (data_of one.now) (data_of other.now) }
 {

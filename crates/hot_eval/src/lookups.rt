@@ -37,6 +37,7 @@ pub fn parameter(alloc: Global, scene: &Scene, argument: &Value) -> Result<Value
     }
 }
 
+// What stands in a parameter's value at a path; the empty text where nothing does.
 fn parameter_at(
     alloc: Global,
     scene: &Scene,
@@ -74,6 +75,7 @@ pub fn attribute(alloc: Global, scene: &Scene, argument: &Value) -> Result<Value
     attribute_of(alloc, scene, name, rest)
 }
 
+// What is read of a resource's attributes; null where the resource has no facts.
 fn attribute_of(
     alloc: Global,
     scene: &Scene,
@@ -100,6 +102,7 @@ fn attributes_at(alloc: Global, facts: &Facts, rest: &[Value]) -> Result<Value, 
     }
 }
 
+// What stands in an attribute at a path; null where there is no such attribute.
 fn attribute_at(
     alloc: Global,
     facts: &Facts,
@@ -115,6 +118,7 @@ fn attribute_at(
     }
 }
 
+// The attribute that a text names.
 fn attribute_named<'a>(facts: &'a Facts, name: &Value) -> Option<&'a Value>
     ensures { option_map (λ v. data_of v.now) result
         ≡ option_and_then (λ s. lookup s facts.now.attrs) (the_text_in (data_of name.now)) }
@@ -180,6 +184,7 @@ fn step_into<'a>(
     }
 }
 
+// The item at the place that a step tells.
 fn step_into_list<'a>(values: &'a [Value], step: &Value) -> Option<&'a Value>
     ensures { option_map (λ v. data_of v.now) result
         ≡ the_step_into_list (nodes_of values.now) (data_of step.now) }

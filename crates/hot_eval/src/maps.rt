@@ -49,6 +49,7 @@ pub fn map_replace(alloc: Global, argument: &Value) -> Result<Value, FunctionFau
     rename_in(alloc, map, by)
 }
 
+// A map with the keys and values that another one gives it.
 fn rename_in(alloc: Global, map: &Value, by: &Value) -> Result<Value, FunctionFault>
     ensures { IsAnswer result (the_rename_in (data_of map.now, data_of by.now)) }
 {
@@ -93,6 +94,7 @@ pub fn put_new(map: &mut Props, key: Text, value: Value) -> Result<bool, AllocEr
     Ok(true)
 }
 
+// Whether a value stands under the key.
 fn has_key(map: &Props, key: &Text) -> bool
     ensures { result ≡ the_stands key.now map.now }
 {
@@ -150,6 +152,7 @@ fn are_known(members: &[Member]) -> bool
     true
 }
 
+// Whether it is one of the two keys that a replacement may have.
 fn is_known(member: &Member) -> bool
     ensures { result ≡ the_is_among (codes "keys" ∷ codes "values" ∷ []) member.now.key }
 {

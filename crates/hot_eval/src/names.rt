@@ -14,7 +14,7 @@ use crate::Function;
 use heat_value::{Member, Value};
 use hot_functions::{Form, condition_form_of, form_of, has_form, lone, stands};
 
-/// The function of values that a key names; any other key is plain.
+// The function of values that a key names; any other key is plain.
 fn function_of(key: &str) -> Option<Function>
     ensures { result ≡ the_function_of key.now }
 {
@@ -86,7 +86,7 @@ fn collection_function_of(key: &str) -> Option<Function>
     None
 }
 
-/// The function of conditions that a key names.
+// The function of conditions that a key names.
 fn condition_function_of(key: &str) -> Option<Function>
     ensures { result ≡ the_condition_function_of key.now }
 {
@@ -145,6 +145,7 @@ pub fn is_condition_formed(member: &Member) -> bool
     has_form_of(condition_form_of(member.key.as_str()), &member.value)
 }
 
+// Whether an argument has the form, where there is one; else it has none.
 fn has_form_of(form: Option<Form>, value: &Value) -> bool
     ensures { result ≡ the_has_form_of form (data_of value.now) }
 {
@@ -154,6 +155,7 @@ fn has_form_of(form: Option<Form>, value: &Value) -> bool
     }
 }
 
+// Whether an argument is an object with the key `permutations`.
 fn has_permutations(value: &Value) -> bool
     ensures { result ≡ the_stands (codes "permutations") (members_in (data_of value.now)) }
 {

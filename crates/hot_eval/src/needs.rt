@@ -56,6 +56,7 @@ fn add_in<'a>(value: &'a Value, named: &mut Vec<&'a Text>) -> Result<(), AllocEr
     }
 }
 
+// Adds the resources that the items of a list name.
 #[cycle(named)]
 #[tactic(auto, using(crate::proofs::Weights::for_walks))]
 fn add_among<'a>(values: &'a [Value], named: &mut Vec<&'a Text>) -> Result<(), AllocError>
@@ -68,6 +69,7 @@ fn add_among<'a>(values: &'a [Value], named: &mut Vec<&'a Text>) -> Result<(), A
     Ok(())
 }
 
+// Adds those that the values of an object name.
 #[cycle(named)]
 #[tactic(auto, using(crate::proofs::Weights::for_walks))]
 fn add_under<'a>(members: &'a [Member], named: &mut Vec<&'a Text>) -> Result<(), AllocError>
@@ -108,6 +110,7 @@ pub fn referred(member: &Member) -> Option<&Text>
     None
 }
 
+// The text at the front of a list.
 fn first_text(argument: &Value) -> Option<&Text>
     ensures { option_map (λ t. t.now) result ≡ the_first_text (data_of argument.now) }
 {

@@ -28,6 +28,7 @@ pub fn list_join(alloc: Global, argument: &Value) -> Result<Value, FunctionFault
     join_with(alloc, delimiter, lists)
 }
 
+// The items of the lists as one text, with the delimiter between them.
 fn join_with(alloc: Global, delimiter: &Value, lists: &[Value]) -> Result<Value, FunctionFault>
     ensures { IsAnswer result (the_join_with (data_of delimiter.now, nodes_of lists.now)) }
 {
@@ -56,6 +57,7 @@ pub fn str_split(alloc: Global, argument: &Value) -> Result<Value, FunctionFault
     split_with(alloc, delimiter, rest)
 }
 
+// A text cut at the delimiter: its pieces, or the one that an index picks.
 fn split_with(alloc: Global, delimiter: &Value, rest: &[Value]) -> Result<Value, FunctionFault>
     ensures { IsAnswer result (the_split_with (data_of delimiter.now, nodes_of rest.now)) }
 {
@@ -77,6 +79,7 @@ fn split_text(
     split_by(alloc, delimiter, &text, index)
 }
 
+// All pieces of a text, or the one at the given index.
 fn split_by(
     alloc: Global,
     delimiter: &Text,
@@ -103,6 +106,7 @@ pub fn str_replace(alloc: Global, strict: bool, argument: &Value) -> Result<Valu
     put_into(alloc, strict, params, &template)
 }
 
+// A template with each key replaced by what its parameter says.
 fn put_into(
     alloc: Global,
     strict: bool,
@@ -134,6 +138,7 @@ pub fn digest(alloc: Global, argument: &Value) -> Result<Value, FunctionFault>
     digest_with(alloc, name, text)
 }
 
+// The digest of a text, by the name that a value tells.
 fn digest_with(alloc: Global, name: &Value, text: &Value) -> Result<Value, FunctionFault>
     ensures { IsAnswer result (the_digest_with (data_of name.now, data_of text.now)) }
 {
@@ -142,6 +147,7 @@ fn digest_with(alloc: Global, name: &Value, text: &Value) -> Result<Value, Funct
     digest_named(alloc, name, &text)
 }
 
+// The digest of this name; F01 where none has it.
 fn digest_named(alloc: Global, name: &Text, text: &Text) -> Result<Value, FunctionFault>
     ensures { IsAnswer result (wanted_of (the_digest_of name.now text.now) (λ hex. Ok (words hex))) }
 {

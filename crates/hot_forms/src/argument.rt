@@ -37,6 +37,7 @@ fn is_range(value: &Value) -> bool
     }
 }
 
+// Whether there is no bound.
 fn is_empty(bounds: &[Member]) -> bool
     ensures { result ≡ the_is_empty (members_of bounds.now) }
 {
@@ -58,6 +59,7 @@ fn are_bounds(bounds: &Props) -> bool
     true
 }
 
+// Whether it is `max` or `min`, with a whole number.
 fn is_bound(bound: &Member) -> bool
     ensures { result ≡ (the_is_among (codes "max" ∷ codes "min" ∷ []) bound.now.key
         && the_is_whole (data_of bound.now.value)) }
@@ -65,6 +67,7 @@ fn is_bound(bound: &Member) -> bool
     is_among(&["max", "min"], bound.key.as_str()) && is_whole(&bound.value)
 }
 
+// Whether a value is a whole number.
 fn is_whole(value: &Value) -> bool
     ensures { result ≡ the_is_whole (data_of value.now) }
 {
@@ -81,6 +84,7 @@ fn counts(value: &Value) -> bool
     }
 }
 
+// Whether every bound is a whole number, 0 or more.
 fn are_counts(bounds: &Props) -> bool
     ensures { result ≡ the_are_counts bounds.now }
 {
@@ -114,6 +118,7 @@ fn is_modulo(value: &Value) -> bool
     }
 }
 
+// Whether these are an offset and a step that it suits.
 fn is_offset_and_step(parts: &[Member]) -> bool
     ensures { result ≡ the_is_modulo (members_of parts.now) }
 {

@@ -60,6 +60,7 @@ pub fn is_among(known: &[&str], text: &str) -> bool
     any_is(known, text)
 }
 
+// Whether a text is one of these.
 fn any_is(known: &[&str], text: &str) -> bool
     ensures { result ≡ list_any (λ n. bytes_eq text.now n.now) known.now }
 {

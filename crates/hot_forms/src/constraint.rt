@@ -29,6 +29,7 @@ pub fn is_constraint_list(value: &Value) -> bool
     }
 }
 
+// Whether every item has the form of a constraint.
 fn are_constraints(items: &Items) -> bool
     ensures { result ≡ the_are_constraints items.now }
 {
@@ -75,6 +76,7 @@ fn has_no_more(fields: &Props) -> bool
     true
 }
 
+// Whether a constraint may have this member: a rule, or a description.
 fn is_part(member: &Member) -> bool
     ensures { result ≡ (is_some (the_rule_of member.now.key)
         || (bytes_eq member.now.key (codes "description") && the_is_text (data_of member.now.value))) }
@@ -112,6 +114,7 @@ fn constraint_flaw(alloc: Global, sort: Sort, value: &Value) -> Result<Option<Fl
     }
 }
 
+// What is wrong with the first argument that doesn't suit the type.
 fn argument_flaw(alloc: Global, sort: Sort, fields: &Props) -> Result<Option<Flaw>, AllocError>
     ensures { IfOk result (λ o. o ≡ the_constraint_flaw sort fields.now) }
 {

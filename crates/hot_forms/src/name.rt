@@ -23,12 +23,14 @@ pub fn is_name(name: &str) -> bool
     0 < bytes.len() && bytes.len() <= 255 && are_name_bytes(bytes)
 }
 
+// Whether the bytes are all such as a name has.
 fn are_name_bytes(bytes: &[u8]) -> bool
     ensures { result ≡ list_all the_is_name_byte bytes.now }
 {
     bytes.iter().all(|byte| is_name_byte(*byte))
 }
 
+// A letter or digit, all ASCII, or one of `_`, `.` and `-`.
 fn is_name_byte(byte: u8) -> bool
     ensures { result ≡ the_is_name_byte byte }
 {

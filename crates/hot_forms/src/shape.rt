@@ -85,12 +85,14 @@ fn has_shape(shape: Shape, value: &Value) -> bool
     }
 }
 
+// Whether a value is null.
 fn is_null(value: &Value) -> bool
     ensures { result ≡ the_is_null (data_of value.now) }
 {
     matches!(value, Value::Null)
 }
 
+// Whether a value is true or false.
 fn is_flag(value: &Value) -> bool
     ensures { result ≡ the_is_flag (data_of value.now) }
 {
@@ -104,6 +106,7 @@ pub fn is_text(value: &Value) -> bool
     matches!(value, Value::Words(_))
 }
 
+/// Whether a value is a list.
 pub(crate) fn is_list(value: &Value) -> bool
     ensures { result ≡ the_is_list (data_of value.now) }
 {

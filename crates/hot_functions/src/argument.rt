@@ -67,12 +67,14 @@ fn lists_form(form: Form, values: &[Value]) -> bool
     }
 }
 
+// How many items there are.
 fn count_of(values: &[Value]) -> usize
     ensures { result ≡ the_count_of (nodes_of values.now) }
 {
     values.len()
 }
 
+// Whether the first item is a text.
 fn begins_with_text(values: &[Value]) -> bool
     ensures { result ≡ the_begins_with_text (nodes_of values.now) }
 {
@@ -93,12 +95,14 @@ fn names_attribute(values: &[Value]) -> bool
     }
 }
 
+// Whether both are texts: a resource's name and an attribute's.
 fn are_texts(name: &Value, attribute: &Value) -> bool
     ensures { result ≡ (the_is_text (data_of name.now) && the_is_text (data_of attribute.now)) }
 {
     is_text(name) && is_text(attribute)
 }
 
+// Whether the first item may be a condition.
 fn begins_with_condition(values: &[Value]) -> bool
     ensures { result ≡ the_begins_with_condition (nodes_of values.now) }
 {
@@ -152,6 +156,7 @@ fn are_among(known: &[&str], members: &[Member]) -> bool
     true
 }
 
+// Whether its key is one of these.
 fn is_known(known: &[&str], member: &Member) -> bool
     ensures { result ≡ the_is_among (map (λ n. n.now) known.now) member.now.key }
 {
@@ -170,6 +175,7 @@ pub fn stands(key: &str, members: &[Member]) -> bool
     false
 }
 
+// Whether it stands under this key.
 fn is_under(key: &str, member: &Member) -> bool
     ensures { result ≡ bytes_eq member.now.key key.now }
 {
@@ -188,6 +194,7 @@ fn holds_object(key: &str, members: &[Member]) -> bool
     false
 }
 
+// Whether it is an object under this key.
 fn is_object_under(key: &str, member: &Member) -> bool
     ensures { result ≡ (bytes_eq member.now.key key.now && the_is_object (data_of member.now.value)) }
 {

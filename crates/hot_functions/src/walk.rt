@@ -20,6 +20,7 @@ use heat_value::{Member, Props, Text, Value};
 use hot_forms::{Flaw, HotCode, is_among, under_key, under_place, unless};
 use std::alloc::{AllocError, Global};
 
+// The parameters that every template has.
 const PSEUDO_PARAMETERS: [&str; 3] = ["OS::stack_name", "OS::project_id", "OS::stack_id"];
 
 /// The first of H22 and H24 in a value that is read so, among these parameters and conditions.

@@ -52,6 +52,7 @@ pub fn bind(
     bound_to(alloc, template, given, ids, registry)
 }
 
+// All parameters with their values, or the first fault, where nothing given is too deep.
 fn bound_to(
     alloc: Global,
     template: &Template,

@@ -91,6 +91,7 @@ fn unless(holds: bool) -> Option<ParamCode>
     if holds { None } else { Some(ParamCode::P04) }
 }
 
+// P04 where the value is shorter or longer than the bounds allow.
 fn length_code(
     alloc: Global,
     argument: &Value,
@@ -102,6 +103,7 @@ fn length_code(
     Ok(unless(bounds_hold(alloc, argument, size_of(value) as i128)?))
 }
 
+// P04 where the value isn't a whole number within the bounds.
 fn range_code(
     alloc: Global,
     argument: &Value,
@@ -118,6 +120,7 @@ fn range_code(
     }
 }
 
+// Whether a number lies within the bounds of an argument.
 fn bounds_hold(alloc: Global, argument: &Value, number: i128) -> Result<bool, AllocError>
     ensures { IfOk result (λ b. b ≡ the_is_within (members_in (data_of argument.now)) number) }
 {
@@ -129,6 +132,7 @@ fn bounds_hold(alloc: Global, argument: &Value, number: i128) -> Result<bool, Al
     }
 }
 
+// P04 where the value isn't a whole number that leaves the offset.
 fn modulo_code(
     alloc: Global,
     argument: &Value,
@@ -145,6 +149,7 @@ fn modulo_code(
     }
 }
 
+// P04 where the value isn't one that is allowed.
 fn values_code(
     alloc: Global,
     sort: Option<Sort>,
@@ -200,6 +205,7 @@ fn are_true(alloc: Global, custom: &Custom, value: &Value) -> Result<bool, Alloc
     }
 }
 
+// Whether the registered test is true of every item's text.
 fn items_are_true(alloc: Global, custom: &Custom, items: &Items) -> Result<bool, AllocError>
     ensures { IfOk result (λ b. b ≡ list_all (is_listed custom.now.test.allowed) (texts_among items.now)) }
 {

@@ -53,6 +53,7 @@ fn number_in(value: &Value) -> Option<Value>
     }
 }
 
+// The whole number that a text says.
 fn number_said(text: &Text) -> Option<Value>
     ensures { IsConversion (Some sort.Number) (words text.now) (option_map data_of result) }
 {
@@ -74,6 +75,7 @@ fn flag_in(value: &Value) -> Option<Value>
     }
 }
 
+// The flag that a number stands for, 1 or 0.
 fn flag_numbered(whole: i64) -> Option<Value>
     ensures { IsConversion (Some sort.Flag) (whole_data whole) (option_map data_of result) }
 {
@@ -86,6 +88,7 @@ fn flag_numbered(whole: i64) -> Option<Value>
     None
 }
 
+// The flag that a text says.
 fn said_flag(text: &str) -> Option<Value>
     ensures { IsConversion (Some sort.Flag) (words text.now) (option_map data_of result) }
 {

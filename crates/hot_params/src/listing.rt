@@ -70,6 +70,7 @@ fn trimmed(text: &str) -> &str
     without_front(without_back(text))
 }
 
+// A text without the spaces that it begins with.
 fn without_front(text: &str) -> &str
     ensures { result.now ≡ the_without_front text.now }
 {
@@ -89,6 +90,7 @@ fn behind_space(text: &str) -> Option<&str>
     text.strip_prefix(" ")
 }
 
+// A text without the spaces that it ends with.
 fn without_back(text: &str) -> &str
     ensures { result.now ≡ the_without_back text.now }
 {

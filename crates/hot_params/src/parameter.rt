@@ -134,6 +134,7 @@ fn first_unmet(
     }
 }
 
+// The first constraint that the value doesn't meet.
 fn first_of(
     alloc: Global,
     registry: &Registry,

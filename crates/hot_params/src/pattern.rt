@@ -96,6 +96,7 @@ fn are_whole(alloc: Global, regex: &Regex, value: &Value) -> Result<bool, AllocE
     Ok(are_found_whole(&mut matcher, value))
 }
 
+// Whether a value's texts, its own or its items', are each a match as a whole.
 fn are_found_whole(matcher: &mut Matcher, value: &Value) -> bool
     ensures { IsTrue result
         ↔ AreWhole (matcher_pattern matcher.old) (texts_in (data_of value.now)) }
@@ -107,12 +108,14 @@ fn are_found_whole(matcher: &mut Matcher, value: &Value) -> bool
     }
 }
 
+// Whether a text is one.
 fn text_is_whole(matcher: &mut Matcher, text: &Text) -> bool
     ensures { IsTrue result ↔ AreWhole (matcher_pattern matcher.old) (text.now ∷ []) }
 {
     is_whole(matcher, text.as_str())
 }
 
+// Whether the text of each item is one.
 fn items_are_whole(matcher: &mut Matcher, items: &Items) -> bool
     ensures { IsTrue result ↔ AreWhole (matcher_pattern matcher.old) (texts_among items.now) }
 {

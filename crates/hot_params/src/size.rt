@@ -35,12 +35,14 @@ fn characters(text: &str) -> usize
     count
 }
 
+// The length of a list.
 fn items_in(items: &Items) -> usize
     ensures { result ≡ count_nodes items.now }
 {
     items.as_slice().len()
 }
 
+// How many keys an object has.
 fn entries_in(fields: &Props) -> usize
     ensures { result ≡ count_members fields.now }
 {
@@ -56,6 +58,7 @@ pub fn is_within(alloc: Global, bounds: &Props, number: i128) -> Result<bool, Al
     Ok(is_from(least, number) && is_up_to(most, number))
 }
 
+// Whether a number isn't below the least one, where there is one.
 fn is_from(least: Option<&Value>, number: i128) -> bool
     ensures { result ≡ the_is_from (option_map (λ v. data_of v.now) least.entry) number }
 {
@@ -66,6 +69,7 @@ fn is_from(least: Option<&Value>, number: i128) -> bool
     }
 }
 
+// Whether it isn't above the greatest one, where there is one.
 fn is_up_to(most: Option<&Value>, number: i128) -> bool
     ensures { result ≡ the_is_up_to (option_map (λ v. data_of v.now) most.entry) number }
 {
@@ -85,6 +89,7 @@ pub fn is_remainder(alloc: Global, parts: &Props, number: i64) -> Result<bool, A
     Ok(leaves(offset, step, number))
 }
 
+// Whether a number leaves the offset when it is divided by the step.
 fn leaves(offset: Option<&Value>, step: Option<&Value>, number: i64) -> bool
     ensures { result ≡ the_leaves (option_map (λ v. data_of v.now) offset.entry)
         (option_map (λ v. data_of v.now) step.entry) number }

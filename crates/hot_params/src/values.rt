@@ -42,6 +42,7 @@ fn items_are_among(alloc: Global, allowed: &Items, value: &Value) -> Result<bool
     }
 }
 
+// Whether every item is allowed, as a text.
 fn are_among(alloc: Global, allowed: &Items, items: &Items) -> Result<bool, AllocError>
     ensures { IfOk result (λ b. IsTrue b ↔ AreAmong allowed.now items.now) }
 {

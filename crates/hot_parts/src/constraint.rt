@@ -40,6 +40,7 @@ pub(crate) fn constraints_of(
     }
 }
 
+// What the entries of a list ask for; one that asks for nothing is passed over.
 fn constraints_among(alloc: Global, entries: &Items) -> Result<Seq<Constraint>, AllocError>
     ensures { IfOk result (λ cs. asked_by cs ≡ asked_among entries.now) }
 {

@@ -38,6 +38,7 @@ pub(crate) fn outputs_of(alloc: Global, entries: &Props) -> Result<Seq<Out>, All
     Ok(outputs)
 }
 
+// An output, by its entry in the template.
 fn out_of(alloc: Global, entry: &Member) -> Result<Out, AllocError>
     ensures { IfOk result (λ o. IsOut entry.now.key (data_of entry.now.value) o) }
 {

@@ -43,6 +43,7 @@ pub(crate) fn params_of(alloc: Global, entries: &Props) -> Result<Seq<Param>, Al
     Ok(params)
 }
 
+// A parameter, by its entry in the template.
 fn param_of(alloc: Global, entry: &Member) -> Result<Param, AllocError>
     ensures { IfOk result (λ p. IsParam entry.now.key (data_of entry.now.value) p) }
 {

@@ -65,6 +65,7 @@ pub(crate) fn text_at(
     text_or(alloc, other, found(alloc, fields, key)?)
 }
 
+// The text, or the other one where there is none.
 fn text_or(alloc: Global, other: &str, value: Option<&Value>) -> Result<Text, AllocError>
     ensures { IfOk result (λ t. t
         ≡ the_text_or other.now (option_map (λ v. data_of v.now) value.entry)) }

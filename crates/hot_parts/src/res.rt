@@ -53,6 +53,7 @@ pub(crate) fn resources_of(alloc: Global, entries: &Props) -> Result<Seq<Res>, A
     Ok(resources)
 }
 
+// A resource, by its entry in the template.
 fn res_of(alloc: Global, entry: &Member) -> Result<Res, AllocError>
     ensures { IfOk result (λ r. IsRes entry.now.key (data_of entry.now.value) r) }
 {
@@ -89,6 +90,7 @@ struct Wants {
     metadata: Value,
 }
 
+// What is wanted: a type, properties and metadata.
 fn wants_of(alloc: Global, fields: &Props) -> Result<Wants, AllocError>
     ensures kind { IfOk result (λ w. w.kind ≡ text_or (codes "") (lookup (codes "type") fields.now)) }
     ensures props { IfOk result (λ w. w.props ≡ object_in (lookup (codes "properties") fields.now)) }
@@ -110,6 +112,7 @@ struct Rules {
     update_policy: Props,
 }
 
+// What is to be kept to: what has to be there before, and both policies.
 fn rules_of(alloc: Global, fields: &Props) -> Result<Rules, AllocError>
     ensures depends_on { IfOk result (λ r. data_of r.depends_on
         ≡ the_or_null (lookup (codes "depends_on") fields.now)) }

@@ -28,6 +28,7 @@ pub fn are_few<T: HasName>(all: &[T]) -> bool
     all.len() <= MOST && are_distinct(all)
 }
 
+// Whether no two have one name.
 fn are_distinct<T: HasName>(all: &[T]) -> bool
     ensures { result ≡ the_are_distinct (map T.name_of all.now) }
 {
@@ -39,6 +40,7 @@ fn are_distinct<T: HasName>(all: &[T]) -> bool
     true
 }
 
+// Whether one of them has this name.
 fn has_name<T: HasName>(all: &[T], name: &str) -> bool
     ensures { result ≡ is_listed (map T.name_of all.now) name.now }
 {

@@ -42,6 +42,7 @@ pub fn with_no_condition(
     under_name(alloc, "condition", uncondition_in(alloc, code, value)?)
 }
 
+// What is no condition in a value, where there is one.
 fn uncondition_in(
     alloc: Global,
     code: HotCode,

@@ -68,6 +68,7 @@ fn value_under(
     under_name(alloc, key, value_there(alloc, params, conds, place, value)?)
 }
 
+// What is wrong with the functions in a value, where there is one.
 fn value_there(
     alloc: Global,
     params: &Props,
@@ -101,6 +102,7 @@ fn property_functions(
     )
 }
 
+// What is wrong with the functions in an object's values; nothing elsewhere.
 fn members_of_value(
     alloc: Global,
     params: &Props,

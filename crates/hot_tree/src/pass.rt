@@ -52,6 +52,7 @@ pub fn pass_flaw(
     under_name(alloc, section_of(pass), found)
 }
 
+// The section whose entries the pass looks at.
 fn section_of(pass: Pass) -> &'static str
     ensures { result.now ≡ the_section_of pass }
 {

@@ -16,6 +16,7 @@ use heat_plan::{Act, EngineNo, StackName, Status, Token, TravNo};
 use heat_value::{Path, Text};
 use std::alloc::{AllocError, Global};
 
+// What a stack's line begins with: its name, its traversal, an act and a status.
 fn stack_words(
     alloc: Global,
     stack: &StackName,
@@ -34,6 +35,7 @@ fn stack_words(
     )
 }
 
+// A line that says no more of a stack than that.
 fn stack_line(
     alloc: Global,
     stack: &StackName,
@@ -47,6 +49,7 @@ fn stack_line(
     format!(in alloc; "{}\n", words.as_str())
 }
 
+// The line of a command, whose traversal is in progress.
 fn command_line(
     alloc: Global,
     stack: &StackName,
@@ -58,6 +61,7 @@ fn command_line(
     stack_line(alloc, stack, trav, act, Status::InProgress)
 }
 
+// The line of a failure, its cause behind the stack.
 fn failed_line(
     alloc: Global,
     stack: &StackName,
@@ -72,6 +76,7 @@ fn failed_line(
     format!(in alloc; "{} {}", head.as_str(), tail.as_str())
 }
 
+// A failure's item, row and reason, up to the end of the line.
 fn cause_line(alloc: Global, cause: &Cause) -> Result<String, AllocError>
     ensures { IfOk result (λ s. string_bytes s ≡ cause_line cause.now) }
 {
@@ -84,6 +89,7 @@ fn cause_line(alloc: Global, cause: &Cause) -> Result<String, AllocError>
     )
 }
 
+// The line of a mark: complete, or failed with its cause.
 fn mark_line(
     alloc: Global,
     stack: &StackName,
@@ -99,6 +105,7 @@ fn mark_line(
     }
 }
 
+// The line of a token that the engine gave up.
 fn released_line(alloc: Global, token: &Token) -> Result<String, AllocError>
     ensures { IfOk result (λ s. string_bytes s ≡ released_line token.now) }
 {
@@ -106,6 +113,7 @@ fn released_line(alloc: Global, token: &Token) -> Result<String, AllocError>
     format!(in alloc; "released {}\n", text.as_str())
 }
 
+// The line of an engine that was started or stopped, or of a restart.
 fn engine_line(alloc: Global, change: EngineChange) -> Result<String, AllocError>
     ensures { IfOk result (λ s. string_bytes s ≡ engine_line change) }
 {
@@ -116,6 +124,7 @@ fn engine_line(alloc: Global, change: EngineChange) -> Result<String, AllocError
     }
 }
 
+// The line of a run: whether it ended idle, and after how many turns.
 fn ran_line(alloc: Global, idle: bool, turns: u128) -> Result<String, AllocError>
     ensures { IfOk result (λ s. string_bytes s ≡ ran_line idle turns) }
 {
@@ -126,6 +135,7 @@ fn ran_line(alloc: Global, idle: bool, turns: u128) -> Result<String, AllocError
     }
 }
 
+// The line of a turn that wasn't to be: the engine is stopped, or has nothing to do.
 fn turned_line(alloc: Global, engine: EngineNo, lost: bool) -> Result<String, AllocError>
     ensures { IfOk result (λ s. string_bytes s ≡ turned_line engine lost) }
 {
@@ -136,6 +146,7 @@ fn turned_line(alloc: Global, engine: EngineNo, lost: bool) -> Result<String, Al
     }
 }
 
+// The line of a refusal: which line of the script, why, and where in it.
 fn note_line(
     alloc: Global,
     line: u64,
@@ -153,6 +164,7 @@ fn note_line(
     }
 }
 
+// How a stack stands; nothing where it isn't seen.
 fn status_text(alloc: Global, stack: Option<&SeenStack>) -> Result<String, AllocError>
     ensures { IfOk result (λ s. string_bytes s
         ≡ status_text (option_map (λ k. k.now) stack.entry)) }
@@ -163,6 +175,7 @@ fn status_text(alloc: Global, stack: Option<&SeenStack>) -> Result<String, Alloc
     }
 }
 
+// What a listing shows of a stack: how it stands, its rows, its outputs.
 fn show_text(
     alloc: Global,
     shown: ShowWhat,

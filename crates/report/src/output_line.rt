@@ -62,6 +62,7 @@ fn outcome_line(
     }
 }
 
+// The line of an output that has a value.
 fn value_line(alloc: Global, name: &Text, value: &Value) -> Result<String, AllocError>
     ensures { IfOk result (λ s. string_bytes s ≡ value_line name.now (data_of value.now)) }
 {
@@ -69,6 +70,7 @@ fn value_line(alloc: Global, name: &Text, value: &Value) -> Result<String, Alloc
     format!(in alloc; "output {} {}\n", name.as_str(), text.as_str())
 }
 
+// The line of an output without one: its fault's code and place.
 fn fault_line(alloc: Global, name: &Text, code: FaultCode, path: Path) -> Result<String, AllocError>
     ensures { IfOk result (λ s. string_bytes s ≡ fault_line name.now code path) }
 {

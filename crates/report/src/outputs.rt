@@ -32,6 +32,7 @@ pub(crate) fn outputs_text(
     }
 }
 
+// The outputs that a plan asks for, by the facts of the stack's current rows.
 fn plan_text(
     alloc: Global,
     stack: &StackName,

@@ -8,6 +8,7 @@ use crate::words::{act_word, number_word, status_word};
 use heat_plan::{Act, Facts, StackName, Status};
 use std::alloc::{AllocError, Global};
 
+// The line of a row's write: its resource, with an act and a status.
 fn row_line(alloc: Global, row: &SeenRow, act: Act, status: Status) -> Result<String, AllocError>
     ensures { IfOk result (λ s. string_bytes s ≡ row_line row.now act status) }
 {
@@ -21,12 +22,14 @@ fn row_line(alloc: Global, row: &SeenRow, act: Act, status: Status) -> Result<St
     )
 }
 
+// Whether nothing was done on the row.
 fn is_init(act: Act) -> bool
     ensures { result ≡ is_init act }
 {
     matches!(act, Act::Init)
 }
 
+// Whether a row stands as it stood, by its words.
 fn stands_alike(old: &SeenRow, new: &SeenRow) -> bool
     ensures { result ≡ stands_alike old.now new.now }
 {
@@ -78,6 +81,7 @@ fn id_word(facts: &Option<Facts>) -> &str
     }
 }
 
+// What a listed row is, and how it stands.
 fn shown_head(alloc: Global, row: &SeenRow) -> Result<String, AllocError>
     ensures { IfOk result (λ s. string_bytes s ≡ shown_head row.now) }
 {
@@ -91,6 +95,7 @@ fn shown_head(alloc: Global, row: &SeenRow) -> Result<String, AllocError>
     )
 }
 
+// A listed row's id, and its links to the rows before and behind it.
 fn shown_tail(alloc: Global, row: &SeenRow) -> Result<String, AllocError>
     ensures { IfOk result (λ s. string_bytes s ≡ shown_tail row.now) }
 {
@@ -104,6 +109,7 @@ fn shown_tail(alloc: Global, row: &SeenRow) -> Result<String, AllocError>
     )
 }
 
+// A row in a listing.
 fn shown_line(alloc: Global, row: &SeenRow) -> Result<String, AllocError>
     ensures { IfOk result (λ s. string_bytes s ≡ shown_line row.now) }
 {

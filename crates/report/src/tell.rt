@@ -41,6 +41,7 @@ pub(crate) fn tell(
     Ok(text)
 }
 
+// The text that one entry adds; what it shows is seen from then on.
 fn tell_entry(
     alloc: Global,
     text: &mut String,
@@ -142,6 +143,7 @@ fn tell_writes(
     Ok(())
 }
 
+// The line that a row's write adds; the write is seen from then on.
 fn tell_write(
     alloc: Global,
     text: &mut String,
@@ -162,6 +164,7 @@ fn tell_write(
     }
 }
 
+// The line of a row that was put, where it tells one; the row is then seen.
 fn tell_set(
     alloc: Global,
     text: &mut String,
@@ -185,6 +188,7 @@ fn tell_set(
     Ok(())
 }
 
+// The line of a row that was purged, where it was seen; it is seen no more.
 fn tell_purge(
     alloc: Global,
     text: &mut String,

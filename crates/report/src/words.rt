@@ -7,6 +7,7 @@ use core_state::Why;
 use heat_plan::{Act, RowNo, Status};
 use std::alloc::{AllocError, Global};
 
+/// An act, in capital letters.
 pub(crate) fn act_word(act: Act) -> &'static str
     ensures { result.now ≡ act_word act }
 {
@@ -19,6 +20,7 @@ pub(crate) fn act_word(act: Act) -> &'static str
     }
 }
 
+/// A status, in capital letters.
 pub(crate) fn status_word(status: Status) -> &'static str
     ensures { result.now ≡ status_word status }
 {
@@ -29,6 +31,7 @@ pub(crate) fn status_word(status: Status) -> &'static str
     }
 }
 
+// What was tried and failed, in small letters.
 fn tried_word(act: Act) -> &'static str
     ensures { result.now ≡ tried_word act }
 {

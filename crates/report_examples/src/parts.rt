@@ -7,34 +7,41 @@ use heat_value::{Seq, Text};
 use report::lines_of;
 use std::process::Abort;
 
+/// The stack's name, `s`.
 pub(crate) fn stack(rt: &(impl Abort + AllocGlobal)) -> StackName {
     StackName::read(rt.alloc(), b"s")
         .expect(rt, "memory")
         .expect(rt, "a name")
 }
 
+/// A resource's name.
 pub(crate) fn res_name(rt: &(impl Abort + AllocGlobal), text: &str) -> ResName {
     ResName::read(rt.alloc(), text.as_bytes())
         .expect(rt, "memory")
         .expect(rt, "a name")
 }
 
+/// A row's number.
 pub(crate) fn row_no(rt: &impl Abort, no: u64) -> RowNo {
     RowNo::new(no).expect(rt, "a number")
 }
 
+/// A traversal's number.
 pub(crate) fn trav(rt: &impl Abort, no: u64) -> TravNo {
     TravNo::new(no).expect(rt, "a number")
 }
 
+/// An engine's number.
 pub(crate) fn engine(rt: &impl Abort, no: u64) -> EngineNo {
     EngineNo::new(no).expect(rt, "a number")
 }
 
+/// A text.
 pub(crate) fn text(rt: &(impl Abort + AllocGlobal), text: &str) -> Text {
     Text::from_str(rt.alloc(), text).expect(rt, "memory")
 }
 
+/// The kind `Test::Box`, without attributes or soft properties.
 pub(crate) fn kind(rt: &(impl Abort + AllocGlobal)) -> Kind {
     Kind {
         name: text(rt, "Test::Box"),
@@ -77,10 +84,12 @@ fn writes(rt: &(impl Abort + AllocGlobal), write: RowWrite) -> What {
     What::Rows { writes }
 }
 
+/// A row is put.
 pub(crate) fn sets(rt: &(impl Abort + AllocGlobal), row: Row) -> What {
     writes(rt, RowWrite::Set(row))
 }
 
+/// A row is purged.
 pub(crate) fn purges(rt: &(impl Abort + AllocGlobal), no: u64) -> What {
     writes(rt, RowWrite::Purge(row_no(rt, no)))
 }
@@ -106,6 +115,7 @@ pub(crate) fn completes(rt: &(impl Abort + AllocGlobal), no: u64, act: Act) -> W
     }
 }
 
+/// A listing of `s`.
 pub(crate) fn shows(rt: &(impl Abort + AllocGlobal), what: ShowWhat) -> What {
     What::Show {
         what,

@@ -38,6 +38,7 @@ pub fn at_literal_place(
     }
 }
 
+// The place in the literal template of what stands at this place in the replaced one.
 fn literal_path(
     alloc: Global,
     choice: &Choice,
