@@ -13,10 +13,10 @@ pub(crate) const CREATE: &str = "create s {\"template\":{\"heat_template_version
 /// What it adds, and what its run adds.
 pub(crate) const CREATED: &str = "stack s 1 CREATE_IN_PROGRESS\n";
 
-/// What the cloud's first request adds.
+/// What the begin of its resource adds.
 pub(crate) const BEGUN: &str = "resource s a 1 CREATE_IN_PROGRESS\n";
 
-/// What the end of that run adds.
+/// What the resource adds once it is ready, and the mark.
 pub(crate) const COMPLETED: &str = "resource s a 1 CREATE_COMPLETE\nstack s 1 CREATE_COMPLETE\n";
 
 /// One box of the size 1.

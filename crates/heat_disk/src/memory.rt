@@ -15,7 +15,7 @@ use crate::history::History;
 use std::alloc::{AllocError, Global};
 use std::marker::Model;
 
-/// Both halves with all calls on them, and the numbers of those that fail.
+/// Both halves with their writes, cuts and syncs, and the numbers of the calls that fail.
 pub struct MemDisk {
     first: Content,
     second: Content,

@@ -81,7 +81,7 @@ impl Place {
         }
     }
 
-    /// Whether a snapshot is due: the records have grown long since the first one.
+    /// Whether the journal is long, and its epoch may still rise.
     pub(crate) fn is_long(self) -> bool
         ensures { IsTrue result ↔ IsLong self }
     {

@@ -1,4 +1,4 @@
--- The cases of `specs/Cases.antt`, each by the law of moves through its constructor.
+-- The cases of `specs/covers/Cases.antt`, each by the law of moves through its constructor.
 use Rattle.std.proofs.Common.{None, refl}
 use Rattle.step_relation.specs.Given.{Answer, Nothing}
 use Rattle.step_relation.specs.Moves.{ask_failed, begin_overrun, finish, take_free, takeover_fresh}

@@ -1,4 +1,4 @@
--- The cases of `specs/Cases.antt`, each by the law of moves through its constructor.
+-- The cases of `specs/marks/Cases.antt`, each by the law of moves through its constructor.
 use Rattle.std.proofs.Common.{None, refl}
 use Rattle.step_relation.specs.Given.{Answer, Faulted, Nothing}
 use Rattle.step_relation.specs.Moves.{ask_failed, begin_faulted, finish, finish_last}
