@@ -1,5 +1,6 @@
 pub mod Notes
 pub mod Stocks
+pub mod Shipped
 pub mod Commands
 pub mod Shows
 pub mod Runs

@@ -11,10 +11,12 @@ mod line;
 mod means;
 mod notes;
 mod runs;
+mod shipped;
 mod shows;
 mod top;
 mod types;
 
 pub use exit::{Exit, Finding};
 pub use program_words::{MOST_WORKERS, Mode, Setup, WordsFault, words_of};
+pub use shipped::converge_shipped;
 pub use top::{End, Outcome, converge, run_serial};

@@ -122,8 +122,8 @@ pub fn run_serial<S: Source, K: Sink, P: Provider>(
     }
 }
 
-// No book was opened.
-fn unopened<P: Provider>(status: Exit, cloud: P) -> Outcome<P>
+/// No book was opened.
+pub(crate) fn unopened<P: Provider>(status: Exit, cloud: P) -> Outcome<P>
     ensures status { result.status ≡ status }
     ensures end { result.end ≡ End.Unopened cloud }
 {

@@ -4,32 +4,18 @@
 //! back after the call, or an empty one.
 #![tactic(auto)]
 
-#[cfg(test)]
-mod cloud_tests;
 mod ended;
-#[cfg(test)]
-mod fixtures;
 mod kept_cloud;
 #[cfg(test)]
 mod kept_cloud_tests;
-#[cfg(test)]
-mod pairs;
-#[cfg(test)]
-mod readings;
-#[cfg(test)]
-mod rollback_tests;
 mod said;
-mod shipped;
-#[cfg(test)]
-mod stream_tests;
 
-use converge_call::{Exit, Outcome, WordsFault, words_of};
+use converge_call::{Exit, Outcome, WordsFault, converge_shipped, words_of};
 use ended::Ended;
 use heat_io::{StdSink, StdSource};
 use heat_value::Text;
 use kept_cloud::{load, store};
 use said::{word_for, words_for};
-use shipped::converge_shipped;
 use sim_cloud::{Settings, SimCloud};
 use std::alloc::{AllocError, Global};
 use std::process::ExitCode;

@@ -1,4 +1,4 @@
--- What stands before the first line of the program's script.
+-- What stands before the first line, where the shipped kinds and tests are registered.
 use Rattle.std.specs.Prelude.{[], ◌∷◌}
 use Rattle.hot_registry.specs.Shipped.{box_kind, flavor_test}
 use Rattle.converge_call.specs.Stocks.{Stock, first_stock}

@@ -1,9 +1,9 @@
 //! What several tests share: a create and what it adds, bodies, and a drive from memory into memory.
-use crate::shipped::converge_shipped;
-use converge_call::Outcome;
+use converge_call::{Outcome, converge_shipped};
 use heat_io::{MemSink, MemSource};
 use heat_value::Text;
 use provider::Provider;
+use sim_cloud::{Settings, SimCloud};
 use std::alloc::{AllocError, Global};
 
 /// A create of the stack `s` with one resource.
@@ -34,6 +34,11 @@ pub(crate) const ZONE_Y: &str =
 /// No resource.
 pub(crate) const NOTHING: &str =
     r#"{"template":{"heat_template_version":"2018-08-31","resources":{}}}"#;
+
+/// An empty simulated cloud.
+pub(crate) fn empty_cloud(alloc: Global) -> Result<SimCloud, AllocError> {
+    SimCloud::new(Settings::empty(alloc))
+}
 
 /// The words as texts.
 pub(crate) fn texts(alloc: Global, words: &[&str]) -> Result<Vec<Text>, AllocError> {

@@ -1,8 +1,7 @@
 //! A source and a sink in memory: the text of a run, each call that fails in turn, and lines that are too long.
 ghost use Rattle.std.specs.Prelude.{◌<◌};
 
-use crate::empty_cloud;
-use crate::fixtures::{BEGUN, COMPLETED, CREATE, CREATED, drives, joined, texts};
+use crate::fixtures::{BEGUN, COMPLETED, CREATE, CREATED, drives, empty_cloud, joined, texts};
 use heat_io::{MemSink, MemSource};
 use std::alloc::{AllocError, Global};
 use std::test::Fail;

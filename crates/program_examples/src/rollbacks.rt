@@ -1,5 +1,5 @@
 //! A rollback past 4,000 rows isn't made: what failed stays as it is.
-use crate::cloud_tests::scripted;
+use crate::clouds::scripted;
 use crate::fixtures::{drives, texts};
 use heat_io::{MemSink, MemSource};
 use std::alloc::{AllocError, Global};

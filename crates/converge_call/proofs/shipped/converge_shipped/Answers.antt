@@ -8,8 +8,8 @@ use Rattle.book.specs.Kept.{Shown}
 use Rattle.converge_call.specs.declared.exit.Exit.{Exit}
 use Rattle.converge_call.specs.Ends.{Outside, HasDriven}
 use Rattle.converge_call.specs.Stocks.{Stock, first_stock}
-use Rattle.heat_converge.specs.Shipped.{shipped_stock}
-use Rattle.heat_converge.proofs.shipped.converge_shipped.Goals as goal
+use Rattle.converge_call.specs.Shipped.{shipped_stock}
+use Rattle.converge_call.proofs.shipped.converge_shipped.Goals as goal
 
 first_is : (kinds : List KindDef) (tests : List NamedTest) → kinds ≡ box_kind ∷ [] → tests ≡ flavor_test ∷ []
     → first_stock kinds tests ≡ shipped_stock

@@ -1,10 +1,9 @@
 //! Each stage of a job against each next line, for one resource and for two that depend: the script ends
 //! idle, what is alive is as the last plan says, and the histories are read by the plain program.
-use crate::fixtures::{NOTHING, SIZE_1, SIZE_2, ZONE_Y, joined, texts};
+use crate::fixtures::{NOTHING, SIZE_1, SIZE_2, ZONE_Y, empty_cloud, joined, texts};
 use crate::readings::{Reading, read};
-use crate::shipped::converge_shipped;
 use book::Book;
-use converge_call::{End, Outcome};
+use converge_call::{End, Outcome, converge_shipped};
 use heat_io::{MemSink, MemSource};
 use heat_plan::{StackName, Status};
 use heat_value::{TryCopy, Value};
@@ -78,7 +77,7 @@ fn read_behind(
     let mut source = MemSource::new(alloc, script.as_bytes(), 4096, &[])?;
     let mut sink = MemSink::new(alloc, 4096, &[])?;
     let words = texts(alloc, &["drive", "--workers", "2"])?;
-    let cloud = crate::empty_cloud(alloc)?;
+    let cloud = empty_cloud(alloc)?;
     let Outcome { status, end } = converge_shipped(alloc, &words, &mut source, &mut sink, cloud);
     let seen = read_end(alloc, end, stack);
     if status.code() == 0 && ends_idle(sink.held()) {

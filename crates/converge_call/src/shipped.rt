@@ -10,9 +10,10 @@ ghost use Rattle.book.specs.Kept.{Shown};
 ghost use Rattle.program_words.specs.Words.{IsForm};
 ghost use Rattle.program_words.specs.declared.setup.Mode.{Mode as mode_type};
 ghost use Rattle.converge_call.specs.Ends.{outside, HasDriven, IsUntouched, OpensFor};
-ghost use Rattle.heat_converge.specs.Shipped.{shipped_stock};
+ghost use Rattle.converge_call.specs.Shipped.{shipped_stock};
 
-use converge_call::{End, Exit, Outcome, converge};
+use crate::exit::Exit;
+use crate::top::{End, Outcome, converge, unopened};
 use heat_io::{Sink, Source};
 use heat_plan::Properties;
 use heat_value::{Seq, Text};
@@ -22,7 +23,7 @@ use std::alloc::{AllocError, Global};
 use type_catalog::{Effect, change_of};
 
 /// Does what the words ask for. Without memory for what is registered no book is opened.
-pub(crate) fn converge_shipped<S: Source, K: Sink, P: Provider>(
+pub fn converge_shipped<S: Source, K: Sink, P: Provider>(
     alloc: Global,
     words: &[Text],
     source: &mut S,
@@ -52,7 +53,7 @@ pub(crate) fn converge_shipped<S: Source, K: Sink, P: Provider>(
         result.status b }
 {
     let Ok(softs) = box_softs(alloc) else {
-        return unopened(cloud);
+        return unopened(Exit::Memory, cloud);
     };
     let change = Box::new(
         alloc,
@@ -67,11 +68,11 @@ pub(crate) fn converge_shipped<S: Source, K: Sink, P: Provider>(
         { is_flavor(text) },
     );
     let (Ok(change), Ok(ask)) = (change, ask) else {
-        return unopened(cloud);
+        return unopened(Exit::Memory, cloud);
     };
     match shipped_registry(alloc, change, ask) {
         Ok(registry) => converge(alloc, words, source, sink, cloud, &registry),
-        Err(_) => unopened(cloud),
+        Err(_) => unopened(Exit::Memory, cloud),
     }
 }
 
@@ -80,15 +81,4 @@ fn box_softs(alloc: Global) -> Result<Seq<Text>, AllocError>
     ensures { IfOk result (λ s. s ≡ softs_of the_box_kind.props) }
 {
     box_kind(alloc)?.softs()
-}
-
-// There was no memory.
-fn unopened<P: Provider>(cloud: P) -> Outcome<P>
-    ensures status { result.status ≡ Exit.Memory }
-    ensures end { result.end ≡ End.Unopened cloud }
-{
-    Outcome {
-        status: Exit::Memory,
-        end: End::Unopened(cloud),
-    }
 }

@@ -1,10 +1,8 @@
 //! The histories that the top call writes for scenarios, as the plain program for the headline's words
 //! reads them.
-use crate::empty_cloud;
-use crate::fixtures::{CREATE, joined, texts};
-use crate::shipped::converge_shipped;
+use crate::fixtures::{CREATE, empty_cloud, joined, texts};
 use book::Book;
-use converge_call::{End, Outcome};
+use converge_call::{End, Outcome, converge_shipped};
 use core_state::Entry;
 use headline_reader::{fits, mark_of, newest};
 use heat_io::{MemSink, MemSource};
