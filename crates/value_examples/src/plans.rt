@@ -17,7 +17,7 @@ enum Of {
     LongName(usize, char),
     Token(&'static [u8]),
     Number(u64),
-    Nested(Held, usize),
+    Nested(NestedIn, usize),
     Needs(&'static [&'static str]),
     Code(Refusal),
     Copy(Part),
@@ -25,7 +25,7 @@ enum Of {
 
 // What holds lists in lists, under one key.
 #[derive(Clone, Copy)]
-enum Held {
+enum NestedIn {
     Properties,
     Parameters,
 }
@@ -156,12 +156,12 @@ fn tokens_are_read_and_written(rt: HostRuntime) -> Result<(), AllocError> {
     all_told(&rt, TOKENS)
 }
 
-fn nested(alloc: Global, held: Held, lists: usize) -> Result<&'static str, AllocError> {
+fn nested(alloc: Global, within: NestedIn, lists: usize) -> Result<&'static str, AllocError> {
     let mut props = Props::new(alloc);
     put(alloc, &mut props, "p", lists_of(alloc, lists)?)?;
-    let fits = match held {
-        Held::Properties => Properties::from_props(props).is_some(),
-        Held::Parameters => Parameters::from_props(props).is_some(),
+    let fits = match within {
+        NestedIn::Properties => Properties::from_props(props).is_some(),
+        NestedIn::Parameters => Parameters::from_props(props).is_some(),
     };
     Ok(if fits { "fits" } else { "none" })
 }
@@ -200,22 +200,22 @@ const RANGES: &[Case<Of>] = &[
     ("one more", Of::Number(1 << 62), "none"),
     (
         "properties 64 deep",
-        Of::Nested(Held::Properties, 63),
+        Of::Nested(NestedIn::Properties, 63),
         "fits",
     ),
     (
         "properties 65 deep",
-        Of::Nested(Held::Properties, 64),
+        Of::Nested(NestedIn::Properties, 64),
         "none",
     ),
     (
         "a parameter 64 deep",
-        Of::Nested(Held::Parameters, 64),
+        Of::Nested(NestedIn::Parameters, 64),
         "fits",
     ),
     (
         "a parameter 65 deep",
-        Of::Nested(Held::Parameters, 65),
+        Of::Nested(NestedIn::Parameters, 65),
         "none",
     ),
     ("no needs", Of::Needs(&[]), "rise"),
