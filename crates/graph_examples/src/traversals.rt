@@ -23,7 +23,7 @@ struct Case<'a> {
 }
 
 #[test]
-fn draws_what_was_drawn_by_hand(rt: HostRuntime) -> Result<(), Fail> {
+fn items_and_rows_are_drawn(rt: HostRuntime) -> Result<(), Fail> {
     let cases = [
         Case {
             name: "nothing",
