@@ -103,8 +103,8 @@ fn step_again(alloc: Global, s: &State, words: &str) -> Result<Made, Halt> {
     }
 }
 
-// Makes the changes.
-fn apply(s: &mut State, made: Made) -> Result<(), AllocError> {
+/// Makes the changes.
+pub(crate) fn apply(s: &mut State, made: Made) -> Result<(), AllocError> {
     let Made {
         changes,
         entries: _,
