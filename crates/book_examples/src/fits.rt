@@ -209,7 +209,7 @@ fn behind(name: &str, creates: u8, turns: u8, reading: Reading) -> Case<'_> {
 }
 
 #[test]
-fn histories_are_read_as_by_hand(rt: HostRuntime) -> Result<(), Fail> {
+fn each_step_of_a_create_is_read(rt: HostRuntime) -> Result<(), Fail> {
     let token = Token::read(rt.alloc(), b"s/a/1")?.ok_or("a token")?;
     let nothing = Reading {
         newest: None,
