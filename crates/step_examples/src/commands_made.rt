@@ -1,11 +1,11 @@
 //! Lists of commands of one stack, each applied where it is made, and what is left of them: which
 //! answer each gets, and how many rows, letters and nodes there are in the end. Each call succeeds
 //! with ample memory, and each refusal but those of limits and of numbers is met once.
-use crate::cases::apply;
 use command_steps::{cancel, create, delete, is_due, roll_back, update};
 use core_state::{Made, State};
 use heat_plan::{EngineNo, Plan, Refusal, ResName, StackName};
 use sample_plans::{bare_item, no_plan, plan_of};
+use sample_turns::apply;
 use std::alloc::{AllocError, Global};
 
 // The plan of one box of this name.

@@ -1,4 +1,4 @@
-//! What the cloud answers in a script.
+//! What the cloud answers to a request, where a reply is given.
 ghost use Rattle.std.specs.Prelude.{◌≡◌, ◌≢◌, true, false, IfSome, IfOk};
 ghost use Rattle.step_ends.specs.Answers.{AnswersAsk, AnswersPoll};
 
@@ -9,25 +9,13 @@ use std::alloc::{AllocError, Global};
 
 /// How a turn goes: as it should, or otherwise. A fault is one of the item's properties.
 #[derive(Clone, Copy, Debug, PartialEq, Eq)]
-pub(crate) enum Reply {
+pub enum Reply {
     Works,
     Waits,
     Quota,
     Fails,
     Breaks,
     Faults,
-}
-
-/// The reply of a word.
-pub(crate) fn reply_of(word: &str) -> Option<Reply> {
-    match word {
-        "not yet" => Some(Reply::Waits),
-        "quota" => Some(Reply::Quota),
-        "failed" => Some(Reply::Fails),
-        "broken" => Some(Reply::Breaks),
-        "fault" => Some(Reply::Faults),
-        _ => None,
-    }
 }
 
 /// The answer to what is asked by this act; none where it can't have such a one.

@@ -1,6 +1,5 @@
 //! The plans of bodies, where boxes alone stand.
 
-use crate::halt::Halt;
 use heat_plan::{Plan, StackName, StackNo};
 use heat_value::{TryCopy, Value};
 use hot_catalog::Catalog;
@@ -15,10 +14,11 @@ const KINDS: &[u8] = b"{\"Test::Box\":{\"attributes\":[\"addr\",\"link\",\"size\
     \"link\":{\"update_allowed\":true},\"size\":{\"update_allowed\":true},\"zone\":{}}}}";
 
 /// The plan of a body for the stack of this name.
-pub(crate) fn planned(alloc: Global, name: &StackName, body: &Body) -> Result<Plan, Halt> {
+pub fn plan_for(alloc: Global, name: &StackName, body: &Body) -> Result<Plan, PlanFault> {
     let registry = Registry::empty(alloc);
     let catalog = boxes(alloc, &registry)?;
-    planned_among(alloc, name, body, &catalog, &registry)
+    let ids = ids_of(name)?;
+    plan_of(alloc, body, &catalog, &ids, &registry)
 }
 
 // The catalogue of boxes.
@@ -36,29 +36,6 @@ fn take_boxes(alloc: Global, catalog: &mut Catalog) -> Result<(), AllocError> {
     match catalog.read(alloc, &kinds) {
         Ok(()) => Ok(()),
         Err(_) => Err(AllocError),
-    }
-}
-
-// The plan where these kinds stand.
-fn planned_among(
-    alloc: Global,
-    name: &StackName,
-    body: &Body,
-    catalog: &Catalog,
-    registry: &Registry,
-) -> Result<Plan, Halt> {
-    let ids = ids_of(name)?;
-    match plan_of(alloc, body, catalog, &ids, registry) {
-        Ok(plan) => Ok(plan),
-        Err(fault) => Err(halt_of(&fault)),
-    }
-}
-
-// Why a body without a plan halts its case.
-fn halt_of(fault: &PlanFault) -> Halt {
-    match fault {
-        PlanFault::Memory => Halt::Memory,
-        _ => Halt::Words,
     }
 }
 

@@ -2,7 +2,7 @@
 use Rattle.std.proofs.Common.{subst}
 use Rattle.std.specs.Prelude.{IfSome}
 use Rattle.step_ends.specs.Answers.{AnswersPoll}
-use Rattle.step_examples.proofs.turns.poll_for.Goals as goal
+use Rattle.sample_turns.proofs.turns.poll_for.Goals as goal
 
 pub poll_with-requires-clause-answer : goal.poll_with-requires-clause-answer
 poll_with-requires-clause-answer c =

@@ -1,5 +1,5 @@
 //! The next step of an engine, as the book chooses it: by its job, the lowest letter, or the job of a
-//! stopped engine.
+//! stopped engine; and how a step is made.
 ghost use Rattle.std.specs.Prelude.{◌≢◌, IfOk};
 ghost use Rattle.mail_table.specs.declared.mail.Stage.TheVariants.{Asking, Polling, Taken};
 ghost use Rattle.step_relation.specs.Nexts.{Works};
@@ -19,12 +19,7 @@ use takeover_steps::takeover;
 use traversal_graph::Node;
 
 /// The engine's next step, where it has one to which the reply fits.
-pub(crate) fn turn(
-    alloc: Global,
-    s: &State,
-    e: EngineNo,
-    reply: Reply,
-) -> Result<Option<Made>, Refusal> {
+pub fn turn(alloc: Global, s: &State, e: EngineNo, reply: Reply) -> Result<Option<Made>, Refusal> {
     match next_of(s, e) {
         Task::Lost | Task::Idle => Ok(None),
         Task::Take(letter) => Ok(Some(take(alloc, s, e, letter)?)),
@@ -184,4 +179,15 @@ fn poll_with(
     requires answer { AnswersPoll _row.now.act answer.now }
 {
     polled(alloc, s, e, answer)
+}
+
+/// Makes a step's changes.
+pub fn apply(s: &mut State, made: Made) -> Result<(), AllocError> {
+    let Made {
+        changes,
+        entries: _,
+    } = made;
+    s.reserve(changes.len())?;
+    s.apply_all(changes);
+    Ok(())
 }

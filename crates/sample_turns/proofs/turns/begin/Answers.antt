@@ -1,8 +1,8 @@
 -- A begin at an update node, whose point was found.
 use Rattle.std.proofs.Common.{ap, sym, ◌∙◌}
 use Rattle.std.specs.Prelude.{option_map}
-use Rattle.step_examples.proofs.Beginnings.{at_update}
-use Rattle.step_examples.proofs.turns.begin.Goals as goal
+use Rattle.sample_turns.proofs.Beginnings.{at_update}
+use Rattle.sample_turns.proofs.turns.begin.Goals as goal
 
 pub begin_update-requires : goal.begin_update-requires
 begin_update-requires c = at_update _ c.args.e _ c.requires _ _ _
