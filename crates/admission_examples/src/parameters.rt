@@ -119,12 +119,12 @@ fn pseudo(alloc: Global, name: &str) -> Result<String, AllocError> {
 // The identifier of the stack s with the number 1 is from outside.
 #[test]
 fn pseudo_parameters_are_bound(rt: HostRuntime) -> Result<(), Fail> {
-    let rows = [
+    let cases = [
         ("OS::stack_id", "'b2e76ab8-a6aa-5e30-a700-cd6efd27c9b8'"),
         ("OS::stack_name", "'s'"),
         ("OS::project_id", "'demo'"),
     ];
-    for (name, wanted) in rows {
+    for (name, wanted) in cases {
         let value = match pseudo(rt.alloc(), name) {
             Ok(value) => value,
             Err(_) => pseudo(rt.alloc(), name)?,

@@ -1,8 +1,9 @@
 //! Items of which each needs the ten before it, and as many rows, each of which requires ten.
 
 use anyhow::{Result, bail};
-use heat_plan::{Item, Kind, Needs, Policy, Properties, ResName, RowNo, are_in_order, is_rising};
-use heat_value::{Seq, Text};
+use heat_plan::{Item, Needs, ResName, RowNo, are_in_order, is_rising};
+use heat_value::Seq;
+use sample_plans::bare_item;
 use std::alloc::Global;
 use traversal_graph::{RowBrief, build};
 
@@ -41,17 +42,9 @@ pub fn item_needing(alloc: Global, place: u32, needed: &[u32]) -> Result<Item> {
     if !is_rising(needs.as_slice()) {
         bail!("needs rise");
     }
-    Ok(Item {
-        name: name(alloc, place)?,
-        kind: Kind {
-            name: Text::from_str(alloc, "Test::Box")?,
-            attrs: Seq::new(alloc),
-            soft: Seq::new(alloc),
-        },
-        props: Properties::new(alloc),
-        needs: Needs::from_rising(needs),
-        policy: Policy::Delete,
-    })
+    let mut item = bare_item(alloc, name(alloc, place)?)?;
+    item.needs = Needs::from_rising(needs);
+    Ok(item)
 }
 
 fn row(alloc: Global, place: u32) -> Result<RowBrief> {

@@ -1,12 +1,12 @@
 //! The life of one stack: its commands, each with turns of one engine until that is idle.
 
 use crate::templates::{Shape, planned};
-use crate::turns::turn;
 use anyhow::{Result, bail};
 use command_steps::{create, delete, update};
 use core_state::{Made, State};
 use heat_plan::{EngineNo, Plan, Refusal, StackName};
-use std::alloc::{AllocError, Global};
+use sample_turns::{Reply, apply, turn};
+use std::alloc::Global;
 use takeover_steps::enlist;
 
 // More turns than any command here takes.
@@ -91,21 +91,10 @@ fn run(alloc: Global, s: &mut State) -> Result<u32, Refusal> {
         return Ok(0);
     };
     for turns in 0..MOST_TURNS {
-        match turn(alloc, s, e)? {
+        match turn(alloc, s, e, Reply::Works)? {
             Some(made) => apply(s, made)?,
             None => return Ok(turns),
         }
     }
     Ok(MOST_TURNS)
-}
-
-// Makes the changes.
-fn apply(s: &mut State, made: Made) -> Result<(), AllocError> {
-    let Made {
-        changes,
-        entries: _,
-    } = made;
-    s.reserve(changes.len())?;
-    s.apply_all(changes);
-    Ok(())
 }

@@ -4,10 +4,8 @@
 //! the same at each run.
 #![tactic(auto)]
 
-mod answers;
 mod life;
 mod templates;
-mod turns;
 
 use anyhow::{Result, bail};
 use life::{Work, lived};

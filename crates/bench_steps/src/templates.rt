@@ -1,18 +1,10 @@
 //! Plans of so many boxes.
 
 use anyhow::{Result, bail};
-use heat_plan::{Plan, StackName, StackNo};
-use heat_value::{TryCopy, Value};
-use hot_catalog::Catalog;
-use hot_params::Ids;
-use hot_registry::Registry;
-use script_lines::{Body, Line};
+use heat_plan::{Plan, StackName};
+use sample_turns::plan_for;
+use script_lines::Line;
 use std::alloc::Global;
-use template_plans::plan_of;
-
-// A box, of which `link` and `size` change in place.
-const KINDS: &[u8] = b"{\"Test::Box\":{\"attributes\":[\"addr\",\"link\",\"size\"],\"properties\":{\
-    \"link\":{\"update_allowed\":true},\"size\":{\"update_allowed\":true},\"zone\":{}}}}";
 
 /// What the boxes need.
 #[derive(Clone, Copy, Debug, PartialEq, Eq)]
@@ -33,60 +25,12 @@ pub fn planned(
 ) -> Result<(StackName, Plan)> {
     let line = line_of(alloc, shape, count, is_changed)?;
     match Line::read(alloc, line.as_bytes()) {
-        Ok(Line::Create(name, body)) => {
-            let plan = plan_for(alloc, &name, &body)?;
-            Ok((name, plan))
-        }
+        Ok(Line::Create(name, body)) => match plan_for(alloc, &name, &body) {
+            Ok(plan) => Ok((name, plan)),
+            Err(_) => bail!("a plan"),
+        },
         _ => bail!("a line that creates"),
     }
-}
-
-// The plan of the stack's body, where boxes alone stand.
-fn plan_for(alloc: Global, name: &StackName, body: &Body) -> Result<Plan> {
-    let registry = Registry::empty(alloc);
-    let catalog = boxes(alloc, &registry)?;
-    plan_among(alloc, name, body, &catalog, &registry)
-}
-
-fn boxes(alloc: Global, registry: &Registry) -> Result<Catalog> {
-    let mut catalog = Catalog::new(alloc, registry)?;
-    take_boxes(alloc, &mut catalog)?;
-    Ok(catalog)
-}
-
-fn take_boxes(alloc: Global, catalog: &mut Catalog) -> Result<()> {
-    let Ok(kinds) = Value::read(alloc, KINDS) else {
-        bail!("kinds");
-    };
-    match catalog.read(alloc, &kinds) {
-        Ok(()) => Ok(()),
-        Err(_) => bail!("a catalogue"),
-    }
-}
-
-fn plan_among(
-    alloc: Global,
-    name: &StackName,
-    body: &Body,
-    catalog: &Catalog,
-    registry: &Registry,
-) -> Result<Plan> {
-    let ids = ids_of(name)?;
-    match plan_of(alloc, body, catalog, &ids, registry) {
-        Ok(plan) => Ok(plan),
-        Err(_) => bail!("a plan"),
-    }
-}
-
-// The name with the number 1.
-fn ids_of(name: &StackName) -> Result<Ids> {
-    let Some(no) = StackNo::new(1) else {
-        bail!("a number");
-    };
-    Ok(Ids {
-        stack: name.copy()?,
-        no,
-    })
 }
 
 fn line_of(alloc: Global, shape: Shape, count: u32, is_changed: bool) -> Result<String> {

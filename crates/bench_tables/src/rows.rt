@@ -1,12 +1,11 @@
 //! Rows that come, are found, locked, unlocked and purged.
 
 use anyhow::{Result, bail};
-use heat_plan::{
-    Act, EngineNo, Kind, Policy, Properties, ResName, RowNo, StackName, Status, TravNo,
-};
-use heat_value::{Seq, Text};
+use heat_plan::{Act, EngineNo, Policy, Properties, ResName, RowNo, StackName, Status, TravNo};
+use heat_value::Seq;
 use indexed_rows::{RowAnswer, RowOp, RowTable, run_rows};
 use row_table::Row;
+use sample_plans::boxes;
 use std::alloc::Global;
 
 /// Makes the calls alone.
@@ -96,7 +95,7 @@ fn row(alloc: Global, place: u32) -> Result<Row> {
         no: number(place)?,
         stack: stack(alloc)?,
         name: name(alloc, place)?,
-        kind: kind(alloc)?,
+        kind: boxes(alloc, &[], &[])?,
         act: Act::Create,
         status: Status::Complete,
         trav: trav()?,
@@ -109,14 +108,6 @@ fn row(alloc: Global, place: u32) -> Result<Row> {
         engine: None,
         key: 0,
         policy: Policy::Delete,
-    })
-}
-
-fn kind(alloc: Global) -> Result<Kind> {
-    Ok(Kind {
-        name: Text::from_str(alloc, "Test::Box")?,
-        attrs: Seq::new(alloc),
-        soft: Seq::new(alloc),
     })
 }
 

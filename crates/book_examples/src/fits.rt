@@ -5,9 +5,10 @@ use crate::plans::{create_with, plan_with, properties_of};
 use book::{Book, Opened, StackCommand};
 use core_state::{Entry, What};
 use headline_reader::{Living, could, fits, mark_of, newest, stored};
-use heat_plan::{ByName, Parameters, Plan, StackName, Status, Token};
-use heat_value::{Seq, Text};
+use heat_plan::{Plan, StackName, Status, Token};
+use heat_value::Text;
 use hot_registry::Registry;
+use sample_plans::no_plan;
 use sim_cloud::{Settings, SimCloud};
 use std::alloc::{AllocError, Global};
 use std::test::Fail;
@@ -40,22 +41,10 @@ struct Case<'a> {
     reading: Reading,
 }
 
-// A plan of nothing.
-fn no_plan(alloc: Global) -> Plan {
-    Plan::new(
-        Seq::new(alloc),
-        Seq::new(alloc),
-        Parameters::new(alloc),
-        ByName::new(alloc),
-        ByName::new(alloc),
-        Seq::new(alloc),
-    )
-}
-
 // A create of one resource.
 fn create_of(alloc: Global) -> Option<StackCommand> {
     let props = properties_of(alloc, "{\"size\":1}")?;
-    let plan = plan_with(alloc, Seq::new(alloc), props)?;
+    let plan = plan_with(alloc, &[], props)?;
     create_with(alloc, plan)
 }
 
@@ -220,7 +209,7 @@ fn behind(name: &str, creates: u8, turns: u8, reading: Reading) -> Case<'_> {
 }
 
 #[test]
-fn histories_are_read_as_by_hand(rt: HostRuntime) -> Result<(), Fail> {
+fn each_step_of_a_create_is_read(rt: HostRuntime) -> Result<(), Fail> {
     let token = Token::read(rt.alloc(), b"s/a/1")?.ok_or("a token")?;
     let nothing = Reading {
         newest: None,

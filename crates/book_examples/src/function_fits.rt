@@ -7,7 +7,6 @@ use book::{Book, StackCommand};
 use core_state::Entry;
 use headline_reader::fits;
 use heat_plan::Plan;
-use heat_value::Seq;
 use sim_cloud::SimCloud;
 use std::alloc::Global;
 use std::test::Fail;
@@ -24,7 +23,7 @@ const FAULTY: &str = "{\"size\":{\"list_join\":[]}}";
 // The plan of an item with these properties.
 fn plan(alloc: Global, props: &str) -> Option<Plan> {
     let props = properties_of(alloc, props)?;
-    plan_with(alloc, Seq::new(alloc), props)
+    plan_with(alloc, &[], props)
 }
 
 // The create of the stack with the function.

@@ -13,20 +13,10 @@ use std::alloc::{AllocError, Global};
 use std::test::Fail;
 use type_catalog::{Effect, change_of};
 
-// The properties that change in place: this one.
-fn softs_of(alloc: Global, soft: &str) -> Result<Seq<Text>, AllocError> {
-    let mut softs = Seq::new(alloc);
-    softs.push(Text::from_str(alloc, soft)?)?;
-    Ok(softs)
-}
-
 // The plan of an item of this size, for which this property changes in place.
 fn plan(alloc: Global, soft: &str, size: &str) -> Option<Plan> {
     let props = properties_of(alloc, size)?;
-    match softs_of(alloc, soft) {
-        Ok(softs) => plan_with(alloc, softs, props),
-        Err(_) => None,
-    }
+    plan_with(alloc, &[soft], props)
 }
 
 // A create of a resource.

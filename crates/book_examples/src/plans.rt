@@ -1,11 +1,8 @@
 //! The plan of one resource, and commands with it; none of them where there is no memory.
-ghost use Rattle.std.specs.Prelude.{◌≡◌, [], IfSome};
-
 use book::StackCommand;
-use heat_plan::{
-    ByName, Item, Kind, Needs, Parameters, Plan, Policy, Properties, ResName, StackName,
-};
-use heat_value::{Seq, Text, TryCopy, Value};
+use heat_plan::{Plan, Properties, ResName, StackName};
+use heat_value::{TryCopy, Value};
+use sample_plans::{boxes, item_of, plan_of};
 use std::alloc::{AllocError, Global};
 
 /// The kind of the one resource.
@@ -19,69 +16,24 @@ pub(crate) fn properties_of(alloc: Global, text: &str) -> Option<Properties> {
     }
 }
 
-// The kind, of which these properties change in place.
-fn kind_of(alloc: Global, soft: Seq<Text>) -> Option<Kind> {
-    match Text::from_str(alloc, KIND) {
-        Ok(name) => Some(Kind {
-            name,
-            attrs: Seq::new(alloc),
-            soft,
-        }),
-        Err(_) => None,
-    }
-}
-
-// The resource's name.
-fn res_name(alloc: Global) -> Option<ResName> {
-    match ResName::read(alloc, b"a") {
-        Ok(name) => name,
-        Err(_) => None,
-    }
-}
-
-/// An item that needs nothing, of which these properties change in place.
-pub(crate) fn item_of(alloc: Global, soft: Seq<Text>, props: Properties) -> Option<Item>
-    ensures { IfSome result (λ i. i.needs ≡ []) }
-{
-    let kind = kind_of(alloc, soft)?;
-    let name = res_name(alloc)?;
-    Some(Item {
-        name,
-        kind,
-        props,
-        needs: Needs::new(alloc),
-        policy: Policy::Delete,
-    })
-}
-
-/// The plan of one item.
-pub(crate) fn plan_of(alloc: Global, item: Item) -> Result<Plan, AllocError>
-    requires { item.needs ≡ [] }
-{
-    let mut items = Seq::new(alloc);
-    items.push(item)?;
-    Ok(Plan::new(
-        items,
-        Seq::new(alloc),
-        Parameters::new(alloc),
-        ByName::new(alloc),
-        ByName::new(alloc),
-        Seq::new(alloc),
-    ))
-}
-
-/// The plan of an item of which these properties change in place.
-pub(crate) fn plan_with(alloc: Global, soft: Seq<Text>, props: Properties) -> Option<Plan> {
-    let item = item_of(alloc, soft, props)?;
-    match plan_of(alloc, item) {
+/// The plan of the box `a`, of which these properties change in place.
+pub(crate) fn plan_with(alloc: Global, soft: &[&str], props: Properties) -> Option<Plan> {
+    match planned(alloc, soft, props) {
         Ok(plan) => Some(plan),
         Err(_) => None,
     }
 }
 
-// The plan of an item without properties.
+// The same; it fails where there is no memory.
+fn planned(alloc: Global, soft: &[&str], props: Properties) -> Result<Plan, AllocError> {
+    let name = ResName::read(alloc, b"a")?.ok_or(AllocError)?;
+    let kind = boxes(alloc, &[], soft)?;
+    plan_of(alloc, item_of(alloc, name, kind, props))
+}
+
+// The plan of a box without properties.
 fn bare_plan(alloc: Global) -> Option<Plan> {
-    plan_with(alloc, Seq::new(alloc), Properties::new(alloc))
+    plan_with(alloc, &[], Properties::new(alloc))
 }
 
 /// The stack's name.

@@ -6,9 +6,10 @@ ghost use Rattle.hot_registry.specs.Names.{is_listed};
 ghost use Rattle.hot_registry.specs.Shipped.{flavor_test as the_flavor_test};
 
 use crate::cases::{Asked, Case, all_told, value_of};
-use heat_plan::{Kind, Properties};
-use heat_value::{Seq, Text, TryCopy, Value};
+use heat_plan::Properties;
+use heat_value::{Text, TryCopy, Value};
 use hot_registry::{Ask, Change, Registry, box_kind, is_flavor, shipped_registry};
+use sample_plans::boxes;
 use std::alloc::{AllocError, Global};
 use type_catalog::{Effect, change_of};
 
@@ -118,26 +119,8 @@ fn changed(
     new: &str,
 ) -> Result<&'static str, AllocError> {
     let pair = pair_of(alloc, old, new)?;
-    let kind = kind_of(alloc, softs)?;
+    let kind = boxes(alloc, &[], softs)?;
     Ok(word(registry.change(&kind, &pair.old, &pair.new)))
-}
-
-// The kind of boxes for which these properties change in place.
-fn kind_of(alloc: Global, softs: &[&str]) -> Result<Kind, AllocError> {
-    let soft = texts(alloc, softs)?;
-    Ok(Kind {
-        name: Text::from_str(alloc, "Test::Box")?,
-        attrs: Seq::new(alloc),
-        soft,
-    })
-}
-
-fn texts(alloc: Global, names: &[&str]) -> Result<Seq<Text>, AllocError> {
-    let mut all = Seq::new(alloc);
-    for name in names {
-        all.push(Text::from_str(alloc, name)?)?;
-    }
-    Ok(all)
 }
 
 // Properties of a text in single quotes; it fails where it is no map.

@@ -1,9 +1,10 @@
 //! Cloud files from outside, and the texts of their clouds.
-use crate::fixtures::{boxes, sized};
+use crate::fixtures::sized;
 use cloud_file::{CloudFileFault, read, text};
 use heat_plan::{Kind, Properties, Token};
 use heat_value::Text;
 use provider::{Answer, Provider};
+use sample_plans::boxes;
 use sim_cloud::SimCloud;
 use std::alloc::{AllocError, Global};
 use std::test::Fail;
@@ -195,7 +196,7 @@ const HELD: &str =
 
 fn asked(alloc: Global, size: i64) -> Result<Text, Fail> {
     let token = Token::read(alloc, b"s/a/7")?.ok_or("a token")?;
-    let kind = boxes(alloc, &[])?;
+    let kind = boxes(alloc, &[], &[])?;
     let props = sized(alloc, size)?;
     Ok(text_behind(alloc, &token, &kind, &props)?)
 }

@@ -1,8 +1,9 @@
 //! Each call and each answer once, at the simulated cloud and at the scripted one.
-use crate::fixtures::{boxes, sized};
+use crate::fixtures::sized;
 use heat_plan::{Facts, Kind, Properties, Token};
 use heat_value::{Seq, Text, TryCopy, Value};
 use provider::{Answer, Gone, Listed, Listing, Poll, Provider, Traced};
+use sample_plans::boxes;
 use scripted_cloud::{ScriptedAnswer, ScriptedCloud, change, look, make, send, wait};
 use sim_cloud::{KindQuota, Settings, SimCloud};
 use std::alloc::{AllocError, Global};
@@ -31,7 +32,7 @@ fn of_size(alloc: Global, size: i64) -> Result<Example, Fail> {
 }
 
 fn with_kind(alloc: Global, token: Token, size: i64) -> Result<Example, Fail> {
-    let kind = boxes(alloc, &["addr", "link", "size"])?;
+    let kind = boxes(alloc, &["addr", "link", "size"], &[])?;
     let props = sized(alloc, size)?;
     Ok(Example { token, kind, props })
 }

@@ -1,9 +1,10 @@
 //! Each setting of the simulated cloud at each call of a small script: list, create, poll, update, poll,
 //! delete, two questions, list. Each answer is a letter; a poll that is ready tells the size.
-use crate::fixtures::{boxes, sized};
+use crate::fixtures::sized;
 use heat_plan::{Kind, Properties, Token};
 use heat_value::{Text, Value};
 use provider::{Answer, Gone, Listed, Poll, Provider};
+use sample_plans::boxes;
 use scripted_cloud::{change, look, make, send, wait};
 use sim_cloud::{KindDelay, KindQuota, NameCode, Settings, SimCloud};
 use std::alloc::{AllocError, Global};
@@ -84,7 +85,7 @@ fn example(alloc: Global) -> Result<Script, Fail> {
 }
 
 fn with_token(alloc: Global, token: Token) -> Result<Script, Fail> {
-    let kind = boxes(alloc, &["size"])?;
+    let kind = boxes(alloc, &["size"], &[])?;
     let small = sized(alloc, 1)?;
     let big = sized(alloc, 2)?;
     let size = Text::from_str(alloc, "size")?;

@@ -43,7 +43,7 @@ fn shows(
 
 #[test]
 fn first_alone(rt: HostRuntime) -> Result<(), Fail> {
-    let rows: [(&[u8], &[u8]); 12] = [
+    let cases: [(&[u8], &[u8]); 12] = [
         (b"", b""),
         (b"any nine!", b""),
         (b"any other!", b"?"),
@@ -63,7 +63,7 @@ fn first_alone(rt: HostRuntime) -> Result<(), Fail> {
         ),
         (b"HEATJ001\x01\xff\xff\xff\xff\xff\xff\xff\xffabc", b"?"),
     ];
-    for (first, want) in rows {
+    for (first, want) in cases {
         shows(&rt, first, b"", want)?;
     }
     Ok(())
@@ -71,7 +71,7 @@ fn first_alone(rt: HostRuntime) -> Result<(), Fail> {
 
 #[test]
 fn both_halves(rt: HostRuntime) -> Result<(), Fail> {
-    let rows: [(&[u8], &[u8], &[u8]); 7] = [
+    let cases: [(&[u8], &[u8], &[u8]); 7] = [
         (ONE, BORN, b"xyz."),
         (BORN, ONE, b"xyz."),
         (ONE, &BORN[..17], b"abc."),
@@ -80,7 +80,7 @@ fn both_halves(rt: HostRuntime) -> Result<(), Fail> {
         (BORN, BORN, b"xyz."),
         (b"no journal", LATER, b"q."),
     ];
-    for (first, second, want) in rows {
+    for (first, second, want) in cases {
         shows(&rt, first, second, want)?;
     }
     Ok(())
@@ -104,9 +104,9 @@ fn a_half_that_is_not_born_is_not_read(rt: HostRuntime) -> Result<(), Fail> {
 }
 
 // What is shown of each length: the last of these texts whose length it reaches.
-fn reached(rows: [(usize, &'static [u8]); 3], len: usize) -> &'static [u8] {
+fn reached(texts: [(usize, &'static [u8]); 3], len: usize) -> &'static [u8] {
     let mut want: &'static [u8] = b"";
-    for (from, text) in rows {
+    for (from, text) in texts {
         if from <= len {
             want = text;
         }
@@ -118,10 +118,10 @@ fn reached(rows: [(usize, &'static [u8]); 3], len: usize) -> &'static [u8] {
 fn fronts_show(
     rt: &(impl Abort + AllocGlobal),
     half: &[u8],
-    rows: [(usize, &'static [u8]); 3],
+    texts: [(usize, &'static [u8]); 3],
 ) -> Result<(), AllocError> {
     for len in 0..=half.len() {
-        shows(rt, &half[..len], b"", reached(rows, len))?;
+        shows(rt, &half[..len], b"", reached(texts, len))?;
     }
     Ok(())
 }
@@ -130,10 +130,10 @@ fn fronts_show(
 fn fronts_of_second_show(
     rt: &(impl Abort + AllocGlobal),
     half: &[u8],
-    rows: [(usize, &'static [u8]); 3],
+    texts: [(usize, &'static [u8]); 3],
 ) -> Result<(), AllocError> {
     for len in 0..=half.len() {
-        shows(rt, ONE, &half[..len], reached(rows, len))?;
+        shows(rt, ONE, &half[..len], reached(texts, len))?;
     }
     Ok(())
 }

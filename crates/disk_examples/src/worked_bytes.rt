@@ -60,7 +60,7 @@ fn leaves(rt: &impl Abort, disk: &MemDisk, first: &[u8], second: &[u8]) {
 
 #[test]
 fn openings_of_first(rt: HostRuntime) -> Result<(), Fail> {
-    let rows: [(&[u8], &[u8], &[u8]); 14] = [
+    let cases: [(&[u8], &[u8], &[u8]); 14] = [
         (b"", b"", b"HEATJ002\0"),
         (b"any nine!", b"", b"HEATJ002\0"),
         (b"any other!", b"?", b"any other!"),
@@ -76,7 +76,7 @@ fn openings_of_first(rt: HostRuntime) -> Result<(), Fail> {
         (b"HEATJ002\0\0", b"", b"HEATJ002\0\0"),
         (b"HEATJ003\0\0", b"?", b"HEATJ003\0\0"),
     ];
-    for (first, want, left) in rows {
+    for (first, want, left) in cases {
         opens(&rt, first, b"", want, left)?;
     }
     Ok(())
@@ -84,13 +84,13 @@ fn openings_of_first(rt: HostRuntime) -> Result<(), Fail> {
 
 #[test]
 fn openings_of_both(rt: HostRuntime) -> Result<(), Fail> {
-    let rows: [(&[u8], &[u8], &[u8]); 4] = [
+    let cases: [(&[u8], &[u8], &[u8]); 4] = [
         (ONE, BORN, b"xyz."),
         (ONE, UNBORN, b"abc."),
         (ONE, &BORN[..17], b"abc."),
         (CUT, FRESH, b"abc."),
     ];
-    for (first, second, want) in rows {
+    for (first, second, want) in cases {
         opens(&rt, first, second, want, first)?;
     }
     Ok(())

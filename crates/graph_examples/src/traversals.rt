@@ -1,7 +1,8 @@
 //! Graphs of traversals, the left-out edge of a cyclic clean-up among them. Names are single letters.
 
-use heat_plan::{Item, Kind, Needs, Policy, Properties, ResName, RowNo, are_in_order, is_rising};
-use heat_value::{Equals, Seq, Text, TryCopy};
+use heat_plan::{Item, Needs, ResName, RowNo, are_in_order, is_rising};
+use heat_value::{Equals, Seq, TryCopy};
+use sample_plans::bare_item;
 use std::process::Abort;
 use std::test::Fail;
 use traversal_graph::{Node, RowBrief, TravGraph, build};
@@ -22,7 +23,7 @@ struct Case<'a> {
 }
 
 #[test]
-fn draws_what_was_drawn_by_hand(rt: HostRuntime) -> Result<(), Fail> {
+fn items_and_rows_are_drawn(rt: HostRuntime) -> Result<(), Fail> {
     let cases = [
         Case {
             name: "nothing",
@@ -105,17 +106,9 @@ fn needs_of(rt: &impl AllocGlobal, case: &Case<'_>, item: u8) -> Result<Seq<ResN
 
 fn item(rt: &(impl Abort + AllocGlobal), name: u8, needs: Seq<ResName>) -> Result<Item, Fail> {
     assert!(rt; is_rising(needs.as_slice()));
-    Ok(Item {
-        name: name_of(rt, name)?,
-        kind: Kind {
-            name: Text::from_str(rt.alloc(), "Test::Box")?,
-            attrs: Seq::new(rt.alloc()),
-            soft: Seq::new(rt.alloc()),
-        },
-        props: Properties::new(rt.alloc()),
-        needs: Needs::from_rising(needs),
-        policy: Policy::Delete,
-    })
+    let mut item = bare_item(rt.alloc(), name_of(rt, name)?)?;
+    item.needs = Needs::from_rising(needs);
+    Ok(item)
 }
 
 fn name_of(rt: &impl AllocGlobal, letter: u8) -> Result<ResName, Fail> {

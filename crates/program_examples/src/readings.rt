@@ -1,5 +1,5 @@
-//! The histories that the top call writes for scenarios, as the plain program for the headline's words
-//! reads them.
+//! The histories that the top call writes for scenarios, as the plain program for the main
+//! theorem's words reads them.
 use crate::fixtures::{CREATE, empty_cloud, joined, texts};
 use book::Book;
 use converge_call::{End, Outcome, converge_shipped};
@@ -105,7 +105,7 @@ const READINGS: &[(&str, &[&str], Reading)] = &[
 ];
 
 #[test]
-fn scenarios_are_read_as_by_hand(rt: HostRuntime) -> Result<(), Fail> {
+fn histories_of_scripts_are_read(rt: HostRuntime) -> Result<(), Fail> {
     let stack = StackName::read(rt.alloc(), b"s")?.ok_or("a name")?;
     for (name, script, reading) in READINGS {
         let seen = read_behind(rt.alloc(), script, &stack)?;

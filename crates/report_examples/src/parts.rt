@@ -1,10 +1,11 @@
 //! Names, numbers, rows and entries, short. Where there is no memory the test aborts.
 use core_state::{Actor, Entry, Row, RowWrite, ShowWhat, State, What};
 use heat_plan::{
-    Act, EngineNo, Kind, Plan, Policy, Properties, ResName, RowNo, StackName, Status, TravNo,
+    Act, EngineNo, Plan, Policy, Properties, ResName, RowNo, StackName, Status, TravNo,
 };
 use heat_value::{Seq, Text};
 use report::lines_of;
+use sample_plans::boxes;
 use std::process::Abort;
 
 /// The stack's name, `s`.
@@ -41,15 +42,6 @@ pub(crate) fn text(rt: &(impl Abort + AllocGlobal), text: &str) -> Text {
     Text::from_str(rt.alloc(), text).expect(rt, "memory")
 }
 
-/// The kind `Test::Box`, without attributes or soft properties.
-pub(crate) fn kind(rt: &(impl Abort + AllocGlobal)) -> Kind {
-    Kind {
-        name: text(rt, "Test::Box"),
-        attrs: Seq::new(rt.alloc()),
-        soft: Seq::new(rt.alloc()),
-    }
-}
-
 /// A row of the stack `s` and this name.
 pub(crate) fn row(
     rt: &(impl Abort + AllocGlobal),
@@ -62,7 +54,7 @@ pub(crate) fn row(
         no: row_no(rt, no),
         stack: stack(rt),
         name: res_name(rt, name),
-        kind: kind(rt),
+        kind: boxes(rt.alloc(), &[], &[]).expect(rt, "memory"),
         act,
         status,
         trav: trav(rt, 1),

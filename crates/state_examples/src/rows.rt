@@ -1,9 +1,10 @@
 //! Forty calls of a table of rows, in both of its forms: what they answer.
 use crate::parts::{add, engine_no, res_name, row_no, same, stack_name, trav_no};
-use heat_plan::{Act, Kind, Policy, Properties, RowNo, Status};
-use heat_value::{Seq, Text};
+use heat_plan::{Act, Policy, Properties, RowNo, Status};
+use heat_value::Seq;
 use indexed_rows::{ListRows, RowAnswer, RowOp, RowTable, Rows, run_rows};
 use row_table::Row;
+use sample_plans::boxes;
 use std::alloc::{AllocError, Global};
 
 // A call, with numbers of rows, and with stacks and names by their letters. A lock is for the engine of the
@@ -68,14 +69,6 @@ const CALLS: [Call; 40] = [
     Call::Get(3),
 ];
 
-fn kind(alloc: Global) -> Result<Kind, AllocError> {
-    Ok(Kind {
-        name: Text::from_str(alloc, "Test::Box")?,
-        attrs: Seq::new(alloc),
-        soft: Seq::new(alloc),
-    })
-}
-
 // A row of this number, with a stack, a name and an act, and the row behind it.
 fn row(
     alloc: Global,
@@ -88,7 +81,7 @@ fn row(
     let trav = trav_no(1)?;
     let stack = stack_name(alloc, of.0)?;
     let name = res_name(alloc, of.1)?;
-    let kind = kind(alloc)?;
+    let kind = boxes(alloc, &[], &[])?;
     Ok(Row {
         no,
         stack,

@@ -8,6 +8,7 @@ use crate::puts::put;
 use crate::scripts::step;
 use core_state::{Made, State};
 use heat_plan::Refusal;
+use sample_turns::apply;
 use std::alloc::{AllocError, Global};
 use std::process::Abort;
 use std::test::Fail;
@@ -101,17 +102,6 @@ fn step_again(alloc: Global, s: &State, words: &str) -> Result<Made, Halt> {
         Err(Halt::Memory) => step(alloc, s, words),
         made => made,
     }
-}
-
-// Makes the changes.
-fn apply(s: &mut State, made: Made) -> Result<(), AllocError> {
-    let Made {
-        changes,
-        entries: _,
-    } = made;
-    s.reserve(changes.len())?;
-    s.apply_all(changes);
-    Ok(())
 }
 
 // What the changes make other in the state, and what the entries tell.

@@ -1,67 +1,18 @@
 //! Lists of commands of one stack, each applied where it is made, and what is left of them: which
 //! answer each gets, and how many rows, letters and nodes there are in the end. Each call succeeds
 //! with ample memory, and each refusal but those of limits and of numbers is met once.
-ghost use Rattle.std.specs.Prelude.{◌≡◌, [], IfOk};
-
 use command_steps::{cancel, create, delete, is_due, roll_back, update};
 use core_state::{Made, State};
-use heat_plan::{
-    ByName, EngineNo, Item, Kind, Needs, Parameters, Plan, Policy, Properties, Refusal, ResName,
-    StackName,
-};
-use heat_value::{Seq, Text};
+use heat_plan::{EngineNo, Plan, Refusal, ResName, StackName};
+use sample_plans::{bare_item, no_plan, plan_of};
+use sample_turns::apply;
 use std::alloc::{AllocError, Global};
 
-// An item that needs nothing.
-fn item(alloc: Global, name: &[u8]) -> Result<Item, AllocError>
-    ensures { IfOk result (λ i. i.needs ≡ []) }
-{
-    let name = ResName::read(alloc, name)?.ok_or(AllocError)?;
-    Ok(Item {
-        name,
-        kind: Kind {
-            name: Text::from_str(alloc, "Test::Box")?,
-            attrs: Seq::new(alloc),
-            soft: Seq::new(alloc),
-        },
-        props: Properties::new(alloc),
-        needs: Needs::new(alloc),
-        policy: Policy::Delete,
-    })
-}
-
-// The plan of one item.
-fn plan_of(alloc: Global, item: Item) -> Result<Plan, AllocError>
-    requires { item.needs ≡ [] }
-{
-    let mut items = Seq::new(alloc);
-    items.push(item)?;
-    Ok(Plan::new(
-        items,
-        Seq::new(alloc),
-        Parameters::new(alloc),
-        ByName::new(alloc),
-        ByName::new(alloc),
-        Seq::new(alloc),
-    ))
-}
-
-// The plan of one item of this name.
+// The plan of one box of this name.
 fn plan(alloc: Global, name: &[u8]) -> Result<Plan, AllocError> {
-    let item = item(alloc, name)?;
+    let name = ResName::read(alloc, name)?.ok_or(AllocError)?;
+    let item = bare_item(alloc, name)?;
     plan_of(alloc, item)
-}
-
-// A plan of nothing.
-fn no_plan(alloc: Global) -> Plan {
-    Plan::new(
-        Seq::new(alloc),
-        Seq::new(alloc),
-        Parameters::new(alloc),
-        ByName::new(alloc),
-        ByName::new(alloc),
-        Seq::new(alloc),
-    )
 }
 
 // One command: a create of nothing or of `a`, an update to `a` or to `b`, a delete, a rollback or
@@ -94,17 +45,6 @@ fn rolled_back(
         Some(stack) if is_due(s, stack) => Ok(roll_back(alloc, s, engine, stack)),
         _ => Ok(Err(Refusal::NotRunning)),
     }
-}
-
-// Makes the changes.
-fn apply(s: &mut State, made: Made) -> Result<(), AllocError> {
-    let Made {
-        changes,
-        entries: _,
-    } = made;
-    s.reserve(changes.len())?;
-    s.apply_all(changes);
-    Ok(())
 }
 
 // The letter of a refusal.

@@ -2,6 +2,7 @@
 
 use heat_plan::Refusal;
 use std::alloc::AllocError;
+use template_plans::PlanFault;
 
 /// Want of memory, words that ask for nothing here, or a refusal for another cause than memory.
 #[derive(Clone, Copy, Debug, PartialEq, Eq)]
@@ -22,6 +23,15 @@ impl From<Refusal> for Halt {
         match refusal {
             Refusal::Memory => Halt::Memory,
             refusal => Halt::Refused(refusal),
+        }
+    }
+}
+
+impl From<PlanFault> for Halt {
+    fn from(fault: PlanFault) -> Halt {
+        match &fault {
+            PlanFault::Memory => Halt::Memory,
+            _ => Halt::Words,
         }
     }
 }

@@ -24,21 +24,15 @@ mod lines;
 #[cfg(test)]
 mod parts;
 #[cfg(test)]
-mod plans;
-#[cfg(test)]
 mod puts;
 #[cfg(test)]
 mod reads;
-#[cfg(test)]
-mod replies;
 #[cfg(test)]
 mod scripts;
 #[cfg(test)]
 mod stops;
 #[cfg(test)]
 mod takes;
-#[cfg(test)]
-mod turns;
 #[cfg(test)]
 mod update_nodes;
 #[cfg(test)]

@@ -1,12 +1,10 @@
 //! The steps of a script, in the words of the program's lines, with a short form of bodies.
 
 use crate::halt::Halt;
-use crate::plans::planned;
-use crate::replies::{Reply, reply_of};
-use crate::turns::turn;
 use command_steps::{cancel, create, delete, update};
 use core_state::{Made, State};
 use heat_plan::{EngineNo, StackName};
+use sample_turns::{Reply, plan_for, turn};
 use script_lines::{Body, Line, Misread};
 use std::alloc::{AllocError, Global};
 use takeover_steps::{enlist, restart, stop};
@@ -41,6 +39,18 @@ fn replied(words: &str) -> Result<(&str, Reply), Halt> {
             None => Err(Halt::Words),
         },
         None => Ok((words, Reply::Works)),
+    }
+}
+
+// The reply of a word.
+fn reply_of(word: &str) -> Option<Reply> {
+    match word {
+        "not yet" => Some(Reply::Waits),
+        "quota" => Some(Reply::Quota),
+        "failed" => Some(Reply::Fails),
+        "broken" => Some(Reply::Breaks),
+        "fault" => Some(Reply::Faults),
+        _ => None,
     }
 }
 
@@ -81,13 +91,13 @@ fn lined(alloc: Global, s: &State, line: Line, reply: Reply) -> Result<Made, Hal
 
 // A create.
 fn created(alloc: Global, s: &State, name: &StackName, body: &Body) -> Result<Made, Halt> {
-    let plan = planned(alloc, name, body)?;
+    let plan = plan_for(alloc, name, body)?;
     Ok(create(alloc, s, name, plan, body.rollback())?)
 }
 
 // An update.
 fn updated(alloc: Global, s: &State, name: &StackName, body: &Body) -> Result<Made, Halt> {
-    let plan = planned(alloc, name, body)?;
+    let plan = plan_for(alloc, name, body)?;
     Ok(update(alloc, s, name, plan, body.rollback())?)
 }
 

@@ -1,24 +1,17 @@
 //! What the properties of an item resolve to, and the names that a value and a map of properties need.
 use crate::cases::{Case, Teller, all_told, value_of, value_words};
 use crate::plans::{both_known, eval_fault_words, name_of, plan_of, properties_of, props_of};
-use heat_plan::{Item, Kind, Needs, Policy, Properties};
-use heat_value::{Seq, Text, TryCopy, Value};
+use heat_plan::{Item, Needs, Properties};
+use heat_value::{TryCopy, Value};
 use hot_eval::{needs_of, needs_of_props, resolve};
+use sample_plans::bare_item;
 use std::alloc::{AllocError, Global};
 
 // The item r of these properties.
 fn item_of(alloc: Global, props: Properties) -> Result<Item, AllocError> {
-    Ok(Item {
-        name: name_of(alloc, "r")?,
-        kind: Kind {
-            name: Text::from_str(alloc, "k")?,
-            attrs: Seq::new(alloc),
-            soft: Seq::new(alloc),
-        },
-        props,
-        needs: Needs::new(alloc),
-        policy: Policy::Delete,
-    })
+    let mut item = bare_item(alloc, name_of(alloc, "r")?)?;
+    item.props = props;
+    Ok(item)
 }
 
 // What an item's properties resolve to, in words.

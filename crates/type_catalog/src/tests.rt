@@ -26,7 +26,7 @@ fn effect(alloc: Global, old: &[u8], new: &[u8]) -> Result<Option<Effect>, Alloc
 
 #[test]
 fn changes_are_told(rt: HostRuntime) -> Result<(), Fail> {
-    let rows: [(&[u8], &[u8], Effect); 7] = [
+    let cases: [(&[u8], &[u8], Effect); 7] = [
         (b"{\"h\":1}", b"{\"h\":1}", Effect::Same),
         (b"{\"h\":1}", b"{\"h\":2}", Effect::Replace),
         (b"{\"h\":1}", b"{\"h\":1,\"s\":1}", Effect::InPlace),
@@ -39,7 +39,7 @@ fn changes_are_told(rt: HostRuntime) -> Result<(), Fail> {
         (b"{\"s\":1}", b"{\"h\":1,\"s\":2}", Effect::Replace),
         (b"{}", b"{\"h\":1}", Effect::Replace),
     ];
-    for (old, new, expected) in rows {
+    for (old, new, expected) in cases {
         let told = match effect(rt.alloc(), old, new) {
             Ok(told) => told,
             Err(_) => effect(rt.alloc(), old, new)?,

@@ -2,11 +2,11 @@
 //! with ample memory.
 use crate::cases::{Asked, Case, all_told, is_copied, put};
 use heat_plan::{
-    Answered, ByName, Condition, Expression, Facts, File, Item, Kind, Known, KnownFacts, Needs,
-    Output, Parameters, Plan, Policy, Properties, Refusal, Request, ResName, RowNo, StackName,
-    Token, is_rising,
+    Answered, Condition, Expression, Facts, File, Known, KnownFacts, Output, Parameters, Policy,
+    Properties, Refusal, Request, ResName, RowNo, StackName, Token, is_rising,
 };
 use heat_value::{Items, Props, Seq, Text, Value};
+use sample_plans::{bare_item, no_plan};
 use std::alloc::{AllocError, Global};
 
 // What is asked: what may have a name of these bytes, and one of so many letters, with this one behind the
@@ -17,7 +17,7 @@ enum Of {
     LongName(usize, char),
     Token(&'static [u8]),
     Number(u64),
-    Nested(Held, usize),
+    Nested(NestedIn, usize),
     Needs(&'static [&'static str]),
     Code(Refusal),
     Copy(Part),
@@ -25,7 +25,7 @@ enum Of {
 
 // What holds lists in lists, under one key.
 #[derive(Clone, Copy)]
-enum Held {
+enum NestedIn {
     Properties,
     Parameters,
 }
@@ -156,12 +156,12 @@ fn tokens_are_read_and_written(rt: HostRuntime) -> Result<(), AllocError> {
     all_told(&rt, TOKENS)
 }
 
-fn nested(alloc: Global, held: Held, lists: usize) -> Result<&'static str, AllocError> {
+fn nested(alloc: Global, within: NestedIn, lists: usize) -> Result<&'static str, AllocError> {
     let mut props = Props::new(alloc);
     put(alloc, &mut props, "p", lists_of(alloc, lists)?)?;
-    let fits = match held {
-        Held::Properties => Properties::from_props(props).is_some(),
-        Held::Parameters => Parameters::from_props(props).is_some(),
+    let fits = match within {
+        NestedIn::Properties => Properties::from_props(props).is_some(),
+        NestedIn::Parameters => Parameters::from_props(props).is_some(),
     };
     Ok(if fits { "fits" } else { "none" })
 }
@@ -200,22 +200,22 @@ const RANGES: &[Case<Of>] = &[
     ("one more", Of::Number(1 << 62), "none"),
     (
         "properties 64 deep",
-        Of::Nested(Held::Properties, 63),
+        Of::Nested(NestedIn::Properties, 63),
         "fits",
     ),
     (
         "properties 65 deep",
-        Of::Nested(Held::Properties, 64),
+        Of::Nested(NestedIn::Properties, 64),
         "none",
     ),
     (
         "a parameter 64 deep",
-        Of::Nested(Held::Parameters, 64),
+        Of::Nested(NestedIn::Parameters, 64),
         "fits",
     ),
     (
         "a parameter 65 deep",
-        Of::Nested(Held::Parameters, 65),
+        Of::Nested(NestedIn::Parameters, 65),
         "none",
     ),
     ("no needs", Of::Needs(&[]), "rise"),
@@ -244,30 +244,15 @@ fn copied(alloc: Global, part: Part) -> Result<&'static str, AllocError> {
         Part::Condition => is_a_condition_copied(alloc),
         Part::File => is_a_file_copied(alloc),
         Part::Output => is_an_output_copied(alloc),
-        Part::Plan => is_a_plan_copied(alloc),
+        Part::Plan => is_copied(&no_plan(alloc)),
     };
     Ok(if same? { "itself" } else { "another" })
 }
 
-// A kind without attributes.
-fn kind_of(alloc: Global) -> Result<Kind, AllocError> {
-    Ok(Kind {
-        name: Text::from_str(alloc, "Test::Box")?,
-        attrs: Seq::new(alloc),
-        soft: Seq::new(alloc),
-    })
-}
-
-// An item that needs nothing.
 fn is_an_item_copied(alloc: Global) -> Result<bool, AllocError> {
-    let name = name_of(alloc, "a")?;
-    is_copied(&Item {
-        name,
-        kind: kind_of(alloc)?,
-        props: Properties::new(alloc),
-        needs: Needs::new(alloc),
-        policy: Policy::Retain,
-    })
+    let mut item = bare_item(alloc, name_of(alloc, "a")?)?;
+    item.policy = Policy::Retain;
+    is_copied(&item)
 }
 
 // The facts of a resource without attributes.
@@ -313,17 +298,6 @@ fn is_an_output_copied(alloc: Global) -> Result<bool, AllocError> {
         Some(value) => is_copied(&Output { name, value }),
         None => Ok(false),
     }
-}
-
-fn is_a_plan_copied(alloc: Global) -> Result<bool, AllocError> {
-    is_copied(&Plan::new(
-        Seq::new(alloc),
-        Seq::new(alloc),
-        Parameters::new(alloc),
-        ByName::new(alloc),
-        ByName::new(alloc),
-        Seq::new(alloc),
-    ))
 }
 
 const COPIES: &[Case<Of>] = &[

@@ -1,4 +1,4 @@
-use Rattle.template_examples.proofs.NoItems.{no_item_is_plan}
+use Rattle.sample_plans.proofs.NoItems.{no_item_is_plan}
 use Rattle.template_examples.proofs.plans.plan_of.Goals as goal
 
 pub new-requires-3 : goal.new-requires-3

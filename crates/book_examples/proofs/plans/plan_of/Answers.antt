@@ -1,6 +1,0 @@
-use Rattle.heat_plan.proofs.OneItem.{one_is_plan}
-use Rattle.book_examples.proofs.plans.plan_of.Goals as goal
-
-pub new-requires-6 : goal.new-requires-6
-new-requires-6 c = rw (c.in_ok-push.ensures.ok, c.new-items.ensures, c.new-5.ensures)
-    (one_is_plan c.args.item c.requires)
