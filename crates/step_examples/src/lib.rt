@@ -1,4 +1,4 @@
-//! Each row of the steps' tables once: a state, the step that is next in it, and what that changes and
+//! Each line of the steps' tables once: a state, the step that is next in it, and what that changes and
 //! tells; and what reads of a state give. There are tests alone here. A state is made by the steps that lead
 //! to it.
 #![tactic(auto)]

@@ -29,6 +29,7 @@ pub(crate) fn properties_of(alloc: Global, text: &str) -> Result<Properties, All
     Properties::from_props(props_of(alloc, text)?).ok_or(AllocError)
 }
 
+/// A resource's name.
 pub(crate) fn name_of(alloc: Global, text: &str) -> Result<ResName, AllocError> {
     ResName::read(alloc, text.as_bytes())?.ok_or(AllocError)
 }
