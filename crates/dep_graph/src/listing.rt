@@ -20,7 +20,7 @@ use std::alloc::{AllocError, Global};
 pub enum Order {
     /// Each node once, edges forward, the least ready node first.
     Order(Seq<u32>),
-    /// Seq<u32> each of which has an edge from the next, and the last from the first.
+    /// Nodes, each of which has an edge from the next, and the last from the first.
     Cycle(Seq<u32>),
 }
 

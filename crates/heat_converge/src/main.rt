@@ -1,7 +1,7 @@
 //! The program: drives stacks of resources to their templates, by a script on standard input, with the
-//! report on standard output. It hands the top call a simulated cloud, the adapters over std and what it
-//! registers, says on standard error how it ended, and does nothing else itself. The cloud is that of a file, which it writes
-//! back after the call, or an empty one.
+//! report on standard output. It hands the top call with the shipped registry a simulated cloud and the
+//! adapters over std, says on standard error how it ended, and does nothing else itself. The cloud is that
+//! of a file, which it writes back after the call, or an empty one.
 #![tactic(auto)]
 
 mod ended;
