@@ -1,18 +1,16 @@
 -- The relations of the text functions have the answers that are read from left to right.
-use Rattle.std.proofs.Common.{◌≡◌, ◌≢◌, ◌+◌, ◌<◌, ◌≤◌, ℕ, zero, suc, List, [], ◌∷◌, ◌++◌, length, ◌⊎◌, inl, inr, Bool, true, false, cond, ◌&&◌, ◌==◌, ◌/◌, Some, None, refl, ap, sym, ◌∙◌, subst, arith}
-use lib.Utf8.{scalars, encode, next}
-use lib.Dec.{T, ltb, lt→ltb, ltb→lt}
-use Rattle.std.proofs.lemmas.Bool.{cases_lt, leb-true, le-leb}
+use Rattle.std.proofs.Common.{◌≡◌, ◌≢◌, ◌+◌, ◌<◌, ◌≤◌, ℕ, zero, suc, List, [], ◌∷◌, ◌++◌, length, inl, inr, Bool, true, false, ◌&&◌, ◌==◌, Some, None, refl, ap, sym, ◌∙◌, subst, arith}
+use Rattle.std.proofs.lemmas.Bool.{leb-true, le-leb}
 use Rattle.std.proofs.lemmas.Bool.Decides.{Decides-eqb}
 use Rattle.std.proofs.lemmas.List.Elements.{All-contains}
 use Rattle.std.specs.Bool.{nat_le}
 use Rattle.std.specs.Char.{encode_utf8}
 use Rattle.std.specs.List.{All, Contains}
-use Rattle.std.specs.Prelude.{if◌then◌else◌, ⊤}
-use Rattle.std.specs.Str.{IsUtf8, encode_utf8_all}
-use Rattle.hot_strings.specs.Answers.{begins, cut_behind, cuts, key_length, longest_at, put_behind, with_values, digest_of}
+use Rattle.std.specs.Prelude.{if◌then◌else◌}
+use Rattle.hot_strings.specs.Answers.{begins, cut_behind, cuts, key_length, longest_at, key_at, put_behind, with_values, digest_of}
 use Rattle.hot_strings.specs.Digest.{IsDigestName, IsDigest}
-use Rattle.hot_strings.specs.Pieces.{Params, Piece, key, character, ArePieces, IsLongestKey, NoKeyBegins, AreDistinct, HasNoEmptyKey, replaced}
+use Rattle.hot_strings.specs.Pieces.{Params, Piece, key, character, source, target, ArePieces, IsFirstPiece, IsLongestKey, NoKeyBegins, AreDistinct, HasNoEmptyKey, at_character, replaced}
+use Rattle.hot_strings.proofs.Characters.{AreInner, CharBytes, char_bytes, at_character-inner}
 use Rattle.hot_strings.specs.Places.{Begins, Lacks, StandsFirst}
 use Rattle.hot_strings.specs.Split.{AreSplit}
 use Rattle.hot_strings.proofs.KeyLemmas.{key_some}
@@ -117,111 +115,60 @@ longest_some (p ∷ ps) s k v distinct best =
         )) in
         rw (rest, not) refl
 
--- ---- characters
+-- ---- the longest key where a character begins
 
--- the bytes of a character behind its first
-abbrev AreInner : List ℕ → Type 0
-AreInner [] = ⊤
-AreInner (b ∷ bs) = (128 ≤ b) × (b < 192) × AreInner bs
+key_at-longest : (params : Params) (s : List ℕ) → at_character s ≡ true → key_at params s ≡ longest_at params s
+key_at-longest params s at = rw at refl
 
-taken : {X : Type 0} (y : Bool) (a b : X) → T y → cond y a b ≡ a
-taken true a b t = refl
-taken false a b t = absurd t
-
-passed : {X : Type 0} (m n : ℕ) (a b : X) → n ≤ m → cond (ltb m n) a b ≡ b
-passed {X} m n a b le = by_test (ltb m n) refl
+key_at-none : (params : Params) (s : List ℕ) → longest_at params s ≡ None → key_at params s ≡ None
+key_at-none params s none = go (at_character s)
   where
-    by_test : (y : Bool) → ltb m n ≡ y → cond y a b ≡ b
-    by_test true e = let lt : m < n = ltb→lt m n (subst T (sym e) tt) in absurd (omega arith)
-    by_test false e = refl
+    go : (t : Bool) → (if t then longest_at params s else None) ≡ None
+    go true = none
+    go false = refl
 
-one_byte : (c : ℕ) → c < 128 → encode c ≡ c ∷ []
-unfolding encode
-one_byte c h = taken (ltb c 128) _ _ (lt→ltb c 128 h)
-
-two_bytes : (c : ℕ) → 128 ≤ c → c < 2048 → encode c ≡ (192 + c / 64) ∷ next c ∷ []
-unfolding encode
-two_bytes c l h = passed c 128 _ _ l ∙ taken (ltb c 2048) _ _ (lt→ltb c 2048 h)
-
-three_bytes : (c : ℕ) → 2048 ≤ c → c < 65536 → encode c ≡ (224 + c / 4096) ∷ next (c / 64) ∷ next c ∷ []
-unfolding encode
-three_bytes c l h = passed c 128 _ _ (omega arith) ∙ passed c 2048 _ _ l ∙ taken (ltb c 65536) _ _ (lt→ltb c 65536 h)
-
-four_bytes : (c : ℕ) → 65536 ≤ c → encode c ≡ (240 + c / 262144) ∷ next (c / 4096) ∷ next (c / 64) ∷ next c ∷ []
-unfolding encode
-four_bytes c l = passed c 128 _ _ (omega arith) ∙ passed c 2048 _ _ (omega arith) ∙ passed c 65536 _ _ l
-
--- a character's first byte, and those behind it
-abbrev CharBytes : ℕ → Type 0
-CharBytes c = (a : ℕ) × (bs : List ℕ) × (encode_utf8 c ≡ a ∷ bs) × ((a < 128) ⊎ (192 ≤ a)) × AreInner bs
-
-inner : (x : ℕ) (bs : List ℕ) → AreInner bs → AreInner (next x ∷ bs)
-inner x bs h = (omega arith, omega arith, h)
-
-char_bytes : (c : ℕ) → CharBytes c
-char_bytes c = by (cases_lt c 128) (cases_lt c 2048) (cases_lt c 65536)
-  where
-    by : (c < 128) ⊎ (128 ≤ c) → (c < 2048) ⊎ (2048 ≤ c) → (c < 65536) ⊎ (65536 ≤ c) → CharBytes c
-    by (inl h) _ _ = (c, [], one_byte c h, inl h, tt)
-    by (inr l) (inl h) _ = (192 + c / 64, next c ∷ [], two_bytes c l h, inr (omega arith), inner c [] tt)
-    by (inr _) (inr l) (inl h) = (224 + c / 4096, next (c / 64) ∷ next c ∷ [], three_bytes c l h, inr (omega arith), inner (c / 64) (next c ∷ []) (inner c [] tt))
-    by (inr _) (inr _) (inr l) =
-        (240 + c / 262144, next (c / 4096) ∷ next (c / 64) ∷ next c ∷ [], four_bytes c l, inr (omega arith), inner (c / 4096) (next (c / 64) ∷ next c ∷ []) (inner (c / 64) (next c ∷ []) (inner c [] tt)))
-
--- no text begins behind a character's first byte
-not_inner : (k : List ℕ) (b : ℕ) (s : List ℕ) → IsUtf8 k → k ≢ [] → 128 ≤ b → b < 192 → Begins k (b ∷ s) → ⊥
-not_inner [] b s text some low high here = some refl
-not_inner (y ∷ k) b s (cs, (sc, is)) some low high (rest, e) = go cs sc is
-  where
-    same : b ≡ y
-    same = let whole : b ∷ s ≡ y ∷ (k ++ rest) = e in cc
-
-    go : (cs : List ℕ) → scalars cs ≡ true → encode_utf8_all cs ≡ y ∷ k → ⊥
-    go [] sc is = absurd (let none : [] ≡ y ∷ k = is in cc)
-    go (c ∷ cs) sc is = by (char_bytes c)
-      where
-        off : {a : ℕ} → (a < 128) ⊎ (192 ≤ a) → a ≡ b → ⊥
-        off (inl l) e = omega (arith, l, e)
-        off (inr l) e = omega (arith, l, e)
-
-        by : CharBytes c → ⊥
-        by (a, bs, bytes, side, within) =
-            let whole : a ∷ (bs ++ encode_utf8_all cs) ≡ y ∷ k = subst (λ (w : List ℕ). w ++ encode_utf8_all cs ≡ y ∷ k) bytes is in
-            let head : a ≡ y = cc in
-            off side (head ∙ sym same)
+key_at-inner : (params : Params) (s : List ℕ) (b : ℕ) → 128 ≤ b → b < 192 → key_at params (b ∷ s) ≡ None
+key_at-inner params s b low high = rw (at_character-inner s b low high) refl
 
 -- ---- replacing
 
-module _ (params : Params) (distinct : AreDistinct params) (some : HasNoEmptyKey params) (texts : All (λ p. IsUtf8 p.0) params) where
-  put_skip : (xs t : List ℕ) → put_behind params (length xs) (xs ++ t) ≡ put_behind params 0 t
+module _ (params : Params) (distinct : AreDistinct params) (some : HasNoEmptyKey params) where
+  put_skip : (xs t : List ℕ) → put_behind params (length xs) (xs ++ t) ≡ with_values params t
   put_skip [] t = refl
   put_skip (x ∷ xs) t = put_skip xs t
 
-  put_inner : (bs t : List ℕ) → AreInner bs → put_behind params 0 (bs ++ t) ≡ bs ++ put_behind params 0 t
+  put_none : (b : ℕ) (t : List ℕ) → key_at params (b ∷ t) ≡ None → with_values params (b ∷ t) ≡ b ∷ with_values params t
+  put_none b t none = rw none refl
+
+  put_inner : (bs t : List ℕ) → AreInner bs → with_values params (bs ++ t) ≡ bs ++ with_values params t
   put_inner [] t within = refl
   put_inner (b ∷ bs) t within =
-      let none : longest_at params (b ∷ (bs ++ t)) ≡ None
-      = longest_none params (b ∷ (bs ++ t)) (λ k d l here. not_inner _ b (bs ++ t) (texts k d l) (some k d l) within.0 within.1 here) in
-      rw none (ap (λ (r : List ℕ). b ∷ r) (put_inner bs t within.2))
+      put_none b (bs ++ t) (key_at-inner params (bs ++ t) b within.0 within.1) ∙ ap (λ (r : List ℕ). b ∷ r) (put_inner bs t within.2)
 
-  put_character : (c : ℕ) (t : List ℕ) → NoKeyBegins params (encode_utf8 c ++ t) → put_behind params 0 (encode_utf8 c ++ t) ≡ encode_utf8 c ++ put_behind params 0 t
+  put_character : (c : ℕ) (t : List ℕ) → NoKeyBegins params (encode_utf8 c ++ t) → with_values params (encode_utf8 c ++ t) ≡ encode_utf8 c ++ with_values params t
   put_character c t none = by (char_bytes c)
     where
-      by : CharBytes c → put_behind params 0 (encode_utf8 c ++ t) ≡ encode_utf8 c ++ put_behind params 0 t
+      by : CharBytes c → with_values params (encode_utf8 c ++ t) ≡ encode_utf8 c ++ with_values params t
       by (a, bs, bytes, side, within) =
-          let here : longest_at params (a ∷ (bs ++ t)) ≡ None = longest_none params (a ∷ (bs ++ t)) (subst (λ (w : List ℕ). NoKeyBegins params (w ++ t)) bytes none) in
-          rw (bytes, here) (ap (λ (r : List ℕ). a ∷ r) (put_inner bs t within))
+          let here : key_at params (a ∷ (bs ++ t)) ≡ None
+          = key_at-none params (a ∷ (bs ++ t)) (longest_none params (a ∷ (bs ++ t)) (subst (λ (w : List ℕ). NoKeyBegins params (w ++ t)) bytes none)) in
+          rw bytes (put_none a (bs ++ t) here ∙ ap (λ (r : List ℕ). a ∷ r) (put_inner bs t within))
+
+  put_key : (k v t : List ℕ) → IsFirstPiece params (k ++ t) (key k v) → with_values params (k ++ t) ≡ v ++ with_values params t
+  put_key [] v t first = absurd (key_some params [] v some first.1.listed refl)
+  put_key (x ∷ k) v t first =
+      let here : key_at params (x ∷ (k ++ t)) ≡ Some (x ∷ k, v) = key_at-longest params (x ∷ (k ++ t)) first.0 ∙ longest_some params (x ∷ (k ++ t)) (x ∷ k) v distinct first.1 in
+      rw here (ap (λ (r : List ℕ). v ++ r) (put_skip k t))
+
+  -- what stands in place of a text's first piece, and then of the rest
+  pub with_values-step : (s : List ℕ) (p : Piece) (rest : List ℕ) → s ≡ source p ++ rest → IsFirstPiece params s p → with_values params s ≡ target p ++ with_values params rest
+  with_values-step s (key k v) rest e first = rw e (put_key k v rest (subst (λ (w : List ℕ). IsFirstPiece params w (key k v)) e first))
+  with_values-step s (character c) rest e first = rw e (put_character c rest (subst (λ (w : List ℕ). NoKeyBegins params w) e first.1))
 
   -- what stands in place of a text's pieces is the text with the values
   pub with_values-pieces : (s : List ℕ) (ps : List Piece) → ArePieces params s ps → with_values params s ≡ replaced ps
   with_values-pieces s [] h = rw h refl
-  with_values-pieces s (key [] v ∷ ps) h = absurd (key_some params [] v some h.2.listed refl)
-  with_values-pieces s (key (x ∷ k) v ∷ ps) h =
-      let best : IsLongestKey params (x ∷ (k ++ h.0)) (x ∷ k) v = subst (λ (w : List ℕ). IsLongestKey params w (x ∷ k) v) h.1 h.2 in
-      rw (h.1, longest_some params (x ∷ (k ++ h.0)) (x ∷ k) v distinct best) (ap (λ (r : List ℕ). v ++ r) (put_skip k h.0 ∙ with_values-pieces h.0 ps h.3))
-  with_values-pieces s (character c ∷ ps) h =
-      let none : NoKeyBegins params (encode_utf8 c ++ h.0) = subst (λ (w : List ℕ). NoKeyBegins params w) h.1 h.2.1 in
-      rw h.1 (put_character c h.0 none ∙ ap (λ (r : List ℕ). encode_utf8 c ++ r) (with_values-pieces h.0 ps h.3))
+  with_values-pieces s (p ∷ ps) h = with_values-step s p h.0 h.1 h.2 ∙ ap (λ (r : List ℕ). target p ++ r) (with_values-pieces h.0 ps h.3)
 
 -- ---- digests
 

@@ -2,7 +2,6 @@
 use Rattle.std.proofs.Common.{◌≡◌, ◌≢◌, ◌+◌, ◌<◌, ◌≤◌, ℕ, zero, suc, List, [], ◌∷◌, ◌++◌, length, Some, option_map, Bool, true, false, ◌⊎◌, inl, inr, refl, ap, sym, ◌∙◌, subst, arith, set}
 use Rattle.std.specs.Bool.{MatchBool}
 use Rattle.std.specs.List.{All, Any, Contains, slice_get}
-use Rattle.std.specs.Str.{IsUtf8}
 use Rattle.std.proofs.lemmas.Bool.{cases_lt}
 use Rattle.std.proofs.lemmas.List.{length-map, length-set}
 use Rattle.std.proofs.lemmas.List.Elements.{All-nil, All-cons, All-map, All-append, Contains-append_left, Contains-append_right}
@@ -38,22 +37,21 @@ keys_any P (q ∷ ps) (suc i, p, l, e, h) =
     (suc more.0, more.1, omega arith, more.3, more.4)
 
 -- whether a key is empty, told of the keys alone
-pub empty_of : (b : Bool) (params : Params) → MatchBool b (HasEmptyKey params) (HasNoEmptyKey params × All (λ p. IsUtf8 p.0) params)
-    → MatchBool b (Any (λ k. k ≡ []) (keys_in params)) (All (λ k. k ≢ []) (keys_in params) × All IsUtf8 (keys_in params))
+pub empty_of : (b : Bool) (params : Params) → MatchBool b (HasEmptyKey params) (HasNoEmptyKey params)
+    → MatchBool b (Any (λ k. k ≡ []) (keys_in params)) (All (λ k. k ≢ []) (keys_in params))
 empty_of true params h = keys_any (λ k. k ≡ []) params h
-empty_of false params h = (All-map (λ k. k ≢ []) (λ p. p.0) params h.0, All-map IsUtf8 (λ p. p.0) params h.1)
+empty_of false params h = All-map (λ k. k ≢ []) (λ p. p.0) params h
 
 -- and told again of keys with whatever is put in their place
-empty_in : (b : Bool) (params : Params) → MatchBool b (Any (λ k. k ≡ []) (keys_in params)) (All (λ k. k ≢ []) (keys_in params) × All IsUtf8 (keys_in params))
-    → MatchBool b (HasEmptyKey params) (HasNoEmptyKey params × All (λ p. IsUtf8 p.0) params)
+empty_in : (b : Bool) (params : Params) → MatchBool b (Any (λ k. k ≡ []) (keys_in params)) (All (λ k. k ≢ []) (keys_in params))
+    → MatchBool b (HasEmptyKey params) (HasNoEmptyKey params)
 empty_in true params h = any_keys (λ k. k ≡ []) params h
-empty_in false params h = (all_keys (λ k. k ≢ []) params h.0, all_keys IsUtf8 params h.1)
+empty_in false params h = all_keys (λ k. k ≢ []) params h
 
 pub empty_told : (b : Bool) (params : Params) (x : KeyIndex) → b ≡ x.empty → IsIndexOf (keys_in params) x
-    → MatchBool b (HasEmptyKey params) (HasNoEmptyKey params × All (λ p. IsUtf8 p.0) params)
+    → MatchBool b (HasEmptyKey params) (HasNoEmptyKey params)
 empty_told b params x is h =
-    empty_in b params
-    (subst (λ (t : Bool). MatchBool t (Any (λ k. k ≡ []) (keys_in params)) (All (λ k. k ≢ []) (keys_in params) × All IsUtf8 (keys_in params))) (sym is) h.empty)
+    empty_in b params (subst (λ (t : Bool). MatchBool t (Any (λ k. k ≡ []) (keys_in params)) (All (λ k. k ≢ []) (keys_in params))) (sym is) h.empty)
 
 pub empty_or_not : (params : Params) → HasEmptyKey params → HasNoEmptyKey params → ⊥
 empty_or_not params (i, p, l, at, none) some = some i p l (subst (λ (q : List ℕ × List ℕ). q.0 ≡ []) (sym at) none)

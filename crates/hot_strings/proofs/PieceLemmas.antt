@@ -16,13 +16,15 @@ use Rattle.std.proofs.lemmas.List.Elements.{All-contains}
 use Rattle.std.proofs.lemmas.Str.{encode_same}
 use Rattle.hot_strings.specs.Only.{HoldsOfOne}
 use Rattle.hot_strings.specs.Places.{Begins}
-use Rattle.hot_strings.specs.Pieces.{Params, Piece, key, character, source, target, IsLongestKey, NoKeyBegins, IsFirstPiece, ArePieces, AreDistinct, HasNoEmptyKey, HasEveryKey, replaced, IsOfReplaced, IsReplaceFault, IsWithinFault}
-use Rattle.hot_strings.proofs.Characters.{IsUtf8-behind, encode_some}
+use Rattle.hot_strings.specs.Pieces.{Params, Piece, key, character, source, target, IsLongestKey, NoKeyBegins, IsFirstPiece, ArePieces, AreDistinct, HasNoEmptyKey, HasEveryKey, replaced}
+use Rattle.hot_strings.specs.Answers.{with_values}
+use Rattle.hot_strings.specs.Replacing.{IsReplaceFault, IsWithinFault}
+use Rattle.hot_strings.proofs.Characters.{IsUtf8-behind, encode_some, at_character-text}
 use Rattle.hot_strings.proofs.KeyLemmas.{longest_key, IsLongestKey-same, key_some}
 
 -- no piece is empty
 pub source_some : (params : Params) (s : List ℕ) (p : Piece) → HasNoEmptyKey params → IsFirstPiece params s p → source p ≢ []
-source_some params s (key k v) some first = key_some params k v some first.listed
+source_some params s (key k v) some first = key_some params k v some first.1.listed
 source_some params s (character c) some first = encode_some c
 
 pub length-behind : (p : Piece) (s rest : List ℕ) → source p ≢ [] → s ≡ source p ++ rest → length rest < length s
@@ -51,7 +53,7 @@ first_there params s texts (cs, (scalar, is)) some = go (longest_key params s)
 
     go : ((k : List ℕ) × (v : List ℕ) × IsLongestKey params s k v) ⊎ NoKeyBegins params s → HasFirst params s
     go (inl (k, v, best)) =
-        (key k v, best.stands.0, best.stands.1, best, IsUtf8-behind k s best.stands.0 (cs, (scalar, is)) (All-contains (λ p. IsUtf8 p.0) params (k, v) texts best.listed) best.stands.1)
+        (key k v, best.stands.0, best.stands.1, (at_character-text s (cs, (scalar, is)), best), IsUtf8-behind k s best.stands.0 (cs, (scalar, is)) (All-contains (λ p. IsUtf8 p.0) params (k, v) texts best.listed) best.stands.1)
     go (inr none) = one none cs scalar (sym is)
 
 pub pieces_exist : (n : ℕ) (params : Params) (s : List ℕ) → HasNoEmptyKey params → All (λ p. IsUtf8 p.0) params → IsUtf8 s → length s ≤ n → (ps : List Piece) × ArePieces params s ps
@@ -66,9 +68,9 @@ pieces_exist (suc n) params (x ∷ s) some texts text fits =
 -- a text begins with one piece
 pub IsFirstPiece-same : (params : Params) (s : List ℕ) (p q : Piece) (rest more : List ℕ) → AreDistinct params → s ≡ source p ++ rest → s ≡ source q ++ more
     → IsFirstPiece params s p → IsFirstPiece params s q → p ≡ q
-IsFirstPiece-same params s (key j v) (key k w) rest more distinct e f a b = let same = IsLongestKey-same params s j v k w distinct a b in let fronts : j ≡ k = same.0 in let values : v ≡ w = same.1 in cc
-IsFirstPiece-same params s (key j v) (character c) rest more distinct e f a b = absurd (All-contains (λ p. ¬ (Begins p.0 s)) params (j, v) b.1 a.listed a.stands)
-IsFirstPiece-same params s (character c) (key k w) rest more distinct e f a b = absurd (All-contains (λ p. ¬ (Begins p.0 s)) params (k, w) a.1 b.listed b.stands)
+IsFirstPiece-same params s (key j v) (key k w) rest more distinct e f a b = let same = IsLongestKey-same params s j v k w distinct a.1 b.1 in let fronts : j ≡ k = same.0 in let values : v ≡ w = same.1 in cc
+IsFirstPiece-same params s (key j v) (character c) rest more distinct e f a b = absurd (All-contains (λ p. ¬ (Begins p.0 s)) params (j, v) b.1 a.1.listed a.1.stands)
+IsFirstPiece-same params s (character c) (key k w) rest more distinct e f a b = absurd (All-contains (λ p. ¬ (Begins p.0 s)) params (k, w) a.1 b.1.listed b.1.stands)
 IsFirstPiece-same params s (character c) (character d) rest more distinct e f a b = ap character (encode_same c d rest more (sym e ∙ f)).0
 
 pub ArePieces-same : (params : Params) (s : List ℕ) (ps qs : List Piece) → AreDistinct params → HasNoEmptyKey params → ArePieces params s ps → ArePieces params s qs → ps ≡ qs
@@ -98,17 +100,22 @@ LeadsTo-step params s done rest p tail leads e first ps h =
 pub replaced-push : (done : List Piece) (p : Piece) → replaced (done ++ p ∷ []) ≡ replaced done ++ target p
 replaced-push done p = flat_map-append target done (p ∷ []) ∙ ap (λ t. replaced done ++ t) (append-nil (target p))
 
+-- a text with the values is what was put for what was passed, and then what is put for the rest
+pub values_pushed : (params : Params) (s done rest put tail : List ℕ) → with_values params s ≡ done ++ with_values params rest → with_values params rest ≡ put ++ with_values params tail
+    → with_values params s ≡ (done ++ put) ++ with_values params tail
+values_pushed params s done rest put tail whole step = whole ∙ (ap (λ (t : List ℕ). done ++ t) step ∙ sym (append_assoc done put (with_values params tail)))
+
 -- the push that found no room, or no memory
-pub push_refused : (e : StringFault) (limit : ℕ) (params : Params) (s : List ℕ) (done ps : List Piece) → ArePieces params s (done ++ ps) → IsOfLimit e limit (words (replaced done)) → IsOfReplaced e limit params s
-push_refused F02 limit params s done ps pieces h = h
-push_refused F03 limit params s done ps pieces h = h
-push_refused F04 limit params s done ps pieces h = h
-push_refused F06 limit params s done ps pieces h =
-    (replaced (done ++ ps), (done ++ ps, pieces, refl), rw (flat_map-append target done ps) (IsLongerThan-append limit (replaced done) (replaced ps) h))
-push_refused Memory limit params s done ps pieces h = h
+pub push_refused : (e : StringFault) (limit : ℕ) (params : Params) (s done rest : List ℕ) → with_values params s ≡ done ++ rest → IsOfLimit e limit (words done)
+    → IsOfLimit e limit (words (with_values params s))
+push_refused F02 limit params s done rest is h = h
+push_refused F03 limit params s done rest is h = h
+push_refused F04 limit params s done rest is h = h
+push_refused F06 limit params s done rest is h = rw is (IsLongerThan-append limit done rest h)
+push_refused Memory limit params s done rest is h = h
 
 -- behind the checks of the keys only the result has faults
-pub IsReplaceFault-checked : (e : StringFault) (params : Params) (s : List ℕ) (strict : Bool) → HasNoEmptyKey params → (IsTrue strict → HasEveryKey params s) → IsOfReplaced e 1048576 params s
+pub IsReplaceFault-checked : (e : StringFault) (params : Params) (s : List ℕ) (strict : Bool) → HasNoEmptyKey params → (IsTrue strict → HasEveryKey params s) → IsOfLimit e 1048576 (words (with_values params s))
     → IsReplaceFault e params s strict
 IsReplaceFault-checked F02 params s strict some all h = h
 IsReplaceFault-checked F03 params s strict some all h = absurd h
@@ -116,7 +123,7 @@ IsReplaceFault-checked F04 params s strict some all h = absurd h
 IsReplaceFault-checked F06 params s strict some all h = (some, all, h)
 IsReplaceFault-checked Memory params s strict some all h = h
 
-pub IsWithinFault-checked : (e : StringFault) (limit : ℕ) (params : Params) (s : List ℕ) → HasNoEmptyKey params → IsOfReplaced e limit params s → IsWithinFault e limit params s
+pub IsWithinFault-checked : (e : StringFault) (limit : ℕ) (params : Params) (s : List ℕ) → HasNoEmptyKey params → IsOfLimit e limit (words (with_values params s)) → IsWithinFault e limit params s
 IsWithinFault-checked F02 limit params s some h = h
 IsWithinFault-checked F03 limit params s some h = absurd h
 IsWithinFault-checked F04 limit params s some h = h

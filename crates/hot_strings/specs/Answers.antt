@@ -6,7 +6,7 @@ use Rattle.sha1.specs.Sha1.{sha1 as sha1_of}
 use Rattle.sha2.specs.Sha256.{sha224 as sha224_of, sha256 as sha256_of}
 use Rattle.sha2.specs.Sha512.{sha384 as sha384_of, sha512 as sha512_of}
 use Rattle.hex.specs.Hex.{encode_lower}
-use Rattle.hot_strings.specs.Pieces.{Params, Piece, ArePieces, replaced}
+use Rattle.hot_strings.specs.Pieces.{Params, Piece, ArePieces, at_character, replaced}
 
 -- d stands at the front of s
 abbrev pub begins : List ℕ → List ℕ → Bool
@@ -50,6 +50,10 @@ longest_at [] s = None
 longest_at (p ∷ ps) s =
     if begins p.0 s && nat_le (key_length (longest_at ps s)) (length p.0) then Some p else longest_at ps s
 
+-- the same where s doesn't begin inside a character, and none where it does
+abbrev pub key_at : Params → List ℕ → Option (List ℕ × List ℕ)
+key_at params s = if at_character s then longest_at params s else None
+
 -- what is put where a key stands, or else the byte there
 abbrev pub put_for : ℕ → Option (List ℕ × List ℕ) → List ℕ
 put_for b None = b ∷ []
@@ -59,10 +63,10 @@ put_for b (Some p) = p.1
 abbrev pub put_behind : Params → ℕ → List ℕ → List ℕ
 put_behind params n [] = []
 put_behind params zero (b ∷ s) =
-    put_for b (longest_at params (b ∷ s)) ++ put_behind params (pred (key_length (longest_at params (b ∷ s)))) s
+    put_for b (key_at params (b ∷ s)) ++ put_behind params (pred (key_length (key_at params (b ∷ s)))) s
 put_behind params (suc n) (b ∷ s) = put_behind params n s
 
--- one pass: where a key stands, the longest key there is replaced by its value, and reading goes on behind it
+-- one pass: where a character begins and a key stands, the longest key there is replaced by its value, and reading goes on behind it
 abbrev pub with_values : Params → List ℕ → List ℕ
 with_values params s = put_behind params 0 s
 

@@ -1,7 +1,6 @@
 -- What is found out of keys once: whether one is empty, whether they rise, and their places by their first bytes.
 use Rattle.std.specs.Prelude.{◌≡◌, ◌≢◌, ◌<◌, ℕ, List, [], ◌∷◌, length, map, All, Any, Contains, MatchBool, IsTrue}
 use Rattle.std.specs.Prelude.{Some, IfSome, slice_get}
-use Rattle.std.specs.Str.{IsUtf8}
 use Rattle.hot_strings.specs.Pieces.{Params}
 use Rattle.hot_strings.specs.Rising.{Rising, AreShorter}
 use Rattle.hot_strings.specs.declared.index.KeyIndex.{KeyIndex}
@@ -28,6 +27,6 @@ pub record IsIndex (keys : List (List ℕ)) (lists : List (List ℕ)) : Type 0 w
 -- it says whether a key is empty, says of none but rising keys that they rise, leads from each of them to a shorter one, and
 -- lists the places of these keys
 pub record IsIndexOf (keys : List (List ℕ)) (x : KeyIndex) : Type 0 where
-  pub empty : MatchBool x.empty (Any (λ k. k ≡ []) keys) (All (λ k. k ≢ []) keys × All IsUtf8 keys)
+  pub empty : MatchBool x.empty (Any (λ k. k ≡ []) keys) (All (λ k. k ≢ []) keys)
   pub rise : IsTrue x.rise → Rising keys × AreShorter keys x.shorter × (length x.shorter ≡ length keys)
   pub lists : IfSome x.lists (IsIndex keys)

@@ -10,3 +10,4 @@ pub mod Digest
 pub mod Faults
 pub mod Indexes
 pub mod Answers
+pub mod Replacing

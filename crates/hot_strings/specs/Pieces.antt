@@ -1,12 +1,8 @@
--- The pieces of a template, what stands in their place, and when each fault of a replacement comes.
+-- The pieces of a template, and what stands in their place.
 use Rattle.std.specs.Prelude.{◌≡◌, ◌≢◌, ◌≤◌, ℕ, Bool, List, [], ◌∷◌, ◌++◌, length, All}
-use Rattle.std.specs.Prelude.{Any, Contains, flat_map, encode_utf8, IsTrue, ⊤}
+use Rattle.std.specs.Prelude.{true, ◌||◌, nat_le, Any, Contains, flat_map, encode_utf8, IsTrue, ⊤}
 use Rattle.std.specs.Char.{IsScalar}
-use Rattle.heat_value.specs.Data.{words}
 use Rattle.hot_strings.specs.Places.{Begins, IsPart, Lacks}
-use Rattle.hot_strings.specs.Size.{IsLongerThan}
-use Rattle.hot_strings.specs.declared.fault.StringFault.{StringFault}
-use Rattle.hot_strings.specs.declared.fault.StringFault.TheVariants.{F02, F03, F04, F06, Memory}
 
 -- keys with their values
 abbrev pub Params : Type 0
@@ -37,9 +33,14 @@ pub record IsLongestKey (params : Params) (s k v : List ℕ) : Type 0 where
 abbrev pub NoKeyBegins : Params → List ℕ → Type 0
 NoKeyBegins params s = All (λ p. ¬ (Begins p.0 s)) params
 
--- the piece that s begins with: the longest key there, or else the character
+-- s doesn't begin inside a character: its first byte is none of those that stand behind a character's first
+abbrev pub at_character : List ℕ → Bool
+at_character [] = true
+at_character (b ∷ s) = nat_le b 127 || nat_le 192 b
+
+-- the piece that s begins with: the longest key there, at a character's begin, or else the character
 abbrev pub IsFirstPiece : Params → List ℕ → Piece → Type 0
-IsFirstPiece params s (key k v) = IsLongestKey params s k v
+IsFirstPiece params s (key k v) = IsTrue (at_character s) × IsLongestKey params s k v
 IsFirstPiece params s (character c) = IsScalar c × NoKeyBegins params s
 
 -- the pieces, in order, are the whole text
@@ -73,35 +74,3 @@ LacksSomeKey params s = Any (λ p. Lacks p.0 s) params
 -- every key stands somewhere in the template
 abbrev pub HasEveryKey : Params → List ℕ → Type 0
 HasEveryKey params s = All (λ p. IsPart p.0 s) params
-
--- the result is longer than it may be
-abbrev pub IsReplacedLonger : ℕ → Params → List ℕ → Type 0
-IsReplacedLonger limit params s = (r : List ℕ) × IsReplaced params s r × IsLongerThan limit (words r)
-
-abbrev pub IsReplacedTooLong : Params → List ℕ → Type 0
-IsReplacedTooLong params s = IsReplacedLonger 1048576 params s
-
--- when each fault comes; of two the one above
-abbrev pub IsReplaceFault : StringFault → Params → List ℕ → Bool → Type 0
-IsReplaceFault F02 params s strict = ⊥
-IsReplaceFault F03 params s strict = HasEmptyKey params
-IsReplaceFault F04 params s strict = HasNoEmptyKey params × IsTrue strict × LacksSomeKey params s
-IsReplaceFault F06 params s strict =
-    HasNoEmptyKey params × (IsTrue strict → HasEveryKey params s) × IsReplacedTooLong params s
-IsReplaceFault Memory params s strict = ⊤
-
--- when each fault of a replacement without results' limit comes
-abbrev pub IsWithinFault : StringFault → ℕ → Params → List ℕ → Type 0
-IsWithinFault F02 limit params s = ⊥
-IsWithinFault F03 limit params s = HasEmptyKey params
-IsWithinFault F04 limit params s = ⊥
-IsWithinFault F06 limit params s = HasNoEmptyKey params × IsReplacedLonger limit params s
-IsWithinFault Memory limit params s = ⊤
-
--- a fault that only the result can have
-abbrev pub IsOfReplaced : StringFault → ℕ → Params → List ℕ → Type 0
-IsOfReplaced F02 limit params s = ⊥
-IsOfReplaced F03 limit params s = ⊥
-IsOfReplaced F04 limit params s = ⊥
-IsOfReplaced F06 limit params s = IsReplacedLonger limit params s
-IsOfReplaced Memory limit params s = ⊤

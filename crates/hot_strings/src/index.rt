@@ -1,9 +1,8 @@
 //! What is found out of keys once, for replacing them in many texts.
-ghost use Rattle.std.specs.Prelude.{◌≡◌, ◌↔◌, ◌<◌, ◌++◌, ◌∷◌, [], ℕ, List, IsTrue, IfOk, OnOk, All};
-ghost use Rattle.std.specs.Prelude.{MatchOption, MatchBool, IfSome, Some, slice_get, slice_set, length};
-ghost use Rattle.std.specs.Str.{IsUtf8};
+ghost use Rattle.std.specs.Prelude.{◌≡◌, ◌<◌, ◌++◌, ◌∷◌, [], ℕ, List, IfOk, OnOk, All};
+ghost use Rattle.std.specs.Prelude.{MatchOption, IfSome, Some, slice_get, slice_set, length};
 ghost use Rattle.hot_strings.specs.Indexes.{keys_in, IsIndexOf, IsIndex, AreAt, HasFirst};
-ghost use Rattle.hot_strings.specs.Pieces.{IsLongestKey, NoKeyBegins, HasEmptyKey, HasNoEmptyKey};
+ghost use Rattle.hot_strings.specs.Pieces.{IsLongestKey, NoKeyBegins, HasNoEmptyKey};
 
 use crate::keys::{has_empty_key, keys_rise};
 use crate::pieces::{begins, longest_key};

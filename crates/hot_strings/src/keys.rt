@@ -1,6 +1,5 @@
-//! Keys as `replace` wants them: none twice, none empty; and whether they rise.
+//! Keys as a replacement wants them: none twice, none empty; and whether they rise.
 ghost use Rattle.std.specs.Prelude.{◌≢◌, ◌↔◌, IsTrue, MatchBool, All};
-ghost use Rattle.std.specs.Str.{IsUtf8};
 ghost use Rattle.hot_strings.specs.Indexes.{keys_in};
 ghost use Rattle.hot_strings.specs.Pieces.{AreDistinct, HasEmptyKey, HasNoEmptyKey};
 ghost use Rattle.hot_strings.specs.Rising.{Rising};
@@ -42,10 +41,9 @@ pub fn keys_rise(params: &[(Text, Text)]) -> bool
     true
 }
 
-/// Whether some key is empty; if not, each key is known as text.
+/// Whether some key is empty.
 pub fn has_empty_key(params: &[(Text, Text)]) -> bool
-    ensures { MatchBool result (HasEmptyKey params.now)
-        (HasNoEmptyKey params.now × All (λ p. IsUtf8 p.0) params.now) }
+    ensures { MatchBool result (HasEmptyKey params.now) (HasNoEmptyKey params.now) }
 {
     for param in params {
         if param.0.as_str().is_empty() {

@@ -1,19 +1,19 @@
 //! Replacing keys in a template, in one pass.
-ghost use Rattle.std.specs.Prelude.{◌≤◌, IsTrue, IfOk, IfErr, OnOk, MatchBool, All};
-ghost use Rattle.std.specs.Str.{IsUtf8};
+ghost use Rattle.std.specs.Prelude.{◌≤◌, IsTrue, IfOk, IfErr, OnOk, MatchBool};
 ghost use Rattle.heat_value.specs.Data.{words};
-ghost use Rattle.hot_strings.specs.Answers.{HasAnswer};
+ghost use Rattle.hot_strings.specs.Answers.{HasAnswer, with_values};
+ghost use Rattle.hot_strings.specs.Faults.{IsOfLimit};
 ghost use Rattle.hot_strings.specs.Indexes.{keys_in, IsIndexOf};
 ghost use Rattle.hot_strings.specs.Only.{HoldsOfOne};
 ghost use Rattle.hot_strings.specs.Places.{IsPart, Lacks};
 ghost use Rattle.hot_strings.specs.Size.{Fits, FitsWithin};
-ghost use Rattle.hot_strings.specs.Pieces.{ArePieces, IsReplaced, IsReplaceFault, AreDistinct, HasEmptyKey};
-ghost use Rattle.hot_strings.specs.Pieces.{HasNoEmptyKey, LacksSomeKey, HasEveryKey, IsOfReplaced, IsWithinFault};
+ghost use Rattle.hot_strings.specs.Pieces.{ArePieces, IsReplaced, AreDistinct, HasNoEmptyKey};
+ghost use Rattle.hot_strings.specs.Pieces.{LacksSomeKey, HasEveryKey};
+ghost use Rattle.hot_strings.specs.Replacing.{IsReplaceFault, IsWithinFault};
 
 use crate::StringFault;
 use crate::draft::Draft;
 use crate::index::KeyIndex;
-use crate::keys::has_empty_key;
 use crate::marking::lacks_risen;
 use crate::pieces::first_piece;
 use crate::size::MAX_SIZE;
@@ -43,8 +43,11 @@ pub fn replace(
     // What stands in their place is what one pass from left to right makes.
     ensures answer { HasNoEmptyKey params.now → HasAnswer params.now template.now }
 {
-    if has_empty_key(params) {
-        return Err(StringFault::F03);
+    // Each key is read here, which shows that it is text, as `one` needs.
+    for param in params {
+        if param.0.as_str().is_empty() {
+            return Err(StringFault::F03);
+        }
     }
     filled(alloc, template.as_str(), params, strict)
 }
@@ -81,8 +84,8 @@ fn filled(
     params: &[(Text, Text)],
     strict: bool,
 ) -> Result<Text, StringFault>
+    requires distinct { AreDistinct params.now }
     requires keys { HasNoEmptyKey params.now }
-    requires texts { All (λ p. IsUtf8 p.0) params.now }
     ensures ok { IfOk result (IsReplaced params.now template.now) }
     ensures fits { IfOk result (λ t. Fits (words t)) }
     ensures all { OnOk result (IsTrue strict → HasEveryKey params.now template.now) }
@@ -162,13 +165,13 @@ fn filled_by(
     index: &KeyIndex,
     limit: usize,
 ) -> Result<Text, StringFault>
+    requires distinct { AreDistinct params.now }
     requires keys { HasNoEmptyKey params.now }
-    requires texts { All (λ p. IsUtf8 p.0) params.now }
     requires index { IsIndexOf (keys_in params.now) index.now }
     requires some { 2 ≤ limit }
     ensures ok { IfOk result (IsReplaced params.now template.now) }
     ensures fits { IfOk result (λ t. FitsWithin limit (words t)) }
-    ensures err { IfErr result (λ e. IsOfReplaced e limit params.now template.now) }
+    ensures err { IfErr result (λ e. IsOfLimit e limit (words (with_values params.now template.now))) }
 {
     let mut draft = Draft::new(alloc, limit);
     let mut rest = template;

@@ -1,6 +1,9 @@
 use Rattle.std.proofs.Common.{ℕ, List, true, false, subst}
 use Rattle.std.proofs.lemmas.Result.{IfErr-weaker}
-use Rattle.hot_strings.specs.Pieces.{IsOfReplaced, IsWithinFault}
+use Rattle.heat_value.specs.Data.{words}
+use Rattle.hot_strings.specs.Answers.{with_values}
+use Rattle.hot_strings.specs.Faults.{IsOfLimit}
+use Rattle.hot_strings.specs.Replacing.{IsWithinFault}
 use Rattle.hot_strings.proofs.Indexing.{empty_told, empty_or_not}
 use Rattle.hot_strings.proofs.PieceLemmas.{IsWithinFault-checked, OnOk-always}
 use Rattle.hot_strings.proofs.AnswerLemmas.{with_values-pieces}
@@ -14,23 +17,20 @@ returns-then-has_empty_key-clause-answer c =
     λ some. absurd (empty_or_not c.args.params.now (empty_told true c.args.params.now c.args.index.now c.if-has_empty_key.ensures c.requires.index) some)
 
 pub filled_by-requires-clause-keys : goal.filled_by-requires-clause-keys
-filled_by-requires-clause-keys c = (empty_told false c.args.params.now c.args.index.now c.if-has_empty_key.ensures c.requires.index).0
-
-pub filled_by-requires-clause-texts : goal.filled_by-requires-clause-texts
-filled_by-requires-clause-texts c = (empty_told false c.args.params.now c.args.index.now c.if-has_empty_key.ensures c.requires.index).1
+filled_by-requires-clause-keys c = empty_told false c.args.params.now c.args.index.now c.if-has_empty_key.ensures c.requires.index
 
 pub returns-clause-keys : goal.returns-clause-keys
 returns-clause-keys c =
-    OnOk-always c.filled_by.result (empty_told false c.args.params.now c.args.index.now c.if-has_empty_key.ensures c.requires.index).0
+    OnOk-always c.filled_by.result (empty_told false c.args.params.now c.args.index.now c.if-has_empty_key.ensures c.requires.index)
 
 pub returns-clause-err : goal.returns-clause-err
 returns-clause-err c =
     let keys = empty_told false c.args.params.now c.args.index.now c.if-has_empty_key.ensures c.requires.index in
-    IfErr-weaker c.filled_by.result (λ e. IsOfReplaced e c.args.limit c.args.params.now c.as_str.result.now) (λ e. IsWithinFault e c.args.limit c.args.params.now c.args.template.now)
-    (λ e h. IsWithinFault-checked e c.args.limit c.args.params.now c.args.template.now keys.0 (subst (λ (t : List ℕ). IsOfReplaced e c.args.limit c.args.params.now t) c.as_str.ensures.value h))
+    IfErr-weaker c.filled_by.result (λ e. IsOfLimit e c.args.limit (words (with_values c.args.params.now c.as_str.result.now)))
+    (λ e. IsWithinFault e c.args.limit c.args.params.now c.args.template.now)
+    (λ e h. IsWithinFault-checked e c.args.limit c.args.params.now c.args.template.now keys
+    (subst (λ (t : List ℕ). IsOfLimit e c.args.limit (words (with_values c.args.params.now t))) c.as_str.ensures.value h))
     c.filled_by.ensures.err
 
 pub returns-clause-answer : goal.returns-clause-answer
-returns-clause-answer c =
-    λ some. with_values-pieces c.args.params.now c.requires.distinct some
-    (empty_told false c.args.params.now c.args.index.now c.if-has_empty_key.ensures c.requires.index).1 c.args.template.now
+returns-clause-answer c = λ some. with_values-pieces c.args.params.now c.requires.distinct some c.args.template.now
