@@ -7,6 +7,8 @@ pub mod NeighbourLemmas
 pub mod EachMembers
 pub mod Membership
 pub mod NeedMembers
+pub mod OwnerLemmas
 pub mod Listings
 pub mod OrderListings
+pub mod OrderExists
 pub mod KeptLemmas

@@ -13,7 +13,7 @@ use Rattle.std.proofs.lemmas.Option.{slice_get_within, slice_get-get_or, get_or_
 use Rattle.dep_graph.specs.Paths.{Leads, IsAcyclic}
 use Rattle.dep_graph.proofs.PathLemmas.{leads_of, acyclic_from}
 use Rattle.heat_plan.specs.Order.{Rising}
-use Rattle.heat_plan.specs.Plans.{names_of, StandsBefore, IsListing, HasNoCycle}
+use Rattle.heat_plan.specs.Plans.{names_of, StandsBefore, IsListing}
 use Rattle.heat_plan.specs.declared.item.Item.{Item}
 use Rattle.heat_plan.proofs.OrderLemmas.{Less-in_order}
 use Rattle.traversal_graph.specs.Candidates.{place_of}
@@ -104,7 +104,3 @@ ranks_rise items listed up list x y h =
 
     contained_at' : (xs : List Item) (i : Item) → Contains xs i → (k : ℕ) × (slice_get xs k ≡ Some i)
     contained_at' xs i c = (c.0, slice_get-get_or xs c.0 i c.1 ∙ ap (λ (x : Item). Some x) c.2)
-
-pub acyclic_from_listing : (items : List Item) → Rising (names_of items) → HasNoCycle items → IsAcyclic (IsNeeded items)
-acyclic_from_listing items up (listed, list) =
-    acyclic_by_rank (IsNeeded items) (rank_in items listed) (λ x y h. (ranks_rise items listed up list x y h).0)

@@ -1,13 +1,14 @@
 //! The edges that a graph may have, sort by sort, in the order in which they are tried.
 
-ghost use Rattle.std.specs.Prelude.{◌≡◌, ◌==◌, ◌+◌, ◌<◌, ◌≤◌, false, length, OnOk};
+ghost use Rattle.std.specs.Prelude.{◌≡◌, ◌==◌, ◌+◌, ◌<◌, ◌≤◌, false, length, IfOk, OnOk};
 ghost use Rattle.std.specs.Option.{option_map_or};
 ghost use Rattle.dep_graph.specs.Edges.{HasEdge};
 ghost use Rattle.dep_graph.specs.Marks.{MarksAll};
 ghost use Rattle.dep_graph.specs.Paths.{HasPath};
 ghost use Rattle.heat_plan.specs.Order.{Rising};
 ghost use Rattle.heat_plan.specs.Plans.{names_of};
-ghost use Rattle.traversal_graph.specs.Candidates.{place_of, need_edges, needs_into, row_edges, rows_behind};
+ghost use Rattle.traversal_graph.specs.Candidates.{place_of, need_edges, needs_into, row_edges};
+ghost use Rattle.traversal_graph.specs.Owners.{owners_in, owned_behind};
 ghost use Rattle.traversal_graph.specs.Candidates.{require_edges, required_behind, replace_edges, replaced_behind};
 ghost use Rattle.traversal_graph.specs.Drafts.{IsDraft, Draws};
 
@@ -15,7 +16,8 @@ use crate::RowBrief;
 use crate::draft::Draft;
 use dep_graph::Marks;
 use heat_plan::{Item, ResName, RowNo};
-use std::alloc::AllocError;
+use heat_value::Seq;
+use std::alloc::{AllocError, Global};
 
 /// From each item that an item needs to that item.
 pub(crate) fn add_needs(draft: &mut Draft, items: &[Item]) -> Result<(), AllocError>
@@ -90,32 +92,45 @@ pub(crate) fn add_rows(
     items: &[Item],
     rows: &[RowBrief],
 ) -> Result<(), AllocError>
+    requires rising { Rising (names_of items.now) }
     requires draft { IsDraft draft.old }
     requires size { length items.now + length rows.now ≤ length draft.old.graph }
     ensures { OnOk result (Draws (row_edges items.now rows.now) draft.old draft.new) }
 {
     let first = items.len() as u32;
-    for (place, item) in items.iter().enumerate() {
-        add_rows_behind(draft, first, rows, place as u32, item)?;
+    let owners = owners_of(draft.graph.allocator(), items, rows)?;
+    for place in 0..items.len() {
+        add_rows_behind(draft, first, owners.as_slice(), place as u32)?;
     }
     Ok(())
 }
 
-// From one item to the rows of its name.
+// For each row the place of the item of its name, and past all items where there is none.
+fn owners_of(alloc: Global, items: &[Item], rows: &[RowBrief]) -> Result<Seq<usize>, AllocError>
+    requires { Rising (names_of items.now) }
+    ensures { IfOk result (λ owners. owners ≡ owners_in items.now rows.now) }
+{
+    let mut owners = Seq::new(alloc);
+    for row in rows {
+        owners.push(place_of_name(items, &row.name))?;
+    }
+    Ok(owners)
+}
+
+// From one item to the rows of its name, by the place of each row's item.
 fn add_rows_behind(
     draft: &mut Draft,
     first: u32,
-    rows: &[RowBrief],
+    owners: &[usize],
     place: u32,
-    item: &Item,
 ) -> Result<(), AllocError>
     requires draft { IsDraft draft.old }
-    requires size { first + length rows.now ≤ length draft.old.graph }
+    requires size { first + length owners.now ≤ length draft.old.graph }
     requires place { place < length draft.old.graph }
-    ensures { OnOk result (Draws (rows_behind first rows.now place item.now) draft.old draft.new) }
+    ensures { OnOk result (Draws (owned_behind first owners.now place) draft.old draft.new) }
 {
-    for (r, row) in rows.iter().enumerate() {
-        draft.draw_if(row.name == item.name, place, first + r as u32)?;
+    for (r, owner) in owners.iter().enumerate() {
+        draft.draw_if(*owner == place as usize, place, first + r as u32)?;
     }
     Ok(())
 }

@@ -1,9 +1,8 @@
-//! Laws on candidates and on the edges that are kept. Each function has an empty body and stands for its
-//! clauses, which hold of all items and rows.
+//! Laws on candidates, on orders of items, and on the edges that are kept. Each function has an empty body
+//! and stands for its clauses, which hold of all items and rows.
 
 ghost use Rattle.std.specs.Prelude.{◌≡◌, ◌↔◌, ◌+◌, ◌++◌, ℕ, List, All, Contains, get_or, length, map};
-ghost use Rattle.dep_graph.specs.Paths.{IsAcyclic};
-ghost use Rattle.dep_graph.specs.Orders.{Orders};
+ghost use Rattle.dep_graph.specs.Orders.{Orders, TakesLeast};
 ghost use Rattle.heat_plan.specs.Order.{Rising};
 ghost use Rattle.heat_plan.specs.Plans.{HasNoCycle, IsListing, IsPlan, names_of};
 ghost use Rattle.heat_plan.specs.declared.item.Item.{Item as item_type};
@@ -50,10 +49,19 @@ pub fn orders_are_listings()
         → Orders (IsNeeded items) (length items) order → HasNoCycle items }
 {}
 
-/// Items with such a listing have no cycle of needs, so that an order of them is found.
-pub fn listed_needs_are_acyclic()
+/// Items that have a listing have an order by what needs what, and so no cycle of needs.
+pub fn listed_items_have_an_order()
     ensures { (items : List item_type) → Rising (names_of items) → HasNoCycle items
-        → IsAcyclic (IsNeeded items) }
+        → (order : List ℕ) × Orders (IsNeeded items) (length items) order }
+{}
+
+/// A listing of the items by their places that takes the least ready one first is an order. So the orders are
+/// exactly those listings that do.
+pub fn listings_are_orders()
+    ensures { (items : List item_type) (default : item_type) (order : List ℕ)
+        → Rising (names_of items) → TakesLeast (IsNeeded items) (length items) order
+        → IsListing items (map (λ k. get_or items k default) order)
+        → Orders (IsNeeded items) (length items) order }
 {}
 
 /// Under a plan each edge of a need and each of a name to a row is kept.

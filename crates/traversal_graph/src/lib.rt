@@ -14,7 +14,7 @@ mod shape;
 pub use brief::RowBrief;
 pub use building::build;
 pub use laws::{
-    listed_needs_are_acyclic, needs_are_candidates, orders_are_listings, plans_keep_edges,
-    replaced_are_candidates, required_are_candidates, rows_are_candidates,
+    listed_items_have_an_order, listings_are_orders, needs_are_candidates, orders_are_listings,
+    plans_keep_edges, replaced_are_candidates, required_are_candidates, rows_are_candidates,
 };
 pub use shape::{Node, TravGraph};
