@@ -1,7 +1,7 @@
 //! What an alive resource is, as the calls of a history tell it.
 ghost use Rattle.std.specs.Prelude.{◌≡◌, IfOk};
-ghost use Rattle.provider.specs.Same.{same_members, same_facts};
-ghost use Rattle.provider.specs.Table.{begun, updated, going, told, same_told, same_state};
+ghost use Rattle.provider.specs.Same.{same_members};
+ghost use Rattle.provider.specs.Table.{begun, updated, going, told, same_state};
 
 use heat_plan::{Facts, Properties};
 use heat_value::{Equals, Text, TryCopy, copy_option};
@@ -53,6 +53,15 @@ impl TryCopy for Living {
             facts: copy_option(&self.facts)?,
             leaving: self.leaving,
         })
+    }
+}
+
+impl Equals for Living {
+    fn equals(&self, other: &Living) -> bool {
+        self.kind.equals(&other.kind)
+            && self.props.equals(&other.props)
+            && self.facts.equals(&other.facts)
+            && self.leaving == other.leaving
     }
 }
 
@@ -130,49 +139,9 @@ fn same_props(a: &Properties, b: &Properties) -> bool
     a.equals(b)
 }
 
-// Whether two resources have told the same.
-fn same_facts(a: &Facts, b: &Facts) -> bool
-    ensures { result ≡ same_facts a.now b.now }
-{
-    a.id == b.id && same_props(&a.attrs, &b.attrs)
-}
-
-// Whether neither is ready, or both have told the same.
-fn same_told(a: &Option<Facts>, b: &Option<Facts>) -> bool
-    ensures { result ≡ same_told a.now b.now }
-{
-    match a {
-        None => b.is_none(),
-        Some(a) => match b {
-            None => false,
-            Some(b) => same_facts(a, b),
-        },
-    }
-}
-
 /// Whether two states are the same.
 pub(crate) fn same_state(a: &Option<Living>, b: &Option<Living>) -> bool
     ensures { result ≡ same_state a.now b.now }
 {
-    match a {
-        None => b.is_none(),
-        Some(a) => match b {
-            None => false,
-            Some(b) => same_living(a, b),
-        },
-    }
-}
-
-// Whether two alive resources are in one state.
-fn same_living(a: &Living, b: &Living) -> bool
-    ensures { result ≡ same_state (Some a.now) (Some b.now) }
-{
-    a.kind == b.kind && same_rest(a, b)
-}
-
-// All but the kind.
-fn same_rest(a: &Living, b: &Living) -> bool
-    ensures { a.now.kind ≡ b.now.kind → result ≡ same_state (Some a.now) (Some b.now) }
-{
-    same_props(&a.props, &b.props) && (same_told(&a.facts, &b.facts) && a.leaving == b.leaving)
+    a.equals(b)
 }
