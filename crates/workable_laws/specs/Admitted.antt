@@ -16,7 +16,7 @@ use Rattle.step_relation.specs.Agrees.{IsAliveAs, IsReadyAs}
 use Rattle.step_relation.specs.Linked.{Links}
 use Rattle.workable_laws.specs.Workable.{AreWhole}
 
--- what the codec and the tables give of any image
+-- what any image has: whole graphs, and no row whose act is a rollback
 pub record IsRead (s : StateData) : Type 0 where
   pub graphs : AreWhole s
   pub acts : (n : ℕ) (r : Row) → row_at s.rows n ≡ Some r → r.act ≢ Rollback
