@@ -1,11 +1,12 @@
 //! A thousand items with 190,209 needs, as many as a template of 1 MiB can name: each item needs the
-//! 213 before it, by the items' names, against them, or across them.
+//! 213 before it, by the items' names, against them, or across them. The items are new, or an update finds
+//! a row of each, which requires the rows of its needs.
 
-use crate::traversal::{item_needing, number};
+use crate::traversal::{item_needing, number, row_requiring};
 use anyhow::{Result, bail};
-use heat_plan::are_in_order;
+use heat_plan::{Item, are_in_order};
 use std::alloc::Global;
-use traversal_graph::build;
+use traversal_graph::{RowBrief, build};
 
 const COUNT: u32 = 1000;
 
@@ -19,19 +20,42 @@ pub enum Shape {
     Mixed,
 }
 
-/// How many edges the graph of these items has.
+/// How many edges the graph of these items has, where they are new.
 pub fn drawn(alloc: Global, shape: Shape) -> Result<usize> {
-    let mut items = Vec::new(alloc);
+    edges_of(alloc, &items(alloc, shape)?, &[])
+}
+
+/// How many edges it has where each of them has a row.
+pub fn drawn_again(alloc: Global, shape: Shape) -> Result<usize> {
+    edges_of(alloc, &items(alloc, shape)?, &rows(alloc, shape)?)
+}
+
+fn edges_of(alloc: Global, items: &[Item], rows: &[RowBrief]) -> Result<usize> {
     let mut chosen = Vec::new(alloc);
     for place in 0..COUNT {
-        items.push(item_needing(alloc, place, &needed(alloc, shape, place)?)?)?;
         chosen.push(number(place)?)?;
     }
-    if chosen.len() != items.len() || !are_in_order(&items) {
+    if chosen.len() != items.len() || !are_in_order(items) {
         bail!("items in order, and a row for each");
     }
-    let graph = build(alloc, &items, &chosen, &[])?;
+    let graph = build(alloc, items, &chosen, rows)?;
     Ok(graph.edges.len())
+}
+
+fn items(alloc: Global, shape: Shape) -> Result<Vec<Item>> {
+    let mut items = Vec::new(alloc);
+    for place in 0..COUNT {
+        items.push(item_needing(alloc, place, &needed(alloc, shape, place)?)?)?;
+    }
+    Ok(items)
+}
+
+fn rows(alloc: Global, shape: Shape) -> Result<Vec<RowBrief>> {
+    let mut rows = Vec::new(alloc);
+    for place in 0..COUNT {
+        rows.push(row_requiring(alloc, place, &needed(alloc, shape, place)?)?)?;
+    }
+    Ok(rows)
 }
 
 // The places of the items that one needs, rising.

@@ -15,7 +15,7 @@ pub fn drawn(alloc: Global, count: u32) -> Result<usize> {
     for place in 0..count {
         items.push(item_needing(alloc, place, &below(alloc, place)?)?)?;
         chosen.push(number(count.saturating_add(place))?)?;
-        rows.push(row(alloc, place)?)?;
+        rows.push(row_requiring(alloc, place, &below(alloc, place)?)?)?;
     }
     if chosen.len() != items.len() || !are_in_order(&items) {
         bail!("items in order, and a row for each");
@@ -47,10 +47,11 @@ pub fn item_needing(alloc: Global, place: u32, needed: &[u32]) -> Result<Item> {
     Ok(item)
 }
 
-fn row(alloc: Global, place: u32) -> Result<RowBrief> {
+/// The row of a place, which requires those of these places.
+pub fn row_requiring(alloc: Global, place: u32, needed: &[u32]) -> Result<RowBrief> {
     let mut required = Seq::new(alloc);
-    for before in place.saturating_sub(10)..place {
-        required.push(number(before)?)?;
+    for before in needed {
+        required.push(number(*before)?)?;
     }
     Ok(RowBrief {
         no: number(place)?,
