@@ -1,7 +1,7 @@
 //! The top call: from the words and the bytes that come in to the bytes that go out.
 ghost use Rattle.std.specs.Prelude.{◌≡◌, ◌≢◌, ◌≤◌, ◌↔◌, [], map};
 ghost use Rattle.provider.specs.Calls.{Lists};
-ghost use Rattle.book.specs.Kept.{Shown, IsSameBook, opened};
+ghost use Rattle.book.specs.Kept.{Shown, IsSameBook, HasRun, HasHeadline, opened};
 ghost use Rattle.program_words.specs.Words.{IsForm};
 ghost use Rattle.converge_call.specs.Ends.{outside, HasDriven, IsUntouched, OpensFor};
 ghost use Rattle.converge_call.specs.Stocks.{first_stock};
@@ -154,6 +154,16 @@ fn driven<S: Source, K: Sink, P: Provider>(
 {
     let mut book = book;
     let status = drive(alloc, source, sink, &mut book, registry);
+    ended(status, book)
+}
+
+// A book is handed back, with what it promises.
+fn ended<P: Provider>(status: Exit, book: Book<P>) -> Outcome<P>
+    ensures status { result.status ≡ status }
+    ensures end { result.end ≡ End.Book book }
+    ensures run { HasRun P.cloud book }
+    ensures headline { HasHeadline P.cloud book }
+{
     book.promises();
     Outcome {
         status,
