@@ -1,7 +1,8 @@
 #!/bin/sh
 # Prints processor seconds, peak memory and growth of driving a script that creates, runs and lists one
 # stack of 125, 250, 500 and 1,000 resources; then of a script that creates one of 1,000 resources with 190,209
-# needs, as many as a line of 1 MiB can name, and no more. It judges nothing. python3 makes the scripts.
+# needs, as many as a line of 1 MiB can name, and of one that runs it too, which takes half a minute, since each input
+# of a node copies those that it has. It judges nothing. python3 makes the scripts.
 set -e
 cd "$(dirname "$0")/../crates/heat_converge"
 rt run -- drive </dev/null >/dev/null 2>&1
@@ -34,6 +35,7 @@ for count in (125, 250, 500, 1000):
     growth = f"{seconds / before:6.1f}" if before else "     -"
     print(f"{count:9}  {seconds:7.2f}  {growth}  {peak:8.1f}  {lines:13}")
     before = seconds
-seconds, peak, lines = measure(needing())
-print(f"190,209 needs, created alone: {seconds:.2f} seconds, {peak:.1f} MiB, {lines} line of text")
+for what, script in (("created alone", needing()), ("created and run", needing() + "run\n")):
+    seconds, peak, lines = measure(script)
+    print(f"190,209 needs, {what}: {seconds:.2f} seconds, {peak:.1f} MiB, {lines} lines of text")
 END
