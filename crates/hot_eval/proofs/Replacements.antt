@@ -19,8 +19,8 @@ use Rattle.heat_value.specs.Data.{Members, no_members, member, keys_of, Rises}
 use Rattle.std.specs.Bool.{nat_le, if◌then◌else◌}
 use Rattle.heat_value.specs.Data.{Data, words, items}
 use Rattle.hot_strings.proofs.AnswerLemmas.{cuts-split}
-use Rattle.hot_strings.specs.Answers.{is_part, with_values, HasAnswer}
-use Rattle.hot_strings.specs.Pieces.{Params, AreDistinct, IsReplaced, HasEmptyKey, HasNoEmptyKey, LacksSomeKey, HasEveryKey}
+use Rattle.hot_strings.specs.Answers.{is_part, HasAnswer}
+use Rattle.hot_strings.specs.Pieces.{Params, AreDistinct, IsReplaced, HasEmptyKey, HasNoEmptyKey, LacksSomeKey, HasEveryKey, replaced}
 use Rattle.hot_strings.specs.Replacing.{IsReplaceFault}
 use Rattle.hot_strings.specs.Size.{IsTooLong}
 use Rattle.hot_strings.specs.Split.{Asked, all, one, unfit, texts, IsSplitFault}
@@ -103,14 +103,15 @@ strict_holds params s false every = refl
 
 -- why the keys' values aren't put in
 pub replace_fault : (e : StringFault) (params : Params) (s : List ℕ) (strict : Bool) → IsReplaceFault e params s strict
-    → IsFaultOf (of_text_function e) (put_into strict params s)
-replace_fault text.F02 params s strict h = absurd h
-replace_fault text.F03 params s strict h = rw (has_empty_key-some params h) refl
-replace_fault text.F04 params s strict (some, is, lacks) =
+    → (HasNoEmptyKey params → HasAnswer params s) → IsFaultOf (of_text_function e) (put_into strict params s)
+replace_fault text.F02 params s strict h answer = absurd h
+replace_fault text.F03 params s strict h answer = rw (has_empty_key-some params h) refl
+replace_fault text.F04 params s strict (some, is, lacks) answer =
     rw (has_empty_key-none params some, is, lacks_some_key-some params s lacks) refl
-replace_fault text.F06 params s strict (some, every, long) =
-    rw (has_empty_key-none params some, strict_holds params s strict every) (code_of-long (words (with_values params s)) long)
-replace_fault text.Memory params s strict h = tt
+replace_fault text.F06 params s strict (some, every, (r, (ps, pieces, is), long)) answer =
+    rw (has_empty_key-none params some, strict_holds params s strict every, answer some ps pieces)
+    (code_of-long (words (replaced ps)) (subst (λ (t : List ℕ). IsTooLong (words t)) is long))
+replace_fault text.Memory params s strict h answer = tt
 
 -- what stands in their place
 pub replace_answer : (params : Params) (s t : List ℕ) (strict : Bool) → IsReplaced params s t → HasNoEmptyKey params

@@ -1,5 +1,5 @@
 -- The relations of the text functions have the answers that are read from left to right.
-use Rattle.std.proofs.Common.{◌≡◌, ◌≢◌, ◌+◌, ◌<◌, ◌≤◌, ℕ, zero, suc, List, [], ◌∷◌, ◌++◌, length, inl, inr, Bool, true, false, ◌&&◌, ◌==◌, Some, None, refl, ap, sym, ◌∙◌, subst, arith}
+use Rattle.std.proofs.Common.{◌≡◌, ◌≢◌, ◌<◌, ◌≤◌, ℕ, zero, suc, List, [], ◌∷◌, ◌++◌, length, inl, inr, Bool, true, false, ◌&&◌, ◌==◌, Some, None, refl, ap, sym, ◌∙◌, subst, arith}
 use Rattle.std.proofs.lemmas.Bool.{leb-true, le-leb}
 use Rattle.std.proofs.lemmas.Bool.Decides.{Decides-eqb}
 use Rattle.std.proofs.lemmas.List.Elements.{All-contains}
@@ -8,10 +8,15 @@ use Rattle.std.specs.Char.{encode_utf8}
 use Rattle.std.specs.List.{All, Contains}
 use Rattle.std.specs.Prelude.{if◌then◌else◌}
 use Rattle.hot_strings.specs.Answers.{begins, cut_behind, cuts, key_length, longest_at, key_at, put_behind, with_values, digest_of}
+use Rattle.heat_value.specs.Data.{words}
 use Rattle.hot_strings.specs.Digest.{IsDigestName, IsDigest}
+use Rattle.hot_strings.specs.Faults.{IsOfLimit}
 use Rattle.hot_strings.specs.Pieces.{Params, Piece, key, character, source, target, ArePieces, IsFirstPiece, IsLongestKey, NoKeyBegins, AreDistinct, HasNoEmptyKey, at_character, replaced}
 use Rattle.hot_strings.proofs.Characters.{AreInner, CharBytes, char_bytes, at_character-inner}
 use Rattle.hot_strings.specs.Places.{Begins, Lacks, StandsFirst}
+use Rattle.hot_strings.specs.Replacing.{IsOfReplaced}
+use Rattle.hot_strings.specs.declared.fault.StringFault.{StringFault}
+use Rattle.hot_strings.specs.declared.fault.StringFault.TheVariants.{F02, F03, F04, F06, Memory}
 use Rattle.hot_strings.specs.Split.{AreSplit}
 use Rattle.hot_strings.proofs.KeyLemmas.{key_some}
 use Rattle.hot_strings.proofs.PieceLemmas.{both_true}
@@ -169,6 +174,15 @@ module _ (params : Params) (distinct : AreDistinct params) (some : HasNoEmptyKey
   pub with_values-pieces : (s : List ℕ) (ps : List Piece) → ArePieces params s ps → with_values params s ≡ replaced ps
   with_values-pieces s [] h = rw h refl
   with_values-pieces s (p ∷ ps) h = with_values-step s p h.0 h.1 h.2 ∙ ap (λ (r : List ℕ). target p ++ r) (with_values-pieces h.0 ps h.3)
+
+-- what the pass makes too long is what stands in place of the pieces
+pub IsOfReplaced-pass : (e : StringFault) (limit : ℕ) (params : Params) (s : List ℕ) (ps : List Piece) → AreDistinct params → HasNoEmptyKey params → ArePieces params s ps
+    → IsOfLimit e limit (words (with_values params s)) → IsOfReplaced e limit params s
+IsOfReplaced-pass F02 limit params s ps distinct some pieces h = h
+IsOfReplaced-pass F03 limit params s ps distinct some pieces h = h
+IsOfReplaced-pass F04 limit params s ps distinct some pieces h = h
+IsOfReplaced-pass F06 limit params s ps distinct some pieces h = (with_values params s, (ps, pieces, with_values-pieces params distinct some s ps pieces), h)
+IsOfReplaced-pass Memory limit params s ps distinct some pieces h = h
 
 -- ---- digests
 

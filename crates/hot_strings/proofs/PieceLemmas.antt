@@ -18,7 +18,7 @@ use Rattle.hot_strings.specs.Only.{HoldsOfOne}
 use Rattle.hot_strings.specs.Places.{Begins}
 use Rattle.hot_strings.specs.Pieces.{Params, Piece, key, character, source, target, IsLongestKey, NoKeyBegins, IsFirstPiece, ArePieces, AreDistinct, HasNoEmptyKey, HasEveryKey, replaced}
 use Rattle.hot_strings.specs.Answers.{with_values}
-use Rattle.hot_strings.specs.Replacing.{IsReplaceFault, IsWithinFault}
+use Rattle.hot_strings.specs.Replacing.{IsReplaceFault, IsWithinFault, IsOfReplaced}
 use Rattle.hot_strings.proofs.Characters.{IsUtf8-behind, encode_some, at_character-text}
 use Rattle.hot_strings.proofs.KeyLemmas.{longest_key, IsLongestKey-same, key_some}
 
@@ -115,7 +115,7 @@ push_refused F06 limit params s done rest is h = rw is (IsLongerThan-append limi
 push_refused Memory limit params s done rest is h = h
 
 -- behind the checks of the keys only the result has faults
-pub IsReplaceFault-checked : (e : StringFault) (params : Params) (s : List ℕ) (strict : Bool) → HasNoEmptyKey params → (IsTrue strict → HasEveryKey params s) → IsOfLimit e 1048576 (words (with_values params s))
+pub IsReplaceFault-checked : (e : StringFault) (params : Params) (s : List ℕ) (strict : Bool) → HasNoEmptyKey params → (IsTrue strict → HasEveryKey params s) → IsOfReplaced e 1048576 params s
     → IsReplaceFault e params s strict
 IsReplaceFault-checked F02 params s strict some all h = h
 IsReplaceFault-checked F03 params s strict some all h = absurd h
@@ -123,7 +123,7 @@ IsReplaceFault-checked F04 params s strict some all h = absurd h
 IsReplaceFault-checked F06 params s strict some all h = (some, all, h)
 IsReplaceFault-checked Memory params s strict some all h = h
 
-pub IsWithinFault-checked : (e : StringFault) (limit : ℕ) (params : Params) (s : List ℕ) → HasNoEmptyKey params → IsOfLimit e limit (words (with_values params s)) → IsWithinFault e limit params s
+pub IsWithinFault-checked : (e : StringFault) (limit : ℕ) (params : Params) (s : List ℕ) → HasNoEmptyKey params → IsOfReplaced e limit params s → IsWithinFault e limit params s
 IsWithinFault-checked F02 limit params s some h = h
 IsWithinFault-checked F03 limit params s some h = absurd h
 IsWithinFault-checked F04 limit params s some h = h

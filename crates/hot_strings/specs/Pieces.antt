@@ -38,7 +38,7 @@ abbrev pub at_character : List ℕ → Bool
 at_character [] = true
 at_character (b ∷ s) = nat_le b 127 || nat_le 192 b
 
--- the piece that s begins with: the longest key there, at a character's begin, or else the character
+-- the piece that s begins with: the longest key there, where a character begins; or a character, where no key stands
 abbrev pub IsFirstPiece : Params → List ℕ → Piece → Type 0
 IsFirstPiece params s (key k v) = IsTrue (at_character s) × IsLongestKey params s k v
 IsFirstPiece params s (character c) = IsScalar c × NoKeyBegins params s

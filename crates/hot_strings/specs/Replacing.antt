@@ -1,15 +1,22 @@
 -- When each fault of a replacement comes.
 use Rattle.std.specs.Prelude.{ℕ, Bool, List, IsTrue, ⊤}
 use Rattle.heat_value.specs.Data.{words}
-use Rattle.hot_strings.specs.Answers.{with_values}
-use Rattle.hot_strings.specs.Pieces.{Params, HasEmptyKey, HasNoEmptyKey, LacksSomeKey, HasEveryKey}
+use Rattle.hot_strings.specs.Pieces.{Params, IsReplaced, HasEmptyKey, HasNoEmptyKey, LacksSomeKey, HasEveryKey}
 use Rattle.hot_strings.specs.Size.{IsLongerThan}
 use Rattle.hot_strings.specs.declared.fault.StringFault.{StringFault}
 use Rattle.hot_strings.specs.declared.fault.StringFault.TheVariants.{F02, F03, F04, F06, Memory}
 
 -- the result is longer than it may be
 abbrev pub IsReplacedLonger : ℕ → Params → List ℕ → Type 0
-IsReplacedLonger limit params s = IsLongerThan limit (words (with_values params s))
+IsReplacedLonger limit params s = (r : List ℕ) × IsReplaced params s r × IsLongerThan limit (words r)
+
+-- a fault that only the result can have
+abbrev pub IsOfReplaced : StringFault → ℕ → Params → List ℕ → Type 0
+IsOfReplaced F02 limit params s = ⊥
+IsOfReplaced F03 limit params s = ⊥
+IsOfReplaced F04 limit params s = ⊥
+IsOfReplaced F06 limit params s = IsReplacedLonger limit params s
+IsOfReplaced Memory limit params s = ⊤
 
 -- when each fault comes; of two the one above
 abbrev pub IsReplaceFault : StringFault → Params → List ℕ → Bool → Type 0

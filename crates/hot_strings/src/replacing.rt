@@ -9,7 +9,7 @@ ghost use Rattle.hot_strings.specs.Places.{IsPart, Lacks};
 ghost use Rattle.hot_strings.specs.Size.{Fits, FitsWithin};
 ghost use Rattle.hot_strings.specs.Pieces.{ArePieces, IsReplaced, AreDistinct, HasNoEmptyKey};
 ghost use Rattle.hot_strings.specs.Pieces.{LacksSomeKey, HasEveryKey};
-ghost use Rattle.hot_strings.specs.Replacing.{IsReplaceFault, IsWithinFault};
+ghost use Rattle.hot_strings.specs.Replacing.{IsReplaceFault, IsWithinFault, IsOfReplaced};
 
 use crate::StringFault;
 use crate::draft::Draft;
@@ -159,6 +159,34 @@ fn has_part(text: &str, key: &str) -> bool
 
 // The template with the values put in, the keys found by an index, where that takes no more than it may.
 fn filled_by(
+    alloc: Global,
+    template: &str,
+    params: &[(Text, Text)],
+    index: &KeyIndex,
+    limit: usize,
+) -> Result<Text, StringFault>
+    requires distinct { AreDistinct params.now }
+    requires keys { HasNoEmptyKey params.now }
+    requires index { IsIndexOf (keys_in params.now) index.now }
+    requires some { 2 ≤ limit }
+    ensures ok { IfOk result (IsReplaced params.now template.now) }
+    ensures fits { IfOk result (λ t. FitsWithin limit (words t)) }
+    ensures err { IfErr result (λ e. IsOfReplaced e limit params.now template.now) }
+{
+    let passed = pass(alloc, template, params, index, limit);
+    if passed.is_ok() {
+        return passed;
+    }
+
+    // Each key is read here, which shows that it is text: so the template has its pieces.
+    for param in params {
+        param.0.as_str();
+    }
+    passed
+}
+
+// What one pass makes of the template, where that takes no more than it may.
+fn pass(
     alloc: Global,
     template: &str,
     params: &[(Text, Text)],

@@ -19,7 +19,7 @@ returns-in_err-replace c =
     rw (p.1, p.2) (subst
     (λ (ps : Params). IsFaultOf (of_text_function c.in_err-replace.field-0.0) (put_into c.args.strict ps c.args.template.now))
     (c.as_slice-2.ensures.value ∙ (c.in_ok-params.ensures ∙ ap params_of c.as_slice.ensures.members))
-    (replace_fault _ _ _ _ c.in_err-replace.ensures.err))
+    (replace_fault _ _ _ _ c.in_err-replace.ensures.err c.in_err-replace.ensures.answer))
 
 pub returns : goal.returns
 returns c =

@@ -1,9 +1,6 @@
 use Rattle.std.proofs.Common.{ℕ, List, true, false, subst}
 use Rattle.std.proofs.lemmas.Result.{IfErr-weaker}
-use Rattle.heat_value.specs.Data.{words}
-use Rattle.hot_strings.specs.Answers.{with_values}
-use Rattle.hot_strings.specs.Faults.{IsOfLimit}
-use Rattle.hot_strings.specs.Replacing.{IsWithinFault}
+use Rattle.hot_strings.specs.Replacing.{IsWithinFault, IsOfReplaced}
 use Rattle.hot_strings.proofs.Indexing.{empty_told, empty_or_not}
 use Rattle.hot_strings.proofs.PieceLemmas.{IsWithinFault-checked, OnOk-always}
 use Rattle.hot_strings.proofs.AnswerLemmas.{with_values-pieces}
@@ -26,10 +23,10 @@ returns-clause-keys c =
 pub returns-clause-err : goal.returns-clause-err
 returns-clause-err c =
     let keys = empty_told false c.args.params.now c.args.index.now c.if-has_empty_key.ensures c.requires.index in
-    IfErr-weaker c.filled_by.result (λ e. IsOfLimit e c.args.limit (words (with_values c.args.params.now c.as_str.result.now)))
+    IfErr-weaker c.filled_by.result (λ e. IsOfReplaced e c.args.limit c.args.params.now c.as_str.result.now)
     (λ e. IsWithinFault e c.args.limit c.args.params.now c.args.template.now)
     (λ e h. IsWithinFault-checked e c.args.limit c.args.params.now c.args.template.now keys
-    (subst (λ (t : List ℕ). IsOfLimit e c.args.limit (words (with_values c.args.params.now t))) c.as_str.ensures.value h))
+    (subst (λ (t : List ℕ). IsOfReplaced e c.args.limit c.args.params.now t) c.as_str.ensures.value h))
     c.filled_by.ensures.err
 
 pub returns-clause-answer : goal.returns-clause-answer
