@@ -1,11 +1,11 @@
--- A search against the edges: what is marked reaches the goal, and what reaches it is marked.
+-- A search against the edges: what is marked reaches a goal, and what reaches one is marked.
 use Rattle.std.proofs.Common.{◌≡◌, ◌⊎◌, ℕ, ◌+◌, ◌<◌, Bool, true, false, not, cond, List, [], ◌∷◌, ◌++◌, length, get_or, set, replicate, refl, sym, ap, subst, ◌∙◌, inl, inr, arith}
 use Rattle.std.specs.Prelude.{Contains}
 use Rattle.std.proofs.lemmas.Bool.{cases_eq, false≢true}
 use Rattle.std.proofs.lemmas.List.{get_or-set_same, get_or-set_other, length-set, get_or-replicate, length-replicate, length_push}
 use Rattle.std.proofs.lemmas.List.Elements.{Contains-push, Contains-push_cases, Contains-append_left}
 use Rattle.std.proofs.lemmas.List.Sums.{sum_by-set}
-use Rattle.dep_graph.specs.Paths.{Leads, HasPath, Against}
+use Rattle.dep_graph.specs.Paths.{Leads, HasPath, HasPathFrom, Against}
 use Rattle.dep_graph.specs.Lists.{ListsAll}
 use Rattle.dep_graph.specs.Marks.{IsMarked, MarksAll, MarksNew, unmarked_count}
 use Rattle.dep_graph.proofs.PathLemmas.{HasPath-refl, HasPath-step, leads_of, turned}
@@ -113,52 +113,43 @@ MarksNew-push nodes old waiting new pending x h lt m = record {
       | inr e ↦ inr (here nodes y (sym e))
     ]
 
--- marks that reach the goal; where one is on a node that doesn't wait, its predecessors have theirs
-pub record IsSearch (Edge : ℕ → ℕ → Type 0) (count goal : ℕ) (marks : List Bool) (pending : List ℕ) : Type 0 where
+-- marks that reach one of the goals; where one is on a node that doesn't wait, its predecessors have theirs
+pub record IsSearch (Edge : ℕ → ℕ → Type 0) (count : ℕ) (goals : List ℕ) (marks : List Bool) (pending : List ℕ) : Type 0 where
   pub size : length marks ≡ count
-  pub goal_is : IsMarked marks goal
-  pub reaches : (x : ℕ) → IsMarked marks x → HasPath Edge x goal
+  pub goals_are : (x : ℕ) → Contains goals x → IsMarked marks x
+  pub reaches : (x : ℕ) → IsMarked marks x → (goal : ℕ) × Contains goals goal × HasPath Edge x goal
   pub waits : (x : ℕ) → Contains pending x → IsMarked marks x
   pub done : (x y : ℕ) → IsMarked marks y → Edge x y → IsMarked marks x ⊎ Contains pending y
 
-pub IsSearch-start : (Edge : ℕ → ℕ → Type 0) (count goal : ℕ) → goal < count
-    → IsSearch Edge count goal (set (replicate count false) goal true) ([] ++ goal ∷ [])
-IsSearch-start Edge count goal lt = record {
-  size = length-set _ goal true ∙ length-replicate count false;
-  goal_is = IsMarked-set_same bare goal inside;
-  reaches = λ x m. (let P : ℕ → Type 0 = λ z. HasPath Edge z goal in subst P (sym (only x m)) (HasPath-refl Edge goal));
+pub IsSearch-start : (Edge : ℕ → ℕ → Type 0) (count : ℕ) (goals : List ℕ) (marks : List Bool) (pending : List ℕ)
+    → MarksNew goals (replicate count false) [] marks pending → IsSearch Edge count goals marks pending
+IsSearch-start Edge count goals marks pending h = record {
+  size = h.size ∙ length-replicate count false;
+  goals_are = h.all;
+  reaches = λ x m. (x, (new x m).0, HasPath-refl Edge x);
   waits = waits;
-  done = λ x y m e. inr (let C : ℕ → Type 0 = λ z. Contains ([] ++ goal ∷ []) z in subst C (sym (only y m)) (Contains-push [] goal));
+  done = λ x y m e. inr (new y m).1;
 }
   where
-    bare : List Bool
-    bare = replicate count false
-
-    inside : goal < length bare
-    inside = rw (length-replicate count false) lt
-
-    bare_none : (x : ℕ) → IsMarked bare x → ⊥
+    bare_none : (x : ℕ) → IsMarked (replicate count false) x → ⊥
     bare_none x m =
-        let in' : x < count = rw (length-replicate count false) at (IsMarked-within bare x m) in
+        let in' : x < count = rw (length-replicate count false) at (IsMarked-within (replicate count false) x m) in
         false≢true (sym (get_or-replicate count x false false in') ∙ m)
 
-    only : (x : ℕ) → IsMarked (set bare goal true) x → x ≡ goal
-    only x m = elim (IsMarked-set bare goal x inside m) [ inl e ↦ e | inr k ↦ absurd (bare_none x k) ]
+    new : (x : ℕ) → IsMarked marks x → Contains goals x × Contains pending x
+    new x m = elim (h.only x m) [ inl k ↦ absurd (bare_none x k) | inr c ↦ c ]
 
-    waits : (x : ℕ) → Contains ([] ++ goal ∷ []) x → IsMarked (set bare goal true) x
-    waits x c = elim (Contains-push_cases [] goal x c) [
-      | inl k ↦ absurd (none_in x k)
-      | inr e ↦ (let M : ℕ → Type 0 = λ z. IsMarked (set bare goal true) z in subst M e (IsMarked-set_same bare goal inside))
-    ]
+    waits : (x : ℕ) → Contains pending x → IsMarked marks x
+    waits x c = elim (h.joined x c) [ inl k ↦ absurd (none_in x k) | inr k ↦ h.all x k ]
 
 -- one node's predecessors have their marks
-pub IsSearch-more : (Edge : ℕ → ℕ → Type 0) (count goal : ℕ) (marks new : List Bool) (pending rest next nodes : List ℕ) (node : ℕ)
-    → IsSearch Edge count goal marks pending → pending ≡ rest ++ node ∷ []
+pub IsSearch-more : (Edge : ℕ → ℕ → Type 0) (count : ℕ) (goals : List ℕ) (marks new : List Bool) (pending rest next nodes : List ℕ) (node : ℕ)
+    → IsSearch Edge count goals marks pending → pending ≡ rest ++ node ∷ []
     → ListsAll (λ pred. Edge pred node) nodes → MarksNew nodes marks rest new next
-    → IsSearch Edge count goal new next
-IsSearch-more Edge count goal marks new pending rest next nodes node s is lists h = record {
+    → IsSearch Edge count goals new next
+IsSearch-more Edge count goals marks new pending rest next nodes node s is lists h = record {
   size = h.size ∙ s.size;
-  goal_is = h.kept goal s.goal_is;
+  goals_are = λ x c. h.kept x (s.goals_are x c);
   reaches = reaches;
   waits = waits;
   done = done;
@@ -170,10 +161,11 @@ IsSearch-more Edge count goal marks new pending rest next nodes node s is lists 
     last : Contains pending node
     last = rw is (Contains-push rest node)
 
-    reaches : (x : ℕ) → IsMarked new x → HasPath Edge x goal
+    reaches : (x : ℕ) → IsMarked new x → (goal : ℕ) × Contains goals goal × HasPath Edge x goal
     reaches x m = elim (h.only x m) [
       | inl o ↦ s.reaches x o
-      | inr c ↦ HasPath-step Edge x node goal ((lists.each x).0 c.0) (s.reaches node (s.waits node last))
+      | inr c ↦ (let r = s.reaches node (s.waits node last) in
+          (r.0, r.1, HasPath-step Edge x node r.0 ((lists.each x).0 c.0) r.2))
     ]
 
     waits : (x : ℕ) → Contains next x → IsMarked new x
@@ -195,18 +187,39 @@ IsSearch-more Edge count goal marks new pending rest next nodes node s is lists 
           | inr same ↦ inl (h.all x ((lists.each x).1 (let F : ℕ → Type 0 = λ z. Edge x z in subst F (sym same) e)))
         ]
 
--- where none waits, exactly what reaches the goal is marked
-pub MarksAll-search : (Edge : ℕ → ℕ → Type 0) (count goal : ℕ) (marks : List Bool) → IsSearch Edge count goal marks []
-    → MarksAll (λ node. HasPath Edge node goal) marks
-MarksAll-search Edge count goal marks s x lt = (s.reaches x, (λ h. let p = leads_of Edge x goal h in back x p.0 p.1))
+-- where none waits, what reaches a goal is marked
+marked : (Edge : ℕ → ℕ → Type 0) (count : ℕ) (goals : List ℕ) (marks : List Bool) → IsSearch Edge count goals marks []
+    → (x goal : ℕ) → Contains goals goal → HasPath Edge x goal → IsMarked marks x
+marked Edge count goals marks s x goal c h = let p = leads_of Edge x goal h in back x p.0 p.1
   where
     back : (x : ℕ) (p : List ℕ) → Leads Edge x p goal → IsMarked marks x
-    back x [] e = let M : ℕ → Type 0 = λ z. IsMarked marks z in subst M (sym e) s.goal_is
-    back x (y ∷ p) (e, r) = elim (s.done x y (back y p r) e) [ inl m ↦ m | inr c ↦ absurd (none_in y c) ]
+    back x [] e = let M : ℕ → Type 0 = λ z. IsMarked marks z in subst M (sym e) (s.goals_are goal c)
+    back x (y ∷ p) (e, r) = elim (s.done x y (back y p r) e) [ inl m ↦ m | inr k ↦ absurd (none_in y k) ]
 
--- the same along the edges
-pub MarksAll-along : (Edge : ℕ → ℕ → Type 0) (count from : ℕ) (marks : List Bool) → IsSearch (Against Edge) count from marks []
+in_one : (node x : ℕ) → Contains (node ∷ []) x → x ≡ node
+in_one node x c = elim (Contains-push_cases [] node x c) [ inl k ↦ absurd (none_in x k) | inr e ↦ sym e ]
+
+-- exactly what reaches the one goal is marked
+pub MarksAll-search : (Edge : ℕ → ℕ → Type 0) (count goal : ℕ) (marks : List Bool) → IsSearch Edge count (goal ∷ []) marks []
+    → MarksAll (λ node. HasPath Edge node goal) marks
+MarksAll-search Edge count goal marks s x lt = (
+  (λ m. let r = s.reaches x m in
+      let P : ℕ → Type 0 = λ z. HasPath Edge x z in subst P (in_one goal r.0 r.1) r.2),
+  marked Edge count (goal ∷ []) marks s x goal (Contains-push [] goal),
+)
+
+-- the same along the edges, from several nodes
+pub MarksAll-along : (Edge : ℕ → ℕ → Type 0) (count : ℕ) (nodes : List ℕ) (marks : List Bool)
+    → IsSearch (Against Edge) count nodes marks [] → MarksAll (HasPathFrom Edge nodes) marks
+MarksAll-along Edge count nodes marks s x lt = (
+  (λ m. let r = s.reaches x m in (r.0, r.1, turned Edge x r.0 r.2)),
+  (λ h. marked (Against Edge) count nodes marks s x h.0 h.1 (turned (Against Edge) h.0 x h.2)),
+)
+
+pub MarksAll-one : (Edge : ℕ → ℕ → Type 0) (from : ℕ) (marks : List Bool) → MarksAll (HasPathFrom Edge (from ∷ [])) marks
     → MarksAll (λ node. HasPath Edge from node) marks
-MarksAll-along Edge count from marks s x lt =
-    let all = MarksAll-search (Against Edge) count from marks s x lt in
-    (λ m. turned Edge x from (all.0 m), λ h. all.1 (turned (Against Edge) from x h))
+MarksAll-one Edge from marks all x lt = (
+  (λ m. let r = (all x lt).0 m in
+      let P : ℕ → Type 0 = λ z. HasPath Edge z x in subst P (in_one from r.0 r.1) r.2),
+  (λ h. (all x lt).1 (from, Contains-push [] from, h)),
+)

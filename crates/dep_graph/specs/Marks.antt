@@ -10,6 +10,10 @@ IsMarked marks node = IsTrue (slice_index_or marks node false)
 abbrev pub MarksAll : (ℕ → Type 0) → List Bool → Type 0
 MarksAll Is marks = (node : ℕ) → node < length marks → IsMarked marks node ↔ Is node
 
+-- of the nodes listed exactly those of the kind have their marks
+abbrev pub MarksAmong : List ℕ → (ℕ → Type 0) → List Bool → Type 0
+MarksAmong nodes Is marks = (node : ℕ) → Contains nodes node → IsMarked marks node ↔ Is node
+
 -- exactly the nodes that aren't listed have their marks
 pub record Leaves (listed : List ℕ) (marks : List Bool) : Type 0 where
   pub marked : (node : ℕ) → IsMarked marks node → ¬ Contains listed node

@@ -1,5 +1,5 @@
 -- Paths and cycles of a relation between nodes. Other crates cite these words.
-use Rattle.std.specs.Prelude.{◌≡◌, ℕ, List, [], ◌∷◌, ◌++◌}
+use Rattle.std.specs.Prelude.{◌≡◌, ℕ, List, [], ◌∷◌, ◌++◌, Contains}
 
 -- from a node along edges through the nodes listed to another
 abbrev pub Leads : (ℕ → ℕ → Type 0) → ℕ → List ℕ → ℕ → Type 0
@@ -14,6 +14,10 @@ IsPath Edge from to (first ∷ rest) = (first ≡ from) × Leads Edge from rest 
 -- some path goes from one node to another; each node has one to itself
 abbrev pub HasPath : (ℕ → ℕ → Type 0) → ℕ → ℕ → Type 0
 HasPath Edge from to = (path : List ℕ) × IsPath Edge from to path
+
+-- some path goes from one of the nodes to another
+abbrev pub HasPathFrom : (ℕ → ℕ → Type 0) → List ℕ → ℕ → Type 0
+HasPathFrom Edge nodes to = (from : ℕ) × Contains nodes from × HasPath Edge from to
 
 -- nodes, each joined to the next by an edge, and the last to the first
 abbrev pub IsCycle : (ℕ → ℕ → Type 0) → List ℕ → Type 0

@@ -1,9 +1,10 @@
-//! Which nodes a path joins to one: a search that marks what it meets, against the edges or along them.
+//! Which nodes a path joins to one, or to one of several: a search that marks what it meets, against
+//! the edges or along them.
 
 ghost use Rattle.std.specs.Prelude.{◌≡◌, ◌<◌, ◌≤◌, All, IfOk, OnOk, length};
-ghost use Rattle.dep_graph.specs.Paths.{HasPath};
+ghost use Rattle.dep_graph.specs.Paths.{HasPath, HasPathFrom};
 ghost use Rattle.dep_graph.specs.Edges.{HasEdge};
-ghost use Rattle.dep_graph.specs.Marks.{MarksAll, MarksNew};
+ghost use Rattle.dep_graph.specs.Marks.{MarksAll, MarksAmong, MarksNew};
 
 use crate::Graph;
 use crate::marks::Marks;
@@ -18,12 +19,27 @@ impl Graph {
     {
         let mut marks = Marks::new(self.allocator(), self.size(), false)?;
         let mut pending = Vec::new(self.allocator());
-        pending.push(goal)?;
-        marks.put(goal, true);
+        mark_new(&[goal], &mut marks, &mut pending)?;
         while let Some(node) = pending.pop() {
             mark_new(self.preds(node), &mut marks, &mut pending)?;
         }
         Ok(marks)
+    }
+
+    /// Marks of these nodes exactly those from which a path leads to the goal. Of the other nodes it
+    /// says nothing.
+    pub fn reaching_among(&self, nodes: &[u32], goal: u32) -> Result<Marks, AllocError>
+        requires nodes { All (λ node. node < length self.now) nodes.now }
+        requires goal { goal < length self.now }
+        ensures { IfOk result
+            (MarksAmong nodes.now (λ node. HasPath (HasEdge self.now) node goal)) }
+    {
+        // Most often none of them reaches the goal: one search from all of them tells that.
+        let reached = self.reached_from(nodes)?;
+        if !reached.has(goal) {
+            return Marks::new(self.allocator(), 0, false);
+        }
+        self.reaching(goal)
     }
 
     /// Marks exactly the nodes to which a path leads from this one, itself among them.
@@ -32,10 +48,18 @@ impl Graph {
         ensures size { IfOk result (λ marks. length marks ≡ length self.now) }
         ensures exact { IfOk result (MarksAll (λ node. HasPath (HasEdge self.now) from node)) }
     {
+        self.reached_from(&[from])
+    }
+
+    // Marks exactly the nodes to which a path leads from one of these, themselves among them.
+    fn reached_from(&self, nodes: &[u32]) -> Result<Marks, AllocError>
+        requires { All (λ node. node < length self.now) nodes.now }
+        ensures size { IfOk result (λ marks. length marks ≡ length self.now) }
+        ensures exact { IfOk result (MarksAll (HasPathFrom (HasEdge self.now) nodes.now)) }
+    {
         let mut marks = Marks::new(self.allocator(), self.size(), false)?;
         let mut pending = Vec::new(self.allocator());
-        pending.push(from)?;
-        marks.put(from, true);
+        mark_new(nodes, &mut marks, &mut pending)?;
         while let Some(node) = pending.pop() {
             mark_new(self.succs(node), &mut marks, &mut pending)?;
         }

@@ -9,7 +9,7 @@ use Rattle.dep_graph.specs.Edges.{Links, HasEdge, IsBare, AddsEdge}
 use Rattle.dep_graph.specs.Closings.{Opens, Closes}
 use Rattle.dep_graph.proofs.PathLemmas.{HasPath-leads, Leads-weaker, leads_of, acyclic_from, no_loop}
 use Rattle.dep_graph.specs.Marks.{IsMarked, MarksAll}
-use Rattle.dep_graph.proofs.ClosingLemmas.{acyclic_added, reached_same, reaching_same}
+use Rattle.dep_graph.proofs.ClosingLemmas.{acyclic_added, reached_same}
 use Rattle.traversal_graph.specs.declared.draft.Draft.{Draft}
 use Rattle.traversal_graph.specs.Builds.{Joins, Considers, Keeps}
 use Rattle.traversal_graph.specs.Builds.Keeps.{begins, goes_on}
@@ -92,18 +92,11 @@ Draws-opened old graph edges before after draft open' adds made =
     Draws-added old graph edges before after draft (record { open_ = open'; added = adds })
     (acyclic_added old.graph graph before after adds draft.acyclic open') made
 
--- marks on what is reached from an edge's after stay right, and so do those on what reaches its before
+-- marks on what is reached from an edge's after stay right
 pub reached_kept : (old new : Links) (before after : ℕ) (marks : List Bool) → AddsEdge before after old new
     → ¬ HasPath (HasEdge old) after before → MarksAll (HasPath (HasEdge old) after) marks → MarksAll (HasPath (HasEdge new) after) marks
 reached_kept old new before after marks adds open' exact node lt =
     let same = reached_same old new before after adds open' node in
-    let was = exact node lt in
-    (λ m. same.0 (was.0 m), λ h. was.1 (same.1 h))
-
-pub reaching_kept : (old new : Links) (before after : ℕ) (marks : List Bool) → AddsEdge before after old new
-    → MarksAll (λ node. HasPath (HasEdge old) node before) marks → MarksAll (λ node. HasPath (HasEdge new) node before) marks
-reaching_kept old new before after marks adds exact node lt =
-    let same = reaching_same old new before after adds node in
     let was = exact node lt in
     (λ m. same.0 (was.0 m), λ h. was.1 (same.1 h))
 

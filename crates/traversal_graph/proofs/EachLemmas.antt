@@ -1,8 +1,10 @@
 -- Lists made of each item and its place, one item more.
 use Rattle.std.proofs.Common.{◌≡◌, ℕ, ◌+◌, ◌<◌, ◌≤◌, Bool, true, false, List, [], ◌∷◌, ◌++◌, length, get_or, take, sym, ap, ◌∙◌, append_assoc, arith}
-use Rattle.std.proofs.lemmas.List.{append-nil, take_more, take_all, length-take-le}
+use Rattle.std.proofs.lemmas.List.{append-nil, take_more, take_all, length-take-le, map_push, map_more}
+use Rattle.std.proofs.lemmas.List.Elements.{All-push}
+use Rattle.std.specs.Prelude.{All}
 use Rattle.traversal_graph.specs.declared.draft.Draft.{Draft}
-use Rattle.traversal_graph.specs.Candidates.{each_from, each, edge_if}
+use Rattle.traversal_graph.specs.Candidates.{each_from, each, edge_if, edges_out}
 use Rattle.traversal_graph.specs.Drafts.{IsDraft, Draws}
 use Rattle.traversal_graph.proofs.DrawLemmas.{Draws-none, Draws-append}
 
@@ -40,3 +42,43 @@ Draws-if passes before after old new e h = rw e h
 pub Draws-unless : (passes : Bool) (before after : ℕ) (draft : Draft) → passes ≡ false
     → IsDraft draft → Draws (edge_if passes before after) draft draft
 Draws-unless passes before after draft e h = rw e (Draws-none draft h)
+
+-- edges out of one node, one node more
+pub Draws-out : (afters : List ℕ) (i before : ℕ) (old mid new : Draft) → i < length afters
+    → Draws (edges_out before (take i afters)) old mid → Draws ((before, get_or afters i 0) ∷ []) mid new
+    → Draws (edges_out before (take (i + 1) afters)) old new
+Draws-out afters i before old mid new lt a b =
+    let f : ℕ → ℕ × ℕ = λ after. (before, after) in
+    rw (map_more f afters i 0 lt)
+    (Draws-append (edges_out before (take i afters)) ((before, get_or afters i 0) ∷ []) old mid new a b)
+
+-- a list of nodes, where a row's test passes and where it doesn't
+pub edges-pushed : {A : Type 0} (xs : List A) (i : ℕ) (x : A) (test : A → Bool) (nodes : List ℕ) (before first : ℕ)
+    → i < length xs → x ≡ get_or xs i x → test x ≡ true
+    → edges_out before nodes ≡ each (take i xs) (λ (q : ℕ) (y : A). edge_if (test y) before (first + q))
+    → edges_out before (nodes ++ (first + i) ∷ []) ≡ each (take (i + 1) xs) (λ (q : ℕ) (y : A). edge_if (test y) before (first + q))
+edges-pushed {A = A} xs i x test nodes before first lt read e h =
+    let f : ℕ → A → List (ℕ × ℕ) = λ q y. edge_if (test y) before (first + q) in
+    let g : ℕ → ℕ × ℕ = λ after. (before, after) in
+    map_push g nodes (first + i)
+    ∙ ap (λ (l : List (ℕ × ℕ)). l ++ (before, first + i) ∷ []) h
+    ∙ ap (λ (b : Bool). each (take i xs) f ++ edge_if b before (first + i)) (sym e)
+    ∙ sym (each_more xs i x f lt read)
+
+pub edges-skipped : {A : Type 0} (xs : List A) (i : ℕ) (x : A) (test : A → Bool) (nodes : List ℕ) (before first : ℕ)
+    → i < length xs → x ≡ get_or xs i x → test x ≡ false
+    → edges_out before nodes ≡ each (take i xs) (λ (q : ℕ) (y : A). edge_if (test y) before (first + q))
+    → edges_out before nodes ≡ each (take (i + 1) xs) (λ (q : ℕ) (y : A). edge_if (test y) before (first + q))
+edges-skipped {A = A} xs i x test nodes before first lt read e h =
+    let f : ℕ → A → List (ℕ × ℕ) = λ q y. edge_if (test y) before (first + q) in
+    h ∙ sym (append-nil (each (take i xs) f))
+    ∙ ap (λ (b : Bool). each (take i xs) f ++ edge_if b before (first + i)) (sym e)
+    ∙ sym (each_more xs i x f lt read)
+
+-- nodes that stand below a number
+pub below_later : (nodes : List ℕ) (n m : ℕ) → n ≤ m → All (λ node. node < n) nodes → All (λ node. node < m) nodes
+below_later nodes n m le h k d lt = let e = h k d lt in omega arith
+
+pub below_pushed : (nodes : List ℕ) (n m x : ℕ) → n ≤ m → x < m → All (λ node. node < n) nodes
+    → All (λ node. node < m) (nodes ++ x ∷ [])
+below_pushed nodes n m x le lt h = All-push (λ node. node < m) nodes x (below_later nodes n m le h) lt

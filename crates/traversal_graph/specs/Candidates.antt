@@ -1,5 +1,5 @@
 -- The candidates for edges: four lists, by the places of items and of rows.
-use Rattle.std.specs.Prelude.{ℕ, ◌+◌, ◌==◌, Bool, false, cond, List, [], ◌∷◌, ◌++◌, length, nat_lt}
+use Rattle.std.specs.Prelude.{ℕ, ◌+◌, ◌==◌, Bool, false, cond, List, [], ◌∷◌, ◌++◌, length, map, nat_lt}
 use Rattle.std.specs.Option.{option_map_or}
 use Rattle.std.specs.List.{list_any, position_or_len}
 use Rattle.std.specs.Str.{bytes_eq}
@@ -18,6 +18,10 @@ each xs list = each_from 0 xs list
 -- an edge where the test passes
 abbrev pub edge_if : Bool → ℕ → ℕ → List (ℕ × ℕ)
 edge_if passes before after = cond passes ((before, after) ∷ []) []
+
+-- an edge from a node to each of the nodes
+abbrev pub edges_out : ℕ → List ℕ → List (ℕ × ℕ)
+edges_out before nodes = map (λ (after : ℕ). (before, after)) nodes
 
 -- the place of the item of this name
 abbrev pub place_of : List Item → List ℕ → ℕ

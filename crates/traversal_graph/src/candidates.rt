@@ -1,15 +1,16 @@
 //! The edges that a graph may have, sort by sort, in the order in which they are tried.
 
-ghost use Rattle.std.specs.Prelude.{◌≡◌, ◌==◌, ◌+◌, ◌<◌, ◌≤◌, false, length, IfOk, OnOk};
+ghost use Rattle.std.specs.Prelude.{◌≡◌, ◌==◌, ◌+◌, ◌^◌, ◌<◌, ◌≤◌, ℕ, false, length, All, IfOk, OnOk};
 ghost use Rattle.std.specs.Option.{option_map_or};
 ghost use Rattle.dep_graph.specs.Edges.{HasEdge};
-ghost use Rattle.dep_graph.specs.Marks.{MarksAll};
+ghost use Rattle.dep_graph.specs.Marks.{MarksAll, MarksAmong};
 ghost use Rattle.dep_graph.specs.Paths.{HasPath};
 ghost use Rattle.heat_plan.specs.Order.{Rising};
 ghost use Rattle.heat_plan.specs.Plans.{names_of};
 ghost use Rattle.traversal_graph.specs.Candidates.{place_of, need_edges, needs_into, row_edges};
 ghost use Rattle.traversal_graph.specs.Owners.{owners_in, owned_behind};
-ghost use Rattle.traversal_graph.specs.Candidates.{require_edges, required_behind, replace_edges, replaced_behind};
+ghost use Rattle.traversal_graph.specs.Candidates.{edges_out, require_edges, required_behind};
+ghost use Rattle.traversal_graph.specs.Candidates.{replace_edges, replaced_behind};
 ghost use Rattle.traversal_graph.specs.Drafts.{IsDraft, Draws};
 
 use crate::RowBrief;
@@ -152,7 +153,7 @@ pub(crate) fn add_requires(
 }
 
 // From one row to the rows that it requires. No edge leads to the row meanwhile, so what reaches it
-// stays the same.
+// stays the same, and which of the required rows do is searched once for all of them.
 fn add_required_behind(
     draft: &mut Draft,
     first: u32,
@@ -165,31 +166,49 @@ fn add_required_behind(
     requires place { r < length rows.now }
     ensures { OnOk result (Draws (required_behind first rows.now r row.now) draft.old draft.new) }
 {
-    let reaching = draft.graph.reaching(first + r as u32)?;
-    draw_required(draft, first, rows, r, row, &reaching)
+    let required = required_of(draft.graph.allocator(), first, rows, row)?;
+    let before = first + r as u32;
+    let reaching = draft.graph.reaching_among(required.as_slice(), before)?;
+    draw_each(draft, &reaching, before, required.as_slice())
 }
 
-// Considers the rows that a row requires, which those nodes reach.
-fn draw_required(
-    draft: &mut Draft,
+// The nodes of the rows that a row requires, rising.
+fn required_of(
+    alloc: Global,
     first: u32,
     rows: &[RowBrief],
-    r: usize,
     row: &RowBrief,
-    reaching: &Marks,
-) -> Result<(), AllocError>
-    requires draft { IsDraft draft.old }
-    requires size { first + length rows.now ≤ length draft.old.graph }
-    requires place { r < length rows.now }
-    requires marks { length reaching.now ≡ length draft.old.graph }
-    requires reaching { MarksAll (λ node. HasPath (HasEdge draft.old.graph) node (first + r))
-        reaching.now }
-    ensures { OnOk result (Draws (required_behind first rows.now r row.now) draft.old draft.new) }
+) -> Result<Seq<u32>, AllocError>
+    requires { first + length rows.now < 2 ^ 32 }
+    ensures exact { IfOk result (λ nodes. (r : ℕ)
+        → edges_out (first + r) nodes ≡ required_behind first rows.now r row.now) }
+    ensures within { IfOk result (All (λ node. node < first + length rows.now)) }
 {
+    let mut nodes = Seq::new(alloc);
     for (q, other) in rows.iter().enumerate() {
         if row.requires_.as_slice().contains(&other.no) {
-            draft.draw_from(reaching, first + r as u32, first + q as u32)?;
+            nodes.push(first + q as u32)?;
         }
+    }
+    Ok(nodes)
+}
+
+// Considers an edge from a node to each of the nodes, of which those marked reach it.
+fn draw_each(
+    draft: &mut Draft,
+    reaching: &Marks,
+    before: u32,
+    afters: &[u32],
+) -> Result<(), AllocError>
+    requires draft { IsDraft draft.old }
+    requires before { before < length draft.old.graph }
+    requires afters { All (λ after. after < length draft.old.graph) afters.now }
+    requires reaching { MarksAmong afters.now
+        (λ node. HasPath (HasEdge draft.old.graph) node before) reaching.now }
+    ensures { OnOk result (Draws (edges_out before afters.now) draft.old draft.new) }
+{
+    for after in afters {
+        draft.draw_from(reaching, before, *after)?;
     }
     Ok(())
 }

@@ -1,8 +1,8 @@
 //! A graph while it is drawn: its edges so far, in the order in which they were kept.
 
-ghost use Rattle.std.specs.Prelude.{◌≡◌, ◌<◌, [], ◌∷◌, length, IfOk, OnOk};
+ghost use Rattle.std.specs.Prelude.{◌≡◌, ◌<◌, ◌↔◌, ℕ, [], ◌∷◌, length, IfOk, OnOk};
 ghost use Rattle.dep_graph.specs.Edges.{HasEdge};
-ghost use Rattle.dep_graph.specs.Marks.{MarksAll};
+ghost use Rattle.dep_graph.specs.Marks.{IsMarked, MarksAll};
 ghost use Rattle.dep_graph.specs.Paths.{HasPath};
 
 use dep_graph::{Added, Graph, Marks};
@@ -68,7 +68,7 @@ impl Draft {
         Ok(())
     }
 
-    /// Keeps an edge out of a node of which is known what reaches it, unless it would close a cycle.
+    /// Keeps an edge, unless it would close a cycle: its after has a mark where it reaches its before.
     pub(crate) fn draw_from(
         &mut self,
         reaching: &Marks,
@@ -78,12 +78,11 @@ impl Draft {
         requires draft { IsDraft self.old }
         requires before { before < length self.old.graph }
         requires after { after < length self.old.graph }
-        requires size { length reaching.now ≡ length self.old.graph }
-        requires reaching { MarksAll (λ node. HasPath (HasEdge self.old.graph) node before)
-            reaching.now }
+        requires reaching { IsMarked reaching.now after
+            ↔ HasPath (HasEdge self.old.graph) after before }
         ensures draws { OnOk result (Draws ((before, after) ∷ []) self.old self.new) }
-        ensures reaching { OnOk result
-            (MarksAll (λ node. HasPath (HasEdge self.new.graph) node before) reaching.now) }
+        ensures same { OnOk result ((node : ℕ) → HasPath (HasEdge self.old.graph) node before
+            ↔ HasPath (HasEdge self.new.graph) node before) }
     {
         if reaching.has(after) {
             return Ok(());

@@ -8,27 +8,26 @@ use Rattle.dep_graph.proofs.edges.Graph.reaching.Goals as goal
 
 pub loop-node-init : goal.loop-node-init
 loop-node-init c =
-    rw (c.put.ensures, c.in_ok-marks.ensures, c.in_ok-push.ensures.items, c.new-pending.ensures.items, c.size.ensures.size)
-    (IsSearch-start _ _ _ c.requires)
+    IsSearch-start _ _ _ _ _ (rw (c.in_ok-marks.ensures, c.new-pending.ensures.items, c.size.ensures.size) at c.in_ok-mark_new.ensures)
 
 pub preds-requires : goal.preds-requires
 preds-requires c =
     rw (← c.loop-node.invariant.size) (IsMarked-within _ _
     (c.loop-node.invariant.waits c.in-Some.node (rw c.in-Some.ensures.items (Contains-push _ _))))
 
-pub mark_new-requires : goal.mark_new-requires
-mark_new-requires c =
+pub mark_new-requires-in-Some : goal.mark_new-requires-in-Some
+mark_new-requires-in-Some c =
     neighbours_within _ _ _ c.preds.ensures.exact
     (λ x edge. rw c.loop-node.invariant.size (c.preds.ensures.joins x _ edge).0)
 
 pub loop-node-preserved : goal.loop-node-preserved
 loop-node-preserved c =
-    IsSearch-more _ _ _ _ _ _ _ _ _ _ c.loop-node.invariant c.in-Some.ensures.items c.preds.ensures.exact c.in_ok-mark_new.ensures
+    IsSearch-more _ _ _ _ _ _ _ _ _ _ c.loop-node.invariant c.in-Some.ensures.items c.preds.ensures.exact c.in_ok-mark_new-2.ensures
 
 pub loop-node-smaller : goal.loop-node-smaller
 loop-node-smaller c =
     let popped : length c.loop-node.pending.items ≡ length c.pop.new.self.items + 1 = ap length c.in-Some.ensures.items ∙ length_push _ _ in
-    omega (arith, c.in_ok-mark_new.ensures.work, popped)
+    omega (arith, c.in_ok-mark_new-2.ensures.work, popped)
 
 pub returns-clause-exact : goal.returns-clause-exact
 returns-clause-exact c =
