@@ -8,7 +8,7 @@ ghost use Rattle.check_steps.specs.Parts.{parts_read};
 
 use crate::looks::{BeginWork, Work};
 use crate::parts::{Parts, begun_parts};
-use core_state::{Input, Job, State};
+use core_state::{Input, Job, SharedInput, State};
 use heat_plan::EngineNo;
 use heat_value::Equals;
 use step_reads::{Task, next_of};
@@ -71,14 +71,14 @@ fn is_read(parts: &Parts<'_>, work: &BeginWork) -> bool
 }
 
 // Whether two lists of inputs are equal.
-fn are_same(some: &[Input], others: &[Input]) -> bool
+fn are_same(some: &[SharedInput], others: &[SharedInput]) -> bool
     ensures { IsTrue result ↔ (some.now ≡ others.now) }
 {
     if some.len() != others.len() {
         return false;
     }
     for i in 0..some.len() {
-        if !is_same(&some[i], &others[i]) {
+        if !is_same(some[i].input(), others[i].input()) {
             return false;
         }
     }

@@ -1,5 +1,6 @@
 //! What the nodes of a graph were given by those before them.
 
+use crate::SharedInput;
 use heat_plan::{Facts, ResName, RowNo, StackName};
 use heat_value::{Seq, TryCopy, copy_option};
 use std::alloc::AllocError;
@@ -29,7 +30,7 @@ impl Drop for Input {
 pub struct Point {
     pub stack: StackName,
     pub node: u32,
-    pub inputs: Seq<Input>,
+    pub inputs: Seq<SharedInput>,
     pub done: bool,
 }
 
