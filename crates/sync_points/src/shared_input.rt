@@ -2,7 +2,7 @@
 ghost use Rattle.std.specs.Prelude.{◌≡◌, IfOk};
 
 use crate::Input;
-use heat_value::TryCopy;
+use heat_value::{Equals, TryCopy};
 use std::alloc::{AllocError, Global};
 use std::marker::Model;
 use std::sync::Arc;
@@ -50,5 +50,11 @@ impl TryCopy for SharedInput {
         Ok(SharedInput {
             input: Arc::try_clone(&self.input)?,
         })
+    }
+}
+
+impl Equals for SharedInput {
+    fn equals(&self, other: &SharedInput) -> bool {
+        self.input().equals(other.input())
     }
 }
