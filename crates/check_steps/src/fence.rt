@@ -8,7 +8,7 @@ ghost use Rattle.check_steps.specs.Parts.{parts_read};
 
 use crate::looks::{BeginWork, Work};
 use crate::parts::{Parts, begun_parts};
-use core_state::{Input, Job, State};
+use core_state::{Job, State};
 use heat_plan::EngineNo;
 use heat_value::Equals;
 use step_reads::{Task, next_of};
@@ -66,31 +66,6 @@ fn is_read(parts: &Parts<'_>, work: &BeginWork) -> bool
         && parts.row.key == work.key
         && parts.item.equals(&work.item)
         && parts.row.props.equals(&work.props)
-        && are_same(parts.point.inputs.as_slice(), work.inputs.as_slice())
+        && parts.point.inputs.equals(&work.inputs)
         && parts.plan.plan().equals(work.plan.plan())
-}
-
-// Whether two lists of inputs are equal.
-fn are_same(some: &[Input], others: &[Input]) -> bool
-    ensures { IsTrue result ↔ (some.now ≡ others.now) }
-{
-    if some.len() != others.len() {
-        return false;
-    }
-    for i in 0..some.len() {
-        if !is_same(&some[i], &others[i]) {
-            return false;
-        }
-    }
-    true
-}
-
-// Whether two inputs are equal.
-fn is_same(one: &Input, other: &Input) -> bool
-    ensures { IsTrue result ↔ (one.now ≡ other.now) }
-{
-    one.from == other.from
-        && one.name.equals(&other.name)
-        && one.row == other.row
-        && one.facts.equals(&other.facts)
 }

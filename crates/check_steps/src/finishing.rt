@@ -10,7 +10,7 @@ ghost use Rattle.check_steps.specs.Passes.{IsAtWork, IsPassed, finish_of};
 
 use crate::passed::Passed;
 use crate::passing::pass_on;
-use core_state::{Actor, Batch, Job, Made, State};
+use core_state::{Actor, Batch, Job, Made, SharedInput, State};
 use heat_plan::{EngineNo, Refusal, Status};
 use std::alloc::{AllocError, Global};
 use step_ends::finish_overrun;
@@ -40,9 +40,9 @@ fn passed_by<'a>(alloc: Global, job: &'a Job, fresh: Fresh<'a>) -> Result<Passed
         → IfOk result (IsPassed s e) }
 {
     let node = job.letter.node;
-    let input = input_of(node, fresh.node, job.row, fresh.row)?;
+    let input = SharedInput::new(alloc, input_of(node, fresh.node, job.row, fresh.row)?)?;
     let succs = succs_of(fresh.graph, node)?;
-    let ready = ready_then(alloc, fresh.graph, node, &input, succs.as_slice())?;
+    let ready = ready_then(alloc, fresh.graph, node, input.input(), succs.as_slice())?;
     Ok(Passed {
         job,
         fresh,
@@ -79,7 +79,7 @@ fn settles(passed: &Passed<'_>) -> bool
     all_done(
         passed.fresh.graph,
         passed.job.letter.node,
-        &passed.input,
+        passed.input.input(),
         passed.succs.as_slice(),
     )
 }

@@ -1,6 +1,6 @@
 //! An engine's next step, as it stood at one moment.
 
-use core_state::{Input, SharedPlan};
+use core_state::{SharedInput, SharedPlan};
 use heat_plan::{Item, Properties, RowNo};
 use heat_value::Seq;
 
@@ -27,7 +27,7 @@ pub enum Work {
 pub struct BeginWork {
     pub plan: SharedPlan,
     pub item: Item,
-    pub inputs: Seq<Input>,
+    pub inputs: Seq<SharedInput>,
     pub row: RowNo,
     pub props: Properties,
     pub key: u64,

@@ -1,6 +1,6 @@
 //! What the end of a job finds in the state and in its graph.
 
-use core_state::{Input, Job};
+use core_state::{Job, SharedInput};
 use heat_value::Seq;
 use step_reads::Fresh;
 
@@ -9,7 +9,7 @@ use step_reads::Fresh;
 pub(crate) struct Passed<'a> {
     pub job: &'a Job,
     pub fresh: Fresh<'a>,
-    pub input: Input,
+    pub input: SharedInput,
     pub succs: Seq<u32>,
     pub ready: Seq<u32>,
 }

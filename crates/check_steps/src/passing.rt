@@ -12,7 +12,6 @@ use crate::making::make;
 use crate::passed::Passed;
 use core_state::{Actor, Batch, Change, Entry, Letter, Made, Next, Point, State};
 use heat_plan::{EngineNo, Refusal};
-use heat_value::TryCopy;
 use std::alloc::{AllocError, Global};
 use step_parts::{
     draw_letters, ended_and_sent, has_room, letters_to, mail_entry, may_all_rise, rows_entry,
@@ -77,19 +76,19 @@ fn changes_of(
     let succs = passed.succs.as_slice();
     let points = points_passed(alloc, passed.fresh.graph, node, &passed.input, succs)?;
     let sent = with_last(sends(alloc, letters)?, mark)?;
-    let rest = with_last(puts(alloc, points.as_slice())?, sent)?;
+    let rest = with_last(puts(alloc, points.into_vec())?, sent)?;
     let rest = with_first(alloc, Change::EndJob(e), rest)?;
     let rest = unlock(alloc, passed.fresh.row, rest)?;
     draw_letters(alloc, s.next(), letters, rest)
 }
 
 // The writing of each point.
-fn puts(alloc: Global, points: &[Point]) -> Result<Batch<Change>, AllocError>
-    ensures { IfOk result (λ changes. changes ≡ map PutPoint points.now) }
+fn puts(alloc: Global, points: Vec<Point>) -> Result<Batch<Change>, AllocError>
+    ensures { IfOk result (λ changes. changes ≡ map PutPoint points.items) }
 {
     let mut changes = Batch::new(alloc);
     for point in points {
-        changes.push(Change::PutPoint(point.copy()?))?;
+        changes.push(Change::PutPoint(point))?;
     }
     Ok(changes)
 }

@@ -6,7 +6,7 @@ ghost use Rattle.check_steps.specs.Prepares.{HasPrepared, IsGivenFor, IsPrepared
 use crate::looks::Work;
 use crate::parts::parts_of;
 use crate::prepared::Prepared;
-use core_state::{Input, Job, State};
+use core_state::{Job, SharedInput, State};
 use heat_plan::{EngineNo, Item, Plan, Properties};
 use hot_registry::Registry;
 use hot_resolve::{Resolution, resolve};
@@ -60,7 +60,7 @@ fn prepared_for(
     registry: &Registry,
     plan: &Plan,
     item: &Item,
-    inputs: &[Input],
+    inputs: &[SharedInput],
     props: &Properties,
 ) -> Prepared
     ensures { IsGivenFor plan.now item.now inputs.now props.now result }
@@ -77,7 +77,7 @@ fn given_to(
     registry: &Registry,
     plan: &Plan,
     item: &Item,
-    inputs: &[Input],
+    inputs: &[SharedInput],
     props: &Properties,
 ) -> Result<Prepared, AllocError>
     ensures { IfOk result (IsGivenFor plan.now item.now inputs.now props.now) }

@@ -33,4 +33,4 @@ pub use row_table::Row;
 pub use shared_plan::SharedPlan;
 pub use stack::Stack;
 pub use state::State;
-pub use sync_points::{Input, Point};
+pub use sync_points::{Input, Point, SharedInput};

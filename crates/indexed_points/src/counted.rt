@@ -7,7 +7,7 @@ use crate::point::{Gathered, SyncPoint};
 use heat_value::{Seq, TryCopy};
 use std::alloc::AllocError;
 use std::marker::Model;
-use sync_points::{Input, Point};
+use sync_points::{Input, Point, SharedInput};
 
 /// A point, and how many edges to its node have no input, if that was counted.
 #[derive(Debug, Drop)]
@@ -88,7 +88,7 @@ impl CountedPoint {
     }
 
     /// Writes other inputs, and whether the node is done.
-    pub(crate) fn write(&mut self, inputs: Seq<Input>, done: bool)
+    pub(crate) fn write(&mut self, inputs: Seq<SharedInput>, done: bool)
         ensures { self.new ≡ written inputs done self.old }
     {
         self.missing = None;

@@ -11,7 +11,7 @@ use heat_plan::StackName;
 use heat_value::Seq;
 use std::alloc::{AllocError, Global};
 use std::marker::Model;
-use sync_points::Input;
+use sync_points::{Input, SharedInput};
 
 /// A point for each node of a graph.
 #[derive(Debug, Drop)]
@@ -93,7 +93,7 @@ impl Points for ListPoints {
         Ok(Gathered { new, full })
     }
 
-    fn inputs(&self, node: u32) -> &[Input] {
+    fn inputs(&self, node: u32) -> &[SharedInput] {
         let place = self.place(node);
         self.points[place].point.inputs.as_slice()
     }
@@ -108,7 +108,7 @@ impl Points for ListPoints {
         self.points[place].point.done
     }
 
-    fn set(&mut self, node: u32, inputs: Seq<Input>, done: bool) {
+    fn set(&mut self, node: u32, inputs: Seq<SharedInput>, done: bool) {
         let place = self.place(node);
         self.points[place].write(inputs, done);
     }

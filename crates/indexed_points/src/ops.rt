@@ -2,7 +2,7 @@
 
 use crate::point::Gathered;
 use heat_value::Seq;
-use sync_points::Input;
+use sync_points::{Input, SharedInput};
 
 /// One call of points: the first number is the node's, the second that of the node before it.
 #[derive(Debug)]
@@ -11,7 +11,7 @@ pub enum PointOp {
     Inputs(u32),
     Finish(u32),
     IsDone(u32),
-    Set(u32, Seq<Input>, bool),
+    Set(u32, Seq<SharedInput>, bool),
 }
 
 impl Drop for PointOp {
@@ -31,7 +31,7 @@ impl Drop for PointOp {
 #[derive(Debug, Drop)]
 pub enum PointAnswer {
     Gathered(Gathered),
-    Inputs(Seq<Input>),
+    Inputs(Seq<SharedInput>),
     IsDone(bool),
     Done,
     Barred,

@@ -7,7 +7,7 @@ ghost use Rattle.indexed_points.specs.Points.{given, has_from, is_before, is_ful
 use heat_plan::StackName;
 use heat_value::{Seq, TryCopy};
 use std::alloc::{AllocError, Global};
-use sync_points::{Input, Point};
+use sync_points::{Input, Point, SharedInput};
 
 /// What one node waits for and was given.
 #[derive(Debug)]
@@ -70,12 +70,13 @@ impl SyncPoint {
         if has_from(self.point.inputs.as_slice(), from) {
             return Ok(false);
         }
-        self.point.inputs.push(given(from, input))?;
+        let shared = SharedInput::new(self.point.inputs.allocator(), given(from, input))?;
+        self.point.inputs.push(shared)?;
         Ok(true)
     }
 
     /// Writes other inputs, and whether the node is done.
-    pub(crate) fn write(&mut self, inputs: Seq<Input>, done: bool)
+    pub(crate) fn write(&mut self, inputs: Seq<SharedInput>, done: bool)
         ensures { self.new ≡ written inputs done self.old }
     {
         self.point.inputs = inputs;
@@ -132,10 +133,10 @@ impl TryCopy for SyncPoint {
 }
 
 // Whether a node gave one of the inputs.
-fn has_from(inputs: &[Input], from: u32) -> bool
+fn has_from(inputs: &[SharedInput], from: u32) -> bool
     ensures { result ≡ has_from from inputs.now }
 {
-    inputs.iter().any(|input| input.from == from)
+    inputs.iter().any(|given| given.input().from == from)
 }
 
 // The input, as that of the node that gives it.

@@ -6,7 +6,7 @@ ghost use Rattle.indexed_points.specs.Points.{IsEdge, finished, point_at, put_po
 use crate::point::{Gathered, SyncPoint};
 use heat_value::Seq;
 use std::alloc::AllocError;
-use sync_points::Input;
+use sync_points::{Input, SharedInput};
 
 /// A point for each node of a graph.
 pub trait Points {
@@ -27,7 +27,7 @@ pub trait Points {
         ensures same { OnErr result (content self.new ≡ content self.old) };
 
     /// What the node was given.
-    fn inputs(&self, node: u32) -> &[Input]
+    fn inputs(&self, node: u32) -> &[SharedInput]
         requires { IsSome (point_at (content self.now) node) }
         ensures { option_map (λ p. p.point.inputs) (point_at (content self.now) node) ≡ Some result.now };
 
@@ -43,7 +43,7 @@ pub trait Points {
         ensures { option_map (λ p. p.point.done) (point_at (content self.now) node) ≡ Some result };
 
     /// Writes other inputs for the node, and whether it is done, without memory.
-    fn set(&mut self, node: u32, inputs: Seq<Input>, done: bool)
+    fn set(&mut self, node: u32, inputs: Seq<SharedInput>, done: bool)
         requires { IsSome (point_at (content self.old) node) }
         ensures { (p : SyncPoint) → point_at (content self.old) node ≡ Some p
             → content self.new ≡ put_point (written inputs done p) (content self.old) };

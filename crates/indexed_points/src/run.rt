@@ -8,7 +8,7 @@ use crate::ops::{PointAnswer, PointOp};
 use crate::points::Points;
 use heat_value::{Seq, TryCopy};
 use std::alloc::{AllocError, Global};
-use sync_points::Input;
+use sync_points::{Input, SharedInput};
 
 /// Makes the calls in order, each where its condition holds, and answers what each gives.
 pub fn run_points<R: Points>(
@@ -82,7 +82,7 @@ fn inputs_of<R: Points>(alloc: Global, points: &R, node: u32) -> Result<PointAns
 }
 
 // The same inputs.
-fn copy_of(alloc: Global, inputs: &[Input]) -> Result<Seq<Input>, AllocError>
+fn copy_of(alloc: Global, inputs: &[SharedInput]) -> Result<Seq<SharedInput>, AllocError>
     ensures { IfOk result (λ copy. copy ≡ inputs.now) }
 {
     let mut copy = Vec::with_capacity(alloc, inputs.len())?;
@@ -114,7 +114,7 @@ fn is_done<R: Points>(points: &R, node: u32) -> PointAnswer
 }
 
 // Writes other inputs for the node, and whether it is done, if it has a point.
-fn set<R: Points>(points: &mut R, node: u32, inputs: Seq<Input>, done: bool) -> PointAnswer
+fn set<R: Points>(points: &mut R, node: u32, inputs: Seq<SharedInput>, done: bool) -> PointAnswer
     ensures { Writes node (written inputs done) (R.content points.old) result (R.content points.new) }
 {
     if !has_point(points, node) {

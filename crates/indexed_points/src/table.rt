@@ -13,7 +13,7 @@ use heat_plan::StackName;
 use heat_value::{Seq, TryCopy};
 use std::alloc::{AllocError, Global};
 use std::marker::Model;
-use sync_points::{Input, Point};
+use sync_points::{Input, Point, SharedInput};
 
 /// A point for each node of a graph, at the node's place.
 #[derive(Debug, Drop)]
@@ -124,7 +124,7 @@ impl Points for SyncPoints {
         self.points[place].gather(from, input)
     }
 
-    fn inputs(&self, node: u32) -> &[Input] {
+    fn inputs(&self, node: u32) -> &[SharedInput] {
         let place = self.place(node);
         self.points[place].point().point.inputs.as_slice()
     }
@@ -139,7 +139,7 @@ impl Points for SyncPoints {
         self.points[place].point().point.done
     }
 
-    fn set(&mut self, node: u32, inputs: Seq<Input>, done: bool) {
+    fn set(&mut self, node: u32, inputs: Seq<SharedInput>, done: bool) {
         let place = self.place(node);
         self.points[place].write(inputs, done);
     }

@@ -1,7 +1,7 @@
 //! Letters that wait for an engine, and the jobs that engines have.
 
 use heat_plan::{EngineNo, LetterNo, RowNo, StackName, TravNo};
-use heat_value::TryCopy;
+use heat_value::{Equals, TryCopy};
 use std::alloc::AllocError;
 
 /// A letter: somebody is to work at a node of this traversal's graph.
@@ -54,5 +54,23 @@ impl TryCopy for Job {
             row: self.row,
             stage: self.stage,
         })
+    }
+}
+
+impl Equals for Letter {
+    fn equals(&self, other: &Letter) -> bool {
+        self.no == other.no
+            && self.stack.equals(&other.stack)
+            && self.trav == other.trav
+            && self.node == other.node
+    }
+}
+
+impl Equals for Job {
+    fn equals(&self, other: &Job) -> bool {
+        self.engine == other.engine
+            && self.letter.equals(&other.letter)
+            && self.row == other.row
+            && self.stage == other.stage
     }
 }

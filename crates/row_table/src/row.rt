@@ -1,10 +1,10 @@
 //! Resource rows: the engine's memory of what it asked for.
-ghost use Rattle.std.specs.Prelude.{◌≡◌, IfOk};
+ghost use Rattle.std.specs.Prelude.{◌≡◌, ◌↔◌, IsTrue, IfOk};
 
 use heat_plan::{
     Act, EngineNo, Facts, Kind, Policy, Properties, ResName, RowNo, StackName, Status, TravNo,
 };
-use heat_value::{Seq, TryCopy, copy_option};
+use heat_value::{Equals, Seq, TryCopy, copy_option};
 use std::alloc::AllocError;
 
 /// One resource under one number: what was last done to it and how far that is, its properties and
@@ -112,4 +112,50 @@ fn contents_of(row: &Row) -> Result<(Properties, Option<Properties>, Option<Fact
         copy_option(&row.target)?,
         copy_option(&row.facts)?,
     ))
+}
+
+impl Equals for Row {
+    fn equals(&self, other: &Row) -> bool {
+        self.no == other.no
+            && has_same_names(self, other)
+            && self.act == other.act
+            && self.status == other.status
+            && self.trav == other.trav
+            && has_same_contents(self, other)
+            && has_same_ties(self, other)
+            && self.engine == other.engine
+            && self.key == other.key
+            && self.policy == other.policy
+    }
+}
+
+// Whether two rows have the same stack, name and kind.
+fn has_same_names(row: &Row, other: &Row) -> bool
+    ensures { IsTrue result
+        ↔ (row.now.stack ≡ other.now.stack) × (row.now.name ≡ other.now.name)
+        × (row.now.kind ≡ other.now.kind) }
+{
+    row.stack.equals(&other.stack) && row.name.equals(&other.name) && row.kind.equals(&other.kind)
+}
+
+// Whether two rows have the same properties, target and facts.
+fn has_same_contents(row: &Row, other: &Row) -> bool
+    ensures { IsTrue result
+        ↔ (row.now.props ≡ other.now.props) × (row.now.target ≡ other.now.target)
+        × (row.now.facts ≡ other.now.facts) }
+{
+    row.props.equals(&other.props)
+        && row.target.equals(&other.target)
+        && row.facts.equals(&other.facts)
+}
+
+// Whether two rows require the same rows, and stand between the same in a chain of replacement.
+fn has_same_ties(row: &Row, other: &Row) -> bool
+    ensures { IsTrue result
+        ↔ (row.now.requires_ ≡ other.now.requires_) × (row.now.replaces ≡ other.now.replaces)
+        × (row.now.replaced_by ≡ other.now.replaced_by) }
+{
+    row.requires_.equals(&other.requires_)
+        && row.replaces == other.replaces
+        && row.replaced_by == other.replaced_by
 }

@@ -3,7 +3,7 @@ use crate::parts::{add, res_name, row_no, same, stack_name};
 use heat_value::Seq;
 use indexed_points::{ListPoints, PointAnswer, PointOp, Points, SyncPoints, run_points};
 use std::alloc::{AllocError, Global};
-use sync_points::Input;
+use sync_points::{Input, SharedInput};
 
 // A call. An input comes from a node to a node, and has a row; what is set are inputs from these nodes,
 // and whether the node is done.
@@ -72,10 +72,10 @@ fn input(alloc: Global, from: u32, row: u64) -> Result<Input, AllocError> {
     })
 }
 
-fn inputs(alloc: Global, froms: &[u32]) -> Result<Seq<Input>, AllocError> {
+fn inputs(alloc: Global, froms: &[u32]) -> Result<Seq<SharedInput>, AllocError> {
     let mut inputs = Seq::new(alloc);
     for from in froms {
-        inputs.push(input(alloc, *from, 9)?)?;
+        inputs.push(SharedInput::new(alloc, input(alloc, *from, 9)?)?)?;
     }
     Ok(inputs)
 }

@@ -210,7 +210,7 @@ pub(crate) fn point(alloc: Global, point: &Point) -> Result<String, AllocError> 
         done
     )?;
     for given in point.inputs.as_slice() {
-        words.push_str(input(alloc, given)?.as_str())?;
+        words.push_str(input(alloc, given.input())?.as_str())?;
     }
     Ok(words)
 }

@@ -1,5 +1,5 @@
 //! What the reads of a state give that take memory, each once more where memory was wanted.
-use core_state::{Graph, Input, State};
+use core_state::{Graph, Input, SharedInput, State};
 use heat_plan::{Facts, Properties, ResName, RowNo, StackName};
 use heat_value::{Seq, Text};
 use indexed_points::NodePoints;
@@ -53,20 +53,21 @@ fn facts(alloc: Global) -> Result<Facts, AllocError> {
 }
 
 // What an update node in the first place gave.
-fn input(alloc: Global) -> Result<Input, AllocError> {
+fn input(alloc: Global) -> Result<SharedInput, AllocError> {
     let row = row(1)?;
-    Ok(Input {
+    let input = Input {
         from: 0,
         name: Some(name(alloc)?),
         row,
         facts: Some(facts(alloc)?),
-    })
+    };
+    SharedInput::new(alloc, input)
 }
 
 // How many points change at the end of the first node, and how many nodes are ready then.
-fn passed(alloc: Global, graph: &Graph, input: &Input) -> Result<(usize, usize), AllocError> {
+fn passed(alloc: Global, graph: &Graph, input: &SharedInput) -> Result<(usize, usize), AllocError> {
     let points = points_passed(alloc, graph, 0, input, &[1])?;
-    let ready = ready_then(alloc, graph, 0, input, &[1])?;
+    let ready = ready_then(alloc, graph, 0, input.input(), &[1])?;
     Ok((points.len(), ready.len()))
 }
 
@@ -87,7 +88,7 @@ fn the_node_behind_is_ready_then(rt: HostRuntime) -> Result<(), Fail> {
 }
 
 // How many rows this input requires, and how many facts are known by it.
-fn told_by(alloc: Global, inputs: &[Input]) -> Result<(usize, usize), AllocError> {
+fn told_by(alloc: Global, inputs: &[SharedInput]) -> Result<(usize, usize), AllocError> {
     let needs = [name(alloc)?];
     let required = required(alloc, inputs)?;
     let known = known(alloc, inputs, &needs)?;

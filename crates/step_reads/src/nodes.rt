@@ -8,7 +8,7 @@ ghost use Rattle.core_state.specs.Reads.{IsDone, IsReady};
 ghost use Rattle.step_relation.specs.Resends.{IsOpen};
 ghost use Rattle.step_reads.specs.Readiness.{ComesFrom, HaveAll, IsReadyWith, LacksOne};
 
-use core_state::{Graph, Input, Point};
+use core_state::{Graph, Point, SharedInput};
 use std::alloc::{AllocError, Global};
 
 /// A node's point; none where the graph has none.
@@ -90,7 +90,7 @@ fn is_among(nodes: &[u32], node: u32) -> bool
 }
 
 // The nodes that gave these inputs, and this one, none before a lower one.
-fn sources(alloc: Global, inputs: &[Input], from: Option<u32>) -> Result<Vec<u32>, AllocError>
+fn sources(alloc: Global, inputs: &[SharedInput], from: Option<u32>) -> Result<Vec<u32>, AllocError>
     ensures sorted { IfOk result (λ sources. IsNonDecreasing sources.items) }
     ensures each { IfOk result (λ sources.
         (a : _) → Contains sources.items a ↔ ComesFrom inputs.now from a) }
@@ -101,13 +101,13 @@ fn sources(alloc: Global, inputs: &[Input], from: Option<u32>) -> Result<Vec<u32
 }
 
 // The nodes that gave these inputs in their order, and this one.
-fn givers(alloc: Global, inputs: &[Input], from: Option<u32>) -> Result<Vec<u32>, AllocError>
+fn givers(alloc: Global, inputs: &[SharedInput], from: Option<u32>) -> Result<Vec<u32>, AllocError>
     ensures { IfOk result (λ givers.
         givers.items ≡ map (λ x. x.from) inputs.now ++ option_to_list from) }
 {
     let mut givers = Vec::new(alloc);
-    for input in inputs {
-        givers.push(input.from)?;
+    for given in inputs {
+        givers.push(given.input().from)?;
     }
     match from {
         Some(from) => {

@@ -4,7 +4,7 @@ ghost use Rattle.step_relation.specs.Inputs.{gathered, has_from, passed_points, 
 ghost use Rattle.step_reads.specs.Points.{gathered_if, inputs_in, point_with};
 
 use crate::nodes::{is_done, point_of};
-use core_state::{Graph, Input, Point};
+use core_state::{Batch, Graph, Point, SharedInput};
 use heat_value::{Seq, TryCopy};
 use std::alloc::{AllocError, Global};
 
@@ -14,12 +14,12 @@ pub fn points_passed(
     alloc: Global,
     graph: &Graph,
     node: u32,
-    input: &Input,
+    input: &SharedInput,
     succs: &[u32],
-) -> Result<Seq<Point>, AllocError>
+) -> Result<Batch<Point>, AllocError>
     ensures { IfOk result (λ points. points ≡ passed_points graph.now node input.now succs.now) }
 {
-    let mut points = Seq::new(alloc);
+    let mut points = Batch::new(alloc);
     points.push(own_point(alloc, graph, node, input, succs)?)?;
     for succ in succs {
         points.push(point_with(alloc, graph, node, *succ, Some(input))?)?;
@@ -32,7 +32,7 @@ fn own_point(
     alloc: Global,
     graph: &Graph,
     node: u32,
-    input: &Input,
+    input: &SharedInput,
     succs: &[u32],
 ) -> Result<Point, AllocError>
     ensures { IfOk result (λ p. p ≡ point_after graph.now node input.now succs.now node) }
@@ -50,7 +50,7 @@ fn point_with(
     graph: &Graph,
     done: u32,
     node: u32,
-    input: Option<&Input>,
+    input: Option<&SharedInput>,
 ) -> Result<Point, AllocError>
     ensures { IfOk result (λ p.
         p ≡ point_with graph.now done node (option_map (λ x. x.now) input.entry)) }
@@ -65,7 +65,7 @@ fn point_with(
 }
 
 // The inputs of a point, if it stands.
-fn inputs_in(alloc: Global, point: Option<&Point>) -> Result<Seq<Input>, AllocError>
+fn inputs_in(alloc: Global, point: Option<&Point>) -> Result<Seq<SharedInput>, AllocError>
     ensures { IfOk result (λ inputs. inputs ≡ inputs_in (option_map (λ p. p.now) point.entry)) }
 {
     match point {
@@ -75,7 +75,7 @@ fn inputs_in(alloc: Global, point: Option<&Point>) -> Result<Seq<Input>, AllocEr
 }
 
 // The inputs with this one, unless its node gave one already.
-fn gathered_if(inputs: Seq<Input>, input: Option<&Input>) -> Result<Seq<Input>, AllocError>
+fn gathered_if(inputs: Seq<SharedInput>, input: Option<&SharedInput>) -> Result<Seq<SharedInput>, AllocError>
     ensures { IfOk result (λ all. all ≡ gathered_if (option_map (λ x. x.now) input.entry) inputs) }
 {
     match input {
@@ -85,10 +85,10 @@ fn gathered_if(inputs: Seq<Input>, input: Option<&Input>) -> Result<Seq<Input>, 
 }
 
 // The inputs with this one, unless its node gave one already.
-fn gathered(inputs: Seq<Input>, input: &Input) -> Result<Seq<Input>, AllocError>
+fn gathered(inputs: Seq<SharedInput>, input: &SharedInput) -> Result<Seq<SharedInput>, AllocError>
     ensures { IfOk result (λ all. all ≡ gathered input.now inputs) }
 {
-    if has_from(inputs.as_slice(), input.from) {
+    if has_from(inputs.as_slice(), input.input().from) {
         return Ok(inputs);
     }
     let mut all = inputs;
@@ -97,8 +97,8 @@ fn gathered(inputs: Seq<Input>, input: &Input) -> Result<Seq<Input>, AllocError>
 }
 
 // Whether a node gave one of the inputs.
-fn has_from(inputs: &[Input], from: u32) -> bool
+fn has_from(inputs: &[SharedInput], from: u32) -> bool
     ensures { result ≡ has_from from inputs.now }
 {
-    inputs.iter().any(|input| input.from == from)
+    inputs.iter().any(|given| given.input().from == from)
 }

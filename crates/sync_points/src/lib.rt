@@ -3,5 +3,7 @@
 #![tactic(auto)]
 
 mod point;
+mod shared_input;
 
 pub use point::{Input, Point};
+pub use shared_input::SharedInput;

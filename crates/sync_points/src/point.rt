@@ -1,7 +1,8 @@
 //! What the nodes of a graph were given by those before them.
 
+use crate::SharedInput;
 use heat_plan::{Facts, ResName, RowNo, StackName};
-use heat_value::{Seq, TryCopy, copy_option};
+use heat_value::{Equals, Seq, TryCopy, copy_option};
 use std::alloc::AllocError;
 
 /// What the node at the place `from` gave: the name and the facts are those of an update node.
@@ -29,7 +30,7 @@ impl Drop for Input {
 pub struct Point {
     pub stack: StackName,
     pub node: u32,
-    pub inputs: Seq<Input>,
+    pub inputs: Seq<SharedInput>,
     pub done: bool,
 }
 
@@ -63,5 +64,23 @@ impl TryCopy for Point {
             inputs: self.inputs.copy()?,
             done: self.done,
         })
+    }
+}
+
+impl Equals for Input {
+    fn equals(&self, other: &Input) -> bool {
+        self.from == other.from
+            && self.name.equals(&other.name)
+            && self.row == other.row
+            && self.facts.equals(&other.facts)
+    }
+}
+
+impl Equals for Point {
+    fn equals(&self, other: &Point) -> bool {
+        self.stack.equals(&other.stack)
+            && self.node == other.node
+            && self.inputs.equals(&other.inputs)
+            && self.done == other.done
     }
 }
