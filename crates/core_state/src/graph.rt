@@ -3,7 +3,7 @@ ghost use Rattle.std.specs.Prelude.{◌≡◌, IfOk};
 ghost use Rattle.core_state.specs.Graphs.{fresh_points};
 
 use heat_plan::StackName;
-use heat_value::TryCopy;
+use heat_value::{Equals, TryCopy};
 use indexed_points::NodePoints;
 use keyed_table::Keyed;
 use std::alloc::{AllocError, Global};
@@ -74,5 +74,13 @@ impl TryCopy for Graph {
             graph: self.graph.copy()?,
             points: self.points.copy()?,
         })
+    }
+}
+
+impl Equals for Graph {
+    fn equals(&self, other: &Graph) -> bool {
+        self.stack.equals(&other.stack)
+            && self.graph.equals(&other.graph)
+            && self.points.equals(&other.points)
     }
 }

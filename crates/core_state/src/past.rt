@@ -2,7 +2,7 @@
 
 use crate::shared_plan::SharedPlan;
 use heat_plan::StackName;
-use heat_value::{TryCopy, copy_option};
+use heat_value::{Equals, TryCopy, copy_option};
 use keyed_table::Keyed;
 use std::alloc::AllocError;
 
@@ -60,5 +60,13 @@ impl TryCopy for Past {
             rollback: self.rollback,
             back: copy_option(&self.back)?,
         })
+    }
+}
+
+impl Equals for Past {
+    fn equals(&self, other: &Past) -> bool {
+        self.stack.equals(&other.stack)
+            && self.rollback == other.rollback
+            && self.back.equals(&other.back)
     }
 }

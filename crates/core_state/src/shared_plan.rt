@@ -2,7 +2,7 @@
 ghost use Rattle.std.specs.Prelude.{◌≡◌, IfOk};
 
 use heat_plan::Plan;
-use heat_value::TryCopy;
+use heat_value::{Equals, TryCopy};
 use std::alloc::{AllocError, Global};
 use std::marker::Model;
 use std::sync::Arc;
@@ -50,5 +50,11 @@ impl TryCopy for SharedPlan {
         Ok(SharedPlan {
             plan: Arc::try_clone(&self.plan)?,
         })
+    }
+}
+
+impl Equals for SharedPlan {
+    fn equals(&self, other: &SharedPlan) -> bool {
+        self.plan().equals(other.plan())
     }
 }

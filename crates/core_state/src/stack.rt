@@ -2,7 +2,7 @@
 
 use crate::shared_plan::SharedPlan;
 use heat_plan::{Act, StackName, StackNo, Status, TravNo};
-use heat_value::{TryCopy, copy_option};
+use heat_value::{Equals, TryCopy, copy_option};
 use keyed_table::Keyed;
 use std::alloc::AllocError;
 
@@ -69,5 +69,16 @@ impl TryCopy for Stack {
             status: self.status,
             plan: copy_option(&self.plan)?,
         })
+    }
+}
+
+impl Equals for Stack {
+    fn equals(&self, other: &Stack) -> bool {
+        self.name.equals(&other.name)
+            && self.no == other.no
+            && self.trav == other.trav
+            && self.act == other.act
+            && self.status == other.status
+            && self.plan.equals(&other.plan)
     }
 }

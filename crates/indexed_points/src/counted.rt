@@ -4,7 +4,7 @@ ghost use Rattle.indexed_points.specs.declared.point.SyncPoint.{SyncPoint};
 ghost use Rattle.indexed_points.specs.Points.{finished, missing_of, replaced, told, with_input, written};
 
 use crate::point::{Gathered, SyncPoint};
-use heat_value::{Seq, TryCopy};
+use heat_value::{Equals, Seq, TryCopy};
 use std::alloc::AllocError;
 use std::marker::Model;
 use sync_points::{Input, Point, SharedInput};
@@ -110,5 +110,11 @@ impl TryCopy for CountedPoint {
             point: self.point.copy()?,
             missing: self.missing,
         })
+    }
+}
+
+impl Equals for CountedPoint {
+    fn equals(&self, other: &CountedPoint) -> bool {
+        self.point.equals(&other.point)
     }
 }

@@ -5,7 +5,7 @@ ghost use Rattle.indexed_points.specs.Points.{own_points};
 
 use crate::table::SyncPoints;
 use heat_plan::StackName;
-use heat_value::{Seq, TryCopy};
+use heat_value::{Equals, Seq, TryCopy};
 use std::alloc::{AllocError, Global};
 use std::marker::Model;
 use sync_points::Point;
@@ -74,5 +74,11 @@ impl TryCopy for NodePoints {
         Ok(NodePoints {
             points: self.points.copy()?,
         })
+    }
+}
+
+impl Equals for NodePoints {
+    fn equals(&self, other: &NodePoints) -> bool {
+        self.points.gives_same(&other.points)
     }
 }

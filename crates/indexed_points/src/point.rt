@@ -5,7 +5,7 @@ ghost use Rattle.indexed_points.specs.Numbers.{fresh_point};
 ghost use Rattle.indexed_points.specs.Points.{given, has_from, is_before, is_full, missing_of, with_input, written};
 
 use heat_plan::StackName;
-use heat_value::{Seq, TryCopy};
+use heat_value::{Equals, Seq, TryCopy};
 use std::alloc::{AllocError, Global};
 use sync_points::{Input, Point, SharedInput};
 
@@ -129,6 +129,12 @@ impl TryCopy for SyncPoint {
             point: self.point.copy()?,
             preds: Seq::from_vec(preds),
         })
+    }
+}
+
+impl Equals for SyncPoint {
+    fn equals(&self, other: &SyncPoint) -> bool {
+        self.point.equals(&other.point) && self.preds.equals(&other.preds)
     }
 }
 

@@ -1,6 +1,6 @@
 //! The indexed form of the points.
-ghost use Rattle.std.specs.Prelude.{◌≡◌, ◌<◌, [], Some, IsSome, IfOk, IfSome, nat_eq, length};
-ghost use Rattle.std.specs.Prelude.{option_map, slice_get, slice_set};
+ghost use Rattle.std.specs.Prelude.{◌≡◌, ◌<◌, ◌↔◌, [], Some, IsSome, IsTrue, IfOk, IfSome};
+ghost use Rattle.std.specs.Prelude.{nat_eq, length, option_map, slice_get, slice_set};
 ghost use Rattle.std.specs.List.{position_from};
 ghost use Rattle.indexed_points.specs.declared.point.SyncPoint.{SyncPoint};
 ghost use Rattle.indexed_points.specs.Points.{own_points, point_at};
@@ -10,7 +10,7 @@ use crate::counted::CountedPoint;
 use crate::point::{Gathered, SyncPoint};
 use crate::points::Points;
 use heat_plan::StackName;
-use heat_value::{Seq, TryCopy};
+use heat_value::{Equals, Seq, TryCopy};
 use std::alloc::{AllocError, Global};
 use std::marker::Model;
 use sync_points::{Input, Point, SharedInput};
@@ -84,6 +84,22 @@ impl SyncPoints {
         }
     }
 
+    /// Whether the other's nodes were given the same, whatever nodes stand before them.
+    pub(crate) fn gives_same(&self, other: &SyncPoints) -> bool
+        ensures { IsTrue result ↔ (own_points self.now ≡ own_points other.now) }
+    {
+        if self.points.len() != other.points.len() {
+            return false;
+        }
+        for i in 0..self.points.len() {
+            let its = &other.points[i].point().point;
+            if !self.points[i].point().point.equals(its) {
+                return false;
+            }
+        }
+        true
+    }
+
     // The place of the node's point; none where the graph has no such node.
     fn find(&self, node: u32) -> Option<usize>
         ensures place { result ≡ position_from (λ (x : SyncPoint). nat_eq x.point.node node) 0 self.now }
@@ -152,5 +168,19 @@ impl TryCopy for SyncPoints {
             points.push(point.copy()?)?;
         }
         Ok(SyncPoints { points })
+    }
+}
+
+impl Equals for SyncPoints {
+    fn equals(&self, other: &SyncPoints) -> bool {
+        if self.points.len() != other.points.len() {
+            return false;
+        }
+        for i in 0..self.points.len() {
+            if !self.points[i].equals(&other.points[i]) {
+                return false;
+            }
+        }
+        true
     }
 }

@@ -2,7 +2,7 @@
 ghost use Rattle.std.specs.Prelude.{◌≡◌};
 
 use heat_plan::{Facts, Properties, Token};
-use heat_value::{Text, TryCopy};
+use heat_value::{Equals, Text, TryCopy};
 use std::alloc::AllocError;
 
 /// An alive resource, under its kind's name. Its facts are told where it is ready, and free before.
@@ -52,5 +52,15 @@ impl TryCopy for Alive {
             facts: self.facts.copy()?,
             ready: self.ready,
         })
+    }
+}
+
+impl Equals for Alive {
+    fn equals(&self, other: &Alive) -> bool {
+        self.token.equals(&other.token)
+            && self.kind.equals(&other.kind)
+            && self.props.equals(&other.props)
+            && self.facts.equals(&other.facts)
+            && self.ready == other.ready
     }
 }

@@ -1,6 +1,6 @@
 //! What a cloud's trace keeps: each call with its answer, but for those that answered Memory.
 use heat_plan::{Answered, Request, Token};
-use heat_value::TryCopy;
+use heat_value::{Equals, TryCopy};
 use std::alloc::AllocError;
 
 /// How a listing ended; what it gave was the alive list of that moment.
@@ -35,6 +35,23 @@ impl TryCopy for Traced {
                 answered.copy()?,
             )),
             Traced::Listed(listing) => Ok(Traced::Listed(*listing)),
+        }
+    }
+}
+
+impl Equals for Traced {
+    fn equals(&self, other: &Traced) -> bool {
+        match (self, other) {
+            (
+                Traced::Called(token, request, answered),
+                Traced::Called(its_token, its_request, its_answered),
+            ) => {
+                token.equals(its_token)
+                    && request.equals(its_request)
+                    && answered.equals(its_answered)
+            }
+            (Traced::Listed(listing), Traced::Listed(its_listing)) => *listing == *its_listing,
+            _ => false,
         }
     }
 }
