@@ -216,6 +216,7 @@ MarksAll-along Edge count nodes marks s x lt = (
   (λ h. marked (Against Edge) count nodes marks s x h.0 h.1 (turned (Against Edge) h.0 x h.2)),
 )
 
+-- what is reached from the one node is what is reached from those of a list with it alone
 pub MarksAll-one : (Edge : ℕ → ℕ → Type 0) (from : ℕ) (marks : List Bool) → MarksAll (HasPathFrom Edge (from ∷ [])) marks
     → MarksAll (λ node. HasPath Edge from node) marks
 MarksAll-one Edge from marks all x lt = (

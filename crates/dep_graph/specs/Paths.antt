@@ -15,7 +15,7 @@ IsPath Edge from to (first ∷ rest) = (first ≡ from) × Leads Edge from rest 
 abbrev pub HasPath : (ℕ → ℕ → Type 0) → ℕ → ℕ → Type 0
 HasPath Edge from to = (path : List ℕ) × IsPath Edge from to path
 
--- some path goes from one of the nodes to another
+-- some path goes from one of the nodes to this one
 abbrev pub HasPathFrom : (ℕ → ℕ → Type 0) → List ℕ → ℕ → Type 0
 HasPathFrom Edge nodes to = (from : ℕ) × Contains nodes from × HasPath Edge from to
 

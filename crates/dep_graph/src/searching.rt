@@ -1,7 +1,7 @@
 //! Which nodes a path joins to one, or to one of several: a search that marks what it meets, against
 //! the edges or along them.
 
-ghost use Rattle.std.specs.Prelude.{◌≡◌, ◌<◌, ◌≤◌, All, IfOk, OnOk, length};
+ghost use Rattle.std.specs.Prelude.{◌≡◌, ◌<◌, All, IfOk, OnOk, length};
 ghost use Rattle.dep_graph.specs.Paths.{HasPath, HasPathFrom};
 ghost use Rattle.dep_graph.specs.Edges.{HasEdge};
 ghost use Rattle.dep_graph.specs.Marks.{MarksAll, MarksAmong, MarksNew};
@@ -34,6 +34,10 @@ impl Graph {
         ensures { IfOk result
             (MarksAmong nodes.now (λ node. HasPath (HasEdge self.now) node goal)) }
     {
+        if self.preds(goal).is_empty() {
+            return self.reaching(goal);
+        }
+
         // Most often none of them reaches the goal: one search from all of them tells that.
         let reached = self.reached_from(nodes)?;
         if !reached.has(goal) {
