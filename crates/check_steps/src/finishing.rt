@@ -40,13 +40,13 @@ fn passed_by<'a>(alloc: Global, job: &'a Job, fresh: Fresh<'a>) -> Result<Passed
         → IfOk result (IsPassed s e) }
 {
     let node = job.letter.node;
-    let input = SharedInput::new(alloc, input_of(node, fresh.node, job.row, fresh.row)?)?;
+    let shared = SharedInput::new(alloc, input_of(node, fresh.node, job.row, fresh.row)?)?;
     let succs = succs_of(fresh.graph, node)?;
-    let ready = ready_then(alloc, fresh.graph, node, input.input(), succs.as_slice())?;
+    let ready = ready_then(alloc, fresh.graph, node, shared.input(), succs.as_slice())?;
     Ok(Passed {
         job,
         fresh,
-        input,
+        input: shared,
         succs,
         ready,
     })

@@ -70,8 +70,8 @@ fn has_input(graph: &Graph, node: usize, before: u32) -> bool
     let Some(point) = graph.points.get(node) else {
         return false;
     };
-    for given in point.inputs.as_slice() {
-        if given.input().from == before {
+    for shared in point.inputs.as_slice() {
+        if shared.input().from == before {
             return true;
         }
     }

@@ -79,6 +79,6 @@ impl TryCopy for NodePoints {
 
 impl Equals for NodePoints {
     fn equals(&self, other: &NodePoints) -> bool {
-        self.points.gives_same(&other.points)
+        self.points.has_same_points(&other.points)
     }
 }

@@ -142,7 +142,7 @@ impl Equals for SyncPoint {
 fn has_from(inputs: &[SharedInput], from: u32) -> bool
     ensures { result ≡ has_from from inputs.now }
 {
-    inputs.iter().any(|given| given.input().from == from)
+    inputs.iter().any(|shared| shared.input().from == from)
 }
 
 // The input, as that of the node that gives it.

@@ -84,8 +84,8 @@ impl SyncPoints {
         }
     }
 
-    /// Whether the other's nodes were given the same, whatever nodes stand before them.
-    pub(crate) fn gives_same(&self, other: &SyncPoints) -> bool
+    /// Whether the points are the other's, whatever nodes stand before them.
+    pub(crate) fn has_same_points(&self, other: &SyncPoints) -> bool
         ensures { IsTrue result ↔ (own_points self.now ≡ own_points other.now) }
     {
         if self.points.len() != other.points.len() {

@@ -4,7 +4,7 @@ use core_state::{
     Batch, Change, Job, Letter, Next, Numbers, Point, Stack, Stage, State, ready_all,
 };
 use heat_plan::{Act, StackName, StackNo, Status};
-use heat_value::{Equals, Seq, TryCopy};
+use heat_value::Seq;
 use std::alloc::{AllocError, Global};
 use traversal_graph::{Node, TravGraph};
 
@@ -174,16 +174,12 @@ fn is_done(state: &State, stack: &StackName) -> bool {
     }
 }
 
-// Whether a node's point is put into its stack's graph, which equals a copy until then.
+// Whether a node's point is put into its stack's graph.
 fn is_a_point_put(alloc: Global, state: &mut State) -> Result<bool, AllocError> {
     put_stack(alloc, state, b's', 1)?;
     put_graph(alloc, state)?;
-    let stack = stack_name(alloc, b's')?;
-    let copy = state.graph(&stack).ok_or(AllocError)?.copy()?;
-    let same = state.graph(&stack).ok_or(AllocError)?.equals(&copy);
     put_point(alloc, state)?;
-    let changed = !state.graph(&stack).ok_or(AllocError)?.equals(&copy);
-    Ok(same && changed && is_done(state, &stack))
+    Ok(is_done(state, &stack_name(alloc, b's')?))
 }
 
 // What is to hold of a state that holds nothing at first.

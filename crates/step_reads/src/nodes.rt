@@ -106,8 +106,8 @@ fn givers(alloc: Global, inputs: &[SharedInput], from: Option<u32>) -> Result<Ve
         givers.items ≡ map (λ x. x.from) inputs.now ++ option_to_list from) }
 {
     let mut givers = Vec::new(alloc);
-    for given in inputs {
-        givers.push(given.input().from)?;
+    for shared in inputs {
+        givers.push(shared.input().from)?;
     }
     match from {
         Some(from) => {

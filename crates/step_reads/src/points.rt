@@ -75,7 +75,10 @@ fn inputs_in(alloc: Global, point: Option<&Point>) -> Result<Seq<SharedInput>, A
 }
 
 // The inputs with this one, unless its node gave one already.
-fn gathered_if(inputs: Seq<SharedInput>, input: Option<&SharedInput>) -> Result<Seq<SharedInput>, AllocError>
+fn gathered_if(
+    inputs: Seq<SharedInput>,
+    input: Option<&SharedInput>,
+) -> Result<Seq<SharedInput>, AllocError>
     ensures { IfOk result (λ all. all ≡ gathered_if (option_map (λ x. x.now) input.entry) inputs) }
 {
     match input {
@@ -85,14 +88,14 @@ fn gathered_if(inputs: Seq<SharedInput>, input: Option<&SharedInput>) -> Result<
 }
 
 // The inputs with this one, unless its node gave one already.
-fn gathered(inputs: Seq<SharedInput>, input: &SharedInput) -> Result<Seq<SharedInput>, AllocError>
-    ensures { IfOk result (λ all. all ≡ gathered input.now inputs) }
+fn gathered(inputs: Seq<SharedInput>, shared: &SharedInput) -> Result<Seq<SharedInput>, AllocError>
+    ensures { IfOk result (λ all. all ≡ gathered shared.now inputs) }
 {
-    if has_from(inputs.as_slice(), input.input().from) {
+    if has_from(inputs.as_slice(), shared.input().from) {
         return Ok(inputs);
     }
     let mut all = inputs;
-    all.push(input.copy()?)?;
+    all.push(shared.copy()?)?;
     Ok(all)
 }
 
@@ -100,5 +103,5 @@ fn gathered(inputs: Seq<SharedInput>, input: &SharedInput) -> Result<Seq<SharedI
 fn has_from(inputs: &[SharedInput], from: u32) -> bool
     ensures { result ≡ has_from from inputs.now }
 {
-    inputs.iter().any(|given| given.input().from == from)
+    inputs.iter().any(|shared| shared.input().from == from)
 }

@@ -1,6 +1,6 @@
 use Rattle.std.proofs.Common.{◌≡◌, ◌↔◌, drop}
 use Rattle.indexed_points.specs.Points.{own_points}
-use Rattle.indexed_points.proofs.table.SyncPoints.gives_same.Given as goal
+use Rattle.indexed_points.proofs.table.SyncPoints.has_same_points.Given as goal
 
 -- what is left decides
 abbrev pub invariant-loop-i : goal.invariant-loop-i
