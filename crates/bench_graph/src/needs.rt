@@ -1,6 +1,6 @@
 //! A thousand items with 190,209 needs, as many as a template of 1 MiB can name: each item needs the
 //! 213 before it, by the items' names, against them, or across them. The items are new, or an update finds
-//! a row of each, which requires the rows of its needs.
+//! a row of each, which requires the rows of its needs, or a delete finds these rows alone.
 
 use crate::traversal::{item_needing, number, row_requiring};
 use anyhow::{Result, bail};
@@ -30,10 +30,17 @@ pub fn drawn_again(alloc: Global, shape: Shape) -> Result<usize> {
     edges_of(alloc, &items(alloc, shape)?, &rows(alloc, shape)?)
 }
 
+/// How many edges it has where no item is left and the rows go.
+pub fn drawn_gone(alloc: Global, shape: Shape) -> Result<usize> {
+    edges_of(alloc, &[], &rows(alloc, shape)?)
+}
+
 fn edges_of(alloc: Global, items: &[Item], rows: &[RowBrief]) -> Result<usize> {
     let mut chosen = Vec::new(alloc);
     for place in 0..COUNT {
-        chosen.push(number(place)?)?;
+        if chosen.len() < items.len() {
+            chosen.push(number(place)?)?;
+        }
     }
     if chosen.len() != items.len() || !are_in_order(items) {
         bail!("items in order, and a row for each");
