@@ -1,8 +1,8 @@
 #!/bin/sh
 # Prints processor seconds, peak memory and growth of driving a script that creates, runs and lists one
 # stack of 125, 250, 500 and 1,000 resources; then of a script that creates one of 1,000 resources with 190,209
-# needs, as many as a line of 1 MiB can name, and of one that runs it too, which takes half a minute, since each input
-# of a node copies those that it has. It judges nothing. python3 makes the scripts.
+# needs, as many as a line of 1 MiB can name, and of one that runs it too, which takes some ten seconds, since the end
+# of each node looks through all edges for each node behind it. It judges nothing. python3 makes the scripts.
 set -e
 cd "$(dirname "$0")/../crates/heat_converge"
 rt run -- drive </dev/null >/dev/null 2>&1
