@@ -1,7 +1,7 @@
 #!/bin/sh
 # Prints processor seconds, peak memory and growth of driving a script that creates, runs and lists one
 # stack of 125, 250, 500 and 1,000 resources; then of a script that creates one of 1,000 resources with 190,209
-# needs, as many as a line of 1 MiB can name, and of one that runs it too, which takes some ten seconds, since the end
+# needs, as many as a line of 1 MiB can name, and of one that runs it too, which takes a quarter of a minute, since the end
 # of each node looks through all edges for each node behind it. It judges nothing. python3 makes the scripts.
 set -e
 cd "$(dirname "$0")/../crates/heat_converge"
