@@ -1,8 +1,9 @@
 #!/usr/bin/env bash
 # Runs each test of these crates, as `rt test` built it, once for each allocation that it makes, with that one
 # refused, and prints the first at which the test doesn't pass. Of a test with more than MOST allocations so
-# many are refused, evenly spread. What wasn't built here, or can't be for want of a C compiler, is left out.
-# Use: MOST=n .ci/allocations.sh CRATE... It ends with 1 where a test didn't pass, and else with 0.
+# many are refused, evenly spread. Where there is no C compiler or no python3 nothing is run, and it ends with 0.
+# Use: MOST=n .ci/allocations.sh CRATE... It ends with 1 where a test didn't pass, or a crate has no tests or its
+# tests weren't built, and else with 0.
 cd "$(dirname "$0")/.." || exit 1
 folder=$(mktemp -d) || exit 1
 trap 'rm -rf "$folder"' EXIT
@@ -31,9 +32,15 @@ is_well = True
 for crate in crates:
     program = os.path.abspath(f"crates/{crate}/out/{crate}_tests")
     if not os.path.exists(program):
+        print(f"{crate}: no tests stand in crates/{crate}/out")
+        is_well = False
         continue
     listed = subprocess.run([program, "--list"], capture_output=True, text=True).stdout
-    for test in (line.split(": ")[0] for line in listed.splitlines() if line.endswith(": test")):
+    tests = [line.split(": ")[0] for line in listed.splitlines() if line.endswith(": test")]
+    if not tests:
+        print(f"{crate}: its test program lists no tests")
+        is_well = False
+    for test in tests:
         count = run(program, test, 0)[1]
         step = max(1, -(-count // most))
         places = range(1, count + 1, step)

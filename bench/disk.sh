@@ -3,11 +3,11 @@
 # figures and judges nothing.
 # Use: bench/disk.sh [APPENDS]
 set -eu
-cd "$(dirname "$0")/../crates/bench_disk"
+cd "$(dirname "$0")/../crates/bench_core"
 appends="${1:-500}"
-rt run -- 1 >/dev/null 2>&1
+rt run -- disk 1 >/dev/null 2>&1
 rm -f bench_disk.file bench_disk.file.2
-program="$PWD/out/bench_disk"
+program="$PWD/out/bench_core"
 folder="$(mktemp -d)"
 trap 'rm -rf "$folder"' EXIT
 cd "$folder"
@@ -16,7 +16,7 @@ import os, resource, subprocess, sys, time
 program, appends = sys.argv[1], int(sys.argv[2])
 
 start = time.time()
-done = subprocess.run([program, str(appends)], check=True, capture_output=True, text=True)
+done = subprocess.run([program, "disk", str(appends)], check=True, capture_output=True, text=True)
 wall = time.time() - start
 used = resource.getrusage(resource.RUSAGE_CHILDREN)
 print(done.stdout.strip())

@@ -4,12 +4,12 @@
 # and judges nothing.
 # Use: bench/journal.sh [RECORDS] [ROUNDS]
 set -eu
-cd "$(dirname "$0")/../crates/bench_journal"
+cd "$(dirname "$0")/../crates/bench_core"
 records="${1:-100}"
 rounds="${2:-9}"
-rt run -- 0 >/dev/null 2>&1
+rt run -- journal 0 >/dev/null 2>&1
 rm -f bench_journal.file bench_journal.file.2
-program="$PWD/out/bench_journal"
+program="$PWD/out/bench_core"
 folder="$(mktemp -d)"
 trap 'rm -rf "$folder"' EXIT
 cd "$folder"
@@ -22,7 +22,7 @@ def seconds(count, *words):
         if os.path.exists(name):
             os.remove(name)
     start = time.time()
-    done = subprocess.run([program, str(count), *words], check=True, capture_output=True, text=True)
+    done = subprocess.run([program, "journal", str(count), *words], check=True, capture_output=True, text=True)
     wall = time.time() - start
     if done.stdout.split()[0] != str(count):
         sys.exit(done.stdout.strip())

@@ -2,15 +2,15 @@
 # Locks and releases a second, with one, two and four threads. It prints figures and judges nothing.
 # Use: bench/lock.sh [HOLDS], the holds of each thread.
 set -eu
-cd "$(dirname "$0")/../crates/bench_lock"
+cd "$(dirname "$0")/../crates/bench_core"
 holds="${1:-200000}"
-rt run -- 1 1 >/dev/null 2>&1
+rt run -- lock 1 1 >/dev/null 2>&1
 for threads in 1 2 4; do
     python3 - "$threads" "$holds" <<'PYTHON'
 import resource, subprocess, sys, time
 threads, holds = sys.argv[1], sys.argv[2]
 start = time.time()
-done = subprocess.run(["out/bench_lock", threads, holds], check=True, capture_output=True, text=True)
+done = subprocess.run(["out/bench_core", "lock", threads, holds], check=True, capture_output=True, text=True)
 wall = time.time() - start
 used = resource.getrusage(resource.RUSAGE_CHILDREN)
 total = int(threads) * int(holds)

@@ -6,15 +6,15 @@
 # net seconds. The least of seven runs is taken; /usr/bin/time tells the peak, since a child of python3 begins
 # with that of python3. It judges nothing.
 set -e
-cd "$(dirname "$0")/../crates/bench_steps"
-rt run -- chain delete 1 >/dev/null 2>&1
-python3 - out/bench_steps <<'END'
+cd "$(dirname "$0")/../crates/bench_engine"
+rt run -- steps chain delete 1 >/dev/null 2>&1
+python3 - out/bench_engine <<'END'
 import os, subprocess, sys
 
 PHASES = ("create", "same", "change", "delete")
 
 def once(words):
-    command = ["/usr/bin/time", "-f", "%M", sys.argv[1], *words]
+    command = ["/usr/bin/time", "-f", "%M", sys.argv[1], "steps", *words]
     child = subprocess.Popen(command, stdout=subprocess.PIPE, stderr=subprocess.PIPE)
     text, peak = (stream.read().decode().strip() for stream in (child.stdout, child.stderr))
     _, status, used = os.wait4(child.pid, 0)

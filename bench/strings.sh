@@ -4,18 +4,18 @@
 set -eu
 
 top=$(cd "$(dirname "$0")/.." && pwd)
-cd "$top/crates/bench_strings"
-rt run -- empty 0 >/dev/null
-run=$PWD/out/bench_strings
+cd "$top/crates/bench_engine"
+rt run -- strings empty 0 >/dev/null
+run=$PWD/out/bench_engine
 
 # one run: seconds of processor time and peak memory in KB, behind what it printed
 measured() {
     if [ -x /usr/bin/time ]; then
-        printed=$(/usr/bin/time -o "$figures" -f '%U %S %M' "$run" "$@")
+        printed=$(/usr/bin/time -o "$figures" -f '%U %S %M' "$run" strings "$@")
         awk -v printed="$printed" '{ printf "%s %.2f %d\n", printed, $1 + $2, $3 }' "$figures"
     else
         # what Python itself takes hides a smaller peak
-        python3 - "$run" "$@" <<'PYTHON'
+        python3 - "$run" strings "$@" <<'PYTHON'
 import resource, subprocess, sys
 printed = subprocess.run(sys.argv[1:], capture_output=True, text=True, check=True).stdout.strip()
 used = resource.getrusage(resource.RUSAGE_CHILDREN)

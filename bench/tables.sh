@@ -4,13 +4,13 @@
 # and jobs that are put and found; points that get ten inputs each. The growth from one count to the next is
 # the power of the count, net of the calls' making; the least of five runs is taken. It judges nothing.
 set -e
-cd "$(dirname "$0")/../crates/bench_tables"
-rt run -- rows make 1 >/dev/null 2>&1
-python3 - out/bench_tables <<'END'
+cd "$(dirname "$0")/../crates/bench_core"
+rt run -- tables rows make 1 >/dev/null 2>&1
+python3 - out/bench_core <<'END'
 import math, os, subprocess, sys
 
 def once(words):
-    child = subprocess.Popen([sys.argv[1], *words], stdout=subprocess.PIPE)
+    child = subprocess.Popen([sys.argv[1], "tables", *words], stdout=subprocess.PIPE)
     text = child.stdout.read().decode().strip()
     _, status, used = os.wait4(child.pid, 0)
     assert status == 0, words

@@ -6,17 +6,17 @@
 # of 10,000 conditions, each reading the one behind it by a name that a repeat makes, with one that reads them all so. It
 # judges nothing.
 set -e
-cd "$(dirname "$0")/../crates/bench_templates"
-rt run -- bind 1 >/dev/null 2>&1
+cd "$(dirname "$0")/../crates/bench_engine"
+rt run -- templates bind 1 >/dev/null 2>&1
 for what in text value template bind admit; do
   printf '%s: ' "$what"
-  /usr/bin/time -f "%U s user, %S s system, %M KB" out/bench_templates "$what" 1000 2>&1 | paste -s -d' '
+  /usr/bin/time -f "%U s user, %S s system, %M KB" out/bench_engine templates "$what" 1000 2>&1 | paste -s -d' '
 done
 for many in 10000 30000; do
   printf 'chain of %s: ' "$many"
-  /usr/bin/time -f "%U s user, %S s system, %M KB" out/bench_templates chain "$many" 2>&1 | paste -s -d' '
+  /usr/bin/time -f "%U s user, %S s system, %M KB" out/bench_engine templates chain "$many" 2>&1 | paste -s -d' '
 done
 for many in 2500 5000 10000; do
   printf 'made chain of %s: ' "$many"
-  /usr/bin/time -f "%U s user, %S s system, %M KB" out/bench_templates made "$many" 2>&1 | paste -s -d' '
+  /usr/bin/time -f "%U s user, %S s system, %M KB" out/bench_engine templates made "$many" 2>&1 | paste -s -d' '
 done

@@ -1,16 +1,16 @@
 //! What the parameters of a template are bound to, where the test `nova.flavor` is registered.
 ghost use Rattle.std.specs.Prelude.{◌≡◌, ◌≤◌};
 ghost use Rattle.heat_value.specs.Data.{members_depth};
-ghost use Rattle.hot_registry.specs.Names.{is_listed};
-ghost use Rattle.hot_registry.specs.Shipped.{flavor_test as the_flavor_test};
+ghost use Rattle.type_catalog.specs.Names.{is_listed};
+ghost use Rattle.type_catalog.specs.Shipped.{flavor_test as the_flavor_test};
 
 use crate::cases::Teller;
 use crate::given::{fault_words, ids_of, props_of, template_of};
 use heat_value::{Props, Seq, Text};
 use hot_params::{Bound, bind};
-use hot_registry::{Ask, Custom, Registry, flavor_test, is_flavor};
 use hot_tree::Template;
 use std::alloc::{AllocError, Global};
+use type_catalog::{Ask, Custom, Registry, flavor_test, is_flavor};
 
 // A registry with the test of flavours.
 fn flavors_of(alloc: Global) -> Result<Registry, AllocError> {

@@ -8,9 +8,9 @@ use heat_plan::{StackName, StackNo};
 use heat_value::{Path, Props, Seq, TryCopy, Value};
 use hot_catalog::Catalog;
 use hot_params::{Bound, Ids, bind};
-use hot_registry::Registry;
 use hot_tree::Template;
 use std::alloc::{AllocError, Global};
+use type_catalog::Registry;
 
 /// A text in single quotes, read.
 pub(crate) fn value_of(alloc: Global, text: &str) -> Result<Value, AllocError>

@@ -3,11 +3,11 @@ use crate::cases::{Case, Teller, wrong_among};
 use crate::given::{catalog_of, fault_words, ids_of, registry_of};
 use crate::words::bound_plan_words;
 use hot_catalog::Catalog;
-use hot_registry::Registry;
 use script_lines::{Body, Line};
 use std::alloc::{AllocError, Global};
 use std::test::Fail;
 use template_plans::plan_of;
+use type_catalog::Registry;
 
 // A box with a property.
 const KINDS: &str = "{'Box':{'properties':{'size':{}}}}";

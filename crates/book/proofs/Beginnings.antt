@@ -14,7 +14,7 @@ use Rattle.core_state.specs.declared.made.Made.{Made}
 use Rattle.core_state.specs.declared.stack.Stack.{Stack}
 use Rattle.step_relation.specs.Nexts.{Works}
 use Rattle.step_relation.specs.Sound.{Standing}
-use Rattle.work_laws.proofs.Finds.{points_stand}
+use Rattle.next_laws.proofs.Finds.{points_stand}
 use Rattle.step_parts.specs.Turns.{IsTurn, IsTurnRefusal}
 use Rattle.step_parts.specs.Turns as step
 use Rattle.step_reads.specs.Work.{IsFreshOf}

@@ -27,14 +27,14 @@ use Rattle.step_relation.specs.MailFits as under
 use Rattle.step_relation.specs.Sound.{Standing}
 use Rattle.history_laws.proofs.tables.Rows.{same_some}
 use Rattle.next_laws.proofs.Parts.{AtJob, at_job, kind_one}
-use Rattle.work_laws.proofs.Finds.{calls_stand}
-use Rattle.work_laws.specs.Found.{CallStands, IsAskedAt}
-use Rattle.work_laws.specs.Found as asked_at
-use Rattle.step_ends.specs.Answers.{AnswersPoll, IsAsking}
-use Rattle.step_ends.specs.Answers as asking
+use Rattle.next_laws.proofs.Finds.{calls_stand}
+use Rattle.next_laws.specs.Found.{CallStands, IsAskedAt}
+use Rattle.next_laws.specs.Found as asked_at
+use Rattle.takeover_steps.specs.Answers.{AnswersPoll, IsAsking}
+use Rattle.takeover_steps.specs.Answers as asking
 use Rattle.heat_plan.specs.declared.calls.Request.TheVariants as request
-use Rattle.step_ends.specs.Lost.{IsOfUnknownSize}
-use Rattle.step_ends.specs.Lost as lost
+use Rattle.takeover_steps.specs.Lost.{IsOfUnknownSize}
+use Rattle.takeover_steps.specs.Lost as lost
 use Rattle.book.specs.Learning.{HasLearned, stored}
 use Rattle.book.specs.Learning.{told as told_alone}
 use Rattle.book.specs.Outcomes.{IsAnswered, IsCalled}

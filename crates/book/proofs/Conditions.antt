@@ -17,7 +17,7 @@ use Rattle.step_relation.specs.Opening.{Opening, first_of}
 use Rattle.step_relation.specs.Agrees.{IsGoing, absent, leaves}
 use Rattle.step_relation.specs.Headline.{MayBeAsked, create, delete, gone, poll, update}
 use Rattle.step_relation.specs.Sound.{Sound}
-use Rattle.work_laws.proofs.Finds.{calls_may_be_made}
+use Rattle.next_laws.proofs.Finds.{calls_may_be_made}
 use Rattle.heat_plan.specs.declared.calls.Request.TheVariants as request
 use Rattle.book.specs.Turned.{Requests}
 

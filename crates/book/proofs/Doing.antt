@@ -18,7 +18,7 @@ use Rattle.step_relation.specs.Steps.{Step}
 use Rattle.step_relation.specs.Steps as step
 use Rattle.step_relation.specs.Turns.{IsWorn, trav}
 use Rattle.history_laws.proofs.tells.Silence.{AreUncalling}
-use Rattle.work_laws.proofs.Below.{laid_uncalling}
+use Rattle.next_laws.proofs.WorkBelow.{laid_uncalling}
 use Rattle.takeover_steps.specs.Engines.{Enlists, Stops}
 use Rattle.book.specs.Commands.{IsOrder, Orders, RefusesOrder}
 use Rattle.book.specs.Kept.{IsKept, unjudged}

@@ -8,7 +8,7 @@ use Rattle.core_state.specs.declared.entry.Entry.{Entry}
 use Rattle.step_relation.specs.Could.{IsPossible, could_of}
 use Rattle.step_relation.specs.Laws.{opening_at}
 use Rattle.step_relation.specs.Sound.{Sound}
-use Rattle.work_laws.proofs.Below.{empty_is_sound}
+use Rattle.next_laws.proofs.WorkBelow.{empty_is_sound}
 use Rattle.graph_laws.proofs.whole.Whole.{runs_headline, runs_sound}
 use Rattle.dep_graph.specs.Lists.{IsRising}
 use Rattle.book.specs.Kept.{HasHeadline, IsKept, IsSoundBook, Shown, registries}

@@ -14,8 +14,8 @@ use Rattle.step_relation.specs.Writes.{entry_of}
 use Rattle.step_relation.specs.Could.{Allows, could_of}
 use Rattle.step_relation.specs.Opening.{Opening, first_of}
 use Rattle.history_laws.proofs.tells.Silence.{AreUncalling, IsUncalling, could-silent}
-use Rattle.work_laws.proofs.Below.{could_else, could_here}
-use Rattle.work_laws.proofs.Below.{token_or_not}
+use Rattle.next_laws.proofs.WorkBelow.{could_else, could_here}
+use Rattle.next_laws.proofs.WorkBelow.{token_or_not}
 use Rattle.book.specs.Kept.{call_of, calls_of}
 use Rattle.core_state.specs.declared.entry.What.TheVariants as what
 

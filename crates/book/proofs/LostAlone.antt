@@ -25,12 +25,12 @@ use Rattle.history_laws.proofs.tables.Rows.{same_some}
 use Rattle.next_laws.proofs.Parts.{Kind, Part, begins, goes, placed, readies, refuses, waits}
 use Rattle.next_laws.proofs.Turns.{ByMove, Whole, by_move, follows, stops}
 use Rattle.next_laws.proofs.Worn.{call_not_worn}
-use Rattle.turn_laws.specs.Suits as suits
-use Rattle.step_ends.specs.Lost.{IsOfUnknownSize}
-use Rattle.step_ends.specs.Lost as lost
+use Rattle.next_laws.specs.Suits as suits
+use Rattle.takeover_steps.specs.Lost.{IsOfUnknownSize}
+use Rattle.takeover_steps.specs.Lost as lost
 use Rattle.heat_plan.specs.declared.calls.Answered.TheVariants as answer
 use Rattle.heat_plan.specs.declared.calls.Request.TheVariants as request
-use Rattle.turn_laws.proofs.Turning.{turn_exists}
+use Rattle.next_laws.proofs.Turning.{turn_exists}
 use Rattle.book.specs.Outcomes.{IsCalled}
 use Rattle.book.proofs.Calling.{polls_now}
 use Rattle.book.proofs.Telling.{turn_calls}

@@ -22,7 +22,7 @@ use Rattle.step_relation.specs.Could.{IsPossible}
 use Rattle.step_relation.specs.Opening.{Opening}
 use Rattle.step_relation.specs.Numbered.{AllBelow}
 use Rattle.step_relation.specs.Sound.{Sound}
-use Rattle.work_laws.proofs.Below.{possible_before}
+use Rattle.next_laws.proofs.WorkBelow.{possible_before}
 use Rattle.graph_laws.proofs.whole.Whole.{runs_sound}
 use Rattle.book.proofs.Engined.{AreStill, applied-live, laid_still, turn_still}
 

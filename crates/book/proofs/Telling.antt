@@ -30,15 +30,15 @@ use Rattle.step_relation.specs.Takes.{relayed_letter, taken_job}
 use Rattle.step_relation.specs.Writes.{call_entry, complete_mark, failed_mark, lock_writes, mail_entry}
 use Rattle.step_relation.specs.Writes.{rows_entry, unlock_writes}
 use Rattle.history_laws.proofs.tells.Silence.{AreUncalling, uncalling-both, uncalling_rows}
-use Rattle.work_laws.proofs.Below.{laid_uncalling}
+use Rattle.next_laws.proofs.WorkBelow.{laid_uncalling}
 use Rattle.next_laws.proofs.Parts.{Kind, Part, begins, clears, drops, ends, faults, goes, overruns, placed, prepares}
 use Rattle.next_laws.proofs.Parts.{readies, refuses, relays, relieves, settles, steals, takes, waits}
 use Rattle.next_laws.proofs.Parts as part
 use Rattle.next_laws.proofs.Turns.{ByMove, Whole, by_move, follows, stops}
 use Rattle.next_laws.proofs.Verdicts.{Created, Deleted, Fate, Kept, Left, Lot, Passed, Purged, Replaced, Resumed}
 use Rattle.next_laws.proofs.Verdicts.{Retained, Stuck, Updated}
-use Rattle.work_laws.specs.Found.{IsAskedAt}
-use Rattle.work_laws.specs.Found as asked_at
+use Rattle.next_laws.specs.Found.{IsAskedAt}
+use Rattle.next_laws.specs.Found as asked_at
 use Rattle.heat_plan.specs.declared.calls.Request.TheVariants as request
 use Rattle.book.specs.Turned.{IsQuiet}
 

@@ -14,8 +14,8 @@ use Rattle.step_relation.specs.Runs.{IsTied}
 use Rattle.step_relation.specs.Steps.{Step}
 use Rattle.step_relation.specs.Turns.{Turn, WearsOut}
 use Rattle.step_relation.specs.Writes.{call_entry}
-use Rattle.step_ends.specs.Lost.{IsOfUnknownSize}
-use Rattle.work_laws.specs.Found.{IsAskedAt}
+use Rattle.takeover_steps.specs.Lost.{IsOfUnknownSize}
+use Rattle.next_laws.specs.Found.{IsAskedAt}
 use Rattle.book.specs.Kept.{unjudged}
 use Rattle.book.specs.Scenes.{IsUnmade, Makes, Scene, Told}
 use Rattle.book.specs.declared.turning.Turn.TheVariants as turned

@@ -2,14 +2,14 @@
 ghost use Rattle.std.specs.Prelude.{IfErr, IfOk};
 ghost use Rattle.mail_table.specs.declared.mail.Stage.TheVariants.{Asking, Polling};
 ghost use Rattle.step_relation.specs.Asks.{Calls};
-ghost use Rattle.step_ends.specs.Answers.{AnswersAsk, AnswersPoll};
+ghost use Rattle.takeover_steps.specs.Answers.{AnswersAsk, AnswersPoll};
 ghost use Rattle.book.specs.Makings.{IsQuietRefusal};
 ghost use Rattle.book.specs.Outcomes.{IsAnswered};
 
 use core_state::{Made, State};
 use heat_plan::{Answered, EngineNo, Refusal};
 use std::alloc::Global;
-use step_ends::{asked, polled};
+use takeover_steps::{asked, polled};
 
 /// The turn that an ask's answer brings.
 pub(crate) fn ask_answered(

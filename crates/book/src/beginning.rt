@@ -8,11 +8,11 @@ ghost use Rattle.book.specs.Makings.{IsQuietTurn, IsQuietRefusal};
 
 use core_state::{Job, Made, State};
 use heat_plan::{EngineNo, Refusal};
-use hot_registry::Registry;
 use std::alloc::Global;
-use step_ends::begin_overrun;
 use step_reads::freshness;
+use takeover_steps::begin_overrun;
 use traversal_graph::Node;
+use type_catalog::Registry;
 
 /// The begin of an engine's job; one that is overrun is released.
 pub(crate) fn begin_job(

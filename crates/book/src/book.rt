@@ -34,11 +34,11 @@ use crate::turning::{Turn, turn_of};
 use check_steps::{Look, Prepared, Work, look};
 use core_state::{Actor, Entry, Next, Roomed, State, What};
 use heat_plan::{EngineNo, Refusal, StackName, StackNo, TravNo, WORN};
-use hot_registry::Registry;
 use provider::Provider;
 use std::alloc::{AllocError, Global};
 use std::marker::Model;
 use std::snapshot::Snapshot;
+use type_catalog::Registry;
 
 /// The engine's state, its history since the opening, and the cloud. `origin` is the cloud as it
 /// stood when the opening had asked it, which contracts alone see.

@@ -13,10 +13,10 @@ use crate::turning::{Turn, make_quietly, turn_of};
 use check_steps::{Prepared, Work, is_overtaken};
 use core_state::{Entry, Roomed, State};
 use heat_plan::EngineNo;
-use hot_registry::Registry;
 use provider::Provider;
 use std::alloc::Global;
 use step_reads::{Task, next_of};
+use type_catalog::Registry;
 
 /// A step that was looked at, and what was prepared for it.
 #[derive(Drop)]

@@ -7,7 +7,7 @@ ghost use Rattle.mail_table.specs.declared.mail.Stage.TheVariants.{Polling};
 ghost use Rattle.core_state.specs.declared.made.Made.{Made as made_type};
 ghost use Rattle.step_relation.specs.Asks.{Calls};
 ghost use Rattle.step_relation.specs.Rows.{token_of};
-ghost use Rattle.step_ends.specs.Lost.{IsOfUnknownSize};
+ghost use Rattle.takeover_steps.specs.Lost.{IsOfUnknownSize};
 ghost use Rattle.book.specs.Learning.{HasLearned, IsStored};
 ghost use Rattle.book.specs.Makings.{IsQuietRefusal};
 ghost use Rattle.book.specs.Outcomes.{PollIsMade, PollHasRoom, IsAnswered};

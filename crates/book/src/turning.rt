@@ -14,11 +14,11 @@ use crate::poll::poll_for;
 use check_steps::{finish, take};
 use core_state::{Entry, Made, Roomed, Stage, State};
 use heat_plan::{EngineNo, Refusal};
-use hot_registry::Registry;
 use provider::Provider;
 use std::alloc::Global;
 use step_reads::{Task, next_of};
 use takeover_steps::takeover;
+use type_catalog::Registry;
 
 /// What a turn came to. `Idle`: nothing was there to do. `Lost`: the engine isn't live. `Worn`: a
 /// number or a key would have come to 2^62. `Memory`: nothing has changed, but that a poll's

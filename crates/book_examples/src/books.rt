@@ -1,224 +1,129 @@
-//! Each answer of a create, a delete and a poll once, over a scripted cloud: how many turns are
-//! made, and which entries tell of them. Each call of a book succeeds with ample memory, and so
-//! does each of the steps that it makes.
-use crate::calls::{count, first_of, is_stopped, turn_first};
-use crate::plans::{command, stack_name};
-use crate::seen::{Case, case_of, opened, run};
-use book::{Book, Turn};
-use core_state::{ShowWhat, What};
-use heat_plan::StackName;
-use hot_registry::Registry;
-use provider::Provider;
-use scripted_cloud::ScriptedCloud;
-use std::alloc::Global;
+//! Looks that others overtake, a halted book, and updates over a judge.
+
+use crate::asks::Ask;
+use crate::cases::{Case, try_all};
+use crate::orders::Order;
 use std::test::Fail;
 
-// A name, the commands, the quota, the cloud's answers behind that to its list; how many turns are
-// made, and what they tell.
-const CASES: &[(&str, &[u8], u32, &[u8], usize, &[u8])] = &[
-    ("begun, ready", b"c", 1, b"000", 5, b"crmrmrm?m?rmrm+"),
-    (
-        "begun, not yet, ready",
-        b"c",
-        1,
-        b"0100",
-        6,
-        b"crmrmrm?m??rmrm+",
-    ),
-    ("begun, broken", b"c", 1, b"00b", 4, b"crmrmrm?m?rmb"),
-    ("begun, failed", b"c", 1, b"00f", 4, b"crmrmrm?m?rmf"),
-    ("quota", b"c", 0, b"00", 3, b"crmrmrm?rmq"),
-    ("failed", b"c", 1, b"0f", 3, b"crmrmrm?rmf"),
-    (
-        "update to the same",
-        b"cu",
-        1,
-        b"000",
-        11,
-        b"crmrmrm?m?rmrm+cmrmrmrmrmmrm+",
-    ),
-    (
-        "delete, gone",
-        b"cd",
-        1,
-        b"00000",
-        10,
-        b"crmrmrm?m?rmrm+cmrmrm?m?rmm+",
-    ),
-    (
-        "delete, not yet, gone",
-        b"cd",
-        1,
-        b"000100",
-        11,
-        b"crmrmrm?m?rmrm+cmrmrm?m??rmm+",
-    ),
-    (
-        "delete, failed",
-        b"cd",
-        1,
-        b"000f",
-        8,
-        b"crmrmrm?m?rmrm+cmrmrm?rmf",
-    ),
-    (
-        "delete, gone, failed",
-        b"cd",
-        1,
-        b"0000f",
-        9,
-        b"crmrmrm?m?rmrm+cmrmrm?m?rmf",
-    ),
-    (
-        "delete, not yet, failed",
-        b"cd",
-        1,
-        b"00010f",
-        10,
-        b"crmrmrm?m?rmrm+cmrmrm?m??rmf",
-    ),
-    ("not yet, failed", b"c", 1, b"010f", 5, b"crmrmrm?m??rmf"),
+// A look behind a create and the taking of its letter is committed late, and a turn follows.
+const LATE: &[Case] = &[
+    Case {
+        name: "nothing comes between",
+        judged: None,
+        asks: &[
+            Ask::Order(Order::Create("size")),
+            Ask::Turns(1),
+            Ask::Calls(1),
+            Ask::Turns(1),
+        ],
+        told: "+3s2s2s2",
+    },
+    Case {
+        name: "an update comes between",
+        judged: None,
+        asks: &[
+            Ask::Order(Order::Create("size")),
+            Ask::Turns(1),
+            Ask::Late(Order::Update("size")),
+            Ask::Turns(1),
+        ],
+        told: "+3s2s0s2",
+    },
+    Case {
+        name: "a delete comes between",
+        judged: None,
+        asks: &[
+            Ask::Order(Order::Create("size")),
+            Ask::Turns(1),
+            Ask::Late(Order::Delete),
+            Ask::Turns(1),
+        ],
+        told: "+3s2s0s2",
+    },
+    Case {
+        name: "a stop comes between",
+        judged: None,
+        asks: &[
+            Ask::Order(Order::Create("size")),
+            Ask::Turns(1),
+            Ask::Late(Order::Stop),
+            Ask::Turns(1),
+        ],
+        told: "+3s2l0l0",
+    },
 ];
 
-// The command of a letter with all turns behind it.
-fn run_letter<P: Provider>(
-    alloc: Global,
-    book: &mut Book<P>,
-    registry: &Registry,
-    letter: u8,
-) -> Option<usize> {
-    let command = command(alloc, letter)?;
-    run(book, registry, command)
+#[test]
+fn an_older_look_meets_the_fence(rt: HostRuntime) -> Result<(), Fail> {
+    try_all(&rt, LATE)
 }
 
-// The commands of the letters, with all turns behind each; how many are made.
-fn run_all<P: Provider>(
-    alloc: Global,
-    book: &mut Book<P>,
-    registry: &Registry,
-    letters: &[u8],
-) -> Option<usize> {
-    let mut made = 0_usize;
-    for letter in letters {
-        made = made.saturating_add(run_letter(alloc, book, registry, *letter)?);
-    }
-    Some(made)
-}
-
-// The same with nothing registered.
-fn run_plainly<P: Provider>(alloc: Global, book: &mut Book<P>, letters: &[u8]) -> Option<usize> {
-    let none = Registry::empty(alloc);
-    run_all(alloc, book, &none, letters)
-}
-
-// What is seen of them.
-fn seen_in<P: Provider>(alloc: Global, book: &mut Book<P>, letters: &[u8]) -> Option<Case> {
-    let made = run_plainly(alloc, book, letters)?;
-    case_of(alloc, book, made)
-}
-
-// What is seen of commands over a new book; none where there is no memory.
-fn seen(alloc: Global, commands: &[u8], most: u32, script: &[u8]) -> Option<Case> {
-    let mut book = opened(alloc, most, script, 1)?;
-    let seen = seen_in(alloc, &mut book, commands);
-    let _ = book.give_back();
-    seen
-}
+// A create to its end, and two turns more.
+const CALLS: &[Case] = &[
+    Case {
+        name: "by turns",
+        judged: None,
+        asks: &[Ask::Order(Order::Create("size")), Ask::Turns(7)],
+        told: "+3s2s2s2s3s3i0i0",
+    },
+    Case {
+        name: "by the three calls in a row",
+        judged: None,
+        asks: &[Ask::Order(Order::Create("size")), Ask::Calls(7)],
+        told: "+3s2s2s2s3s3i0i0",
+    },
+];
 
 #[test]
-fn each_answer_is_told(rt: HostRuntime) -> Result<(), Fail> {
-    for (name, commands, most, script, turns, told) in CASES {
-        let seen = seen(rt.alloc(), commands, *most, script).ok_or("memory")?;
-        assert_eq!(rt; seen.told.as_slice(), *told, "{}", name);
-        assert_eq!(rt; seen.turns, *turns, "{}", name);
-        assert!(rt; seen.idle, "{}", name);
-    }
-    Ok(())
+fn the_three_calls_in_a_row_are_a_turn(rt: HostRuntime) -> Result<(), Fail> {
+    try_all(&rt, CALLS)
 }
 
-// Whether a note of the stack is taken.
-fn noted(book: &mut Book<ScriptedCloud>, stack: StackName) -> bool {
-    let noted = book.note(What::Show {
-        what: ShowWhat::Resources,
-        stack,
-    });
-    noted.is_ok()
-}
-
-// Whether one entry stands, and no stack.
-fn stands_alone<P: Provider>(book: &Book<P>) -> bool {
-    let empty = book.state().stacks().is_empty() && book.opening().stacks().is_empty();
-    empty && count(book) == 1
-}
-
-// Whether a note stands in an empty book, and its number is that of the first stack.
-fn note_stands(book: &mut Book<ScriptedCloud>, stack: StackName) -> bool {
-    let first = book.stack_no(&stack).get() == 1;
-    let noted = noted(book, stack);
-    first && noted && stands_alone(book)
-}
-
-// The same with the stack's name.
-fn note_of_name(alloc: Global, book: &mut Book<ScriptedCloud>) -> Option<bool> {
-    let name = stack_name(alloc)?;
-    Some(note_stands(book, name))
-}
-
-// The same of a new book; none where there is no memory.
-fn note_seen(alloc: Global) -> Option<bool> {
-    let mut book = opened(alloc, 1, b"", 1)?;
-    let stands = note_of_name(alloc, &mut book);
-    let _ = book.give_back();
-    stands
-}
+const HALTED: &[Case] = &[Case {
+    name: "each call that would make a step wants memory",
+    judged: None,
+    asks: &[
+        Ask::Order(Order::Halt),
+        Ask::Order(Order::Create("size")),
+        Ask::Order(Order::Stop),
+        Ask::Order(Order::Enlist),
+        Ask::Turns(1),
+    ],
+    told: "+0m0m0m0m0",
+}];
 
 #[test]
-fn a_note_stands_in_the_history(rt: HostRuntime) -> Result<(), Fail> {
-    assert_eq!(rt; note_seen(rt.alloc()), Some(true));
-    Ok(())
+fn a_halted_book_makes_no_step(rt: HostRuntime) -> Result<(), Fail> {
+    try_all(&rt, HALTED)
 }
 
-// Whether the first engine is stopped, but not once more.
-fn stops_once<P: Provider>(book: &mut Book<P>) -> bool {
-    match first_of(book) {
-        Some(e) => is_stopped(book, e) && !is_stopped(book, e),
-        None => false,
-    }
-}
-
-// Whether a third engine is enlisted.
-fn enlists_third<P: Provider>(book: &mut Book<P>) -> bool {
-    match book.enlist() {
-        Ok(third) => third.get() == 3,
-        Err(_) => false,
-    }
-}
-
-// Whether the first live engine has nothing to do.
-fn idles<P: Provider>(alloc: Global, book: &mut Book<P>) -> bool {
-    let none = Registry::empty(alloc);
-    turn_first(book, &none) == Some(Turn::Idle)
-}
-
-// Whether the first of two engines is stopped, but not once more, and a third is enlisted.
-fn engines<P: Provider>(alloc: Global, book: &mut Book<P>) -> bool {
-    let two = book.live().len() == 2;
-    let stopped = stops_once(book);
-    let enlisted = enlists_third(book);
-    let idle = idles(alloc, book);
-    two && stopped && enlisted && idle && count(book) == 2
-}
-
-// The same of a new book; none where there is no memory.
-fn engines_seen(alloc: Global) -> Option<bool> {
-    let mut book = opened(alloc, 1, b"", 2)?;
-    let done = engines(alloc, &mut book);
-    let _ = book.give_back();
-    Some(done)
-}
+// A create to its end, an update, and all turns of that, with one behind them.
+const JUDGED: &[Case] = &[
+    Case {
+        name: "in place by the plan, not by the judge",
+        judged: Some("zone"),
+        asks: &[
+            Ask::Order(Order::Create("size")),
+            Ask::Turns(5),
+            Ask::Order(Order::Update("size")),
+            Ask::Turns(9),
+        ],
+        told: "+3s2s2s2s3s3+2s2s2s2s3s2s2s1s3i0",
+    },
+    Case {
+        name: "in place by the judge, not by the plan",
+        judged: Some("size"),
+        asks: &[
+            Ask::Order(Order::Create("zone")),
+            Ask::Turns(5),
+            Ask::Order(Order::Update("zone")),
+            Ask::Turns(11),
+        ],
+        told: "+3s2s2s2s3s3+2s2s2s2s3s2s2s2s2s3s2i0",
+    },
+];
 
 #[test]
-fn engines_stop_and_are_enlisted(rt: HostRuntime) -> Result<(), Fail> {
-    assert_eq!(rt; engines_seen(rt.alloc()), Some(true));
-    Ok(())
+fn the_plan_s_properties_decide(rt: HostRuntime) -> Result<(), Fail> {
+    try_all(&rt, JUDGED)
 }

@@ -1,25 +1,17 @@
-//! Books over scripted and simulated clouds: each answer of the cloud, looks that others overtake, take-overs,
-//! halts, and what the plain program reads of their histories. There are tests alone here, of `book` and
-//! `headline_reader`; nothing stands on this crate.
+//! Calls of a book that no script of the program makes: a look that others overtake and that is committed
+//! late, the calls of a halted book, and an update over a judge that isn't the plan's. There are tests alone
+//! here; what a script can say of a book is a scenario in `examples/`.
 #![tactic(auto)]
 
 #[cfg(test)]
+mod asks;
+#[cfg(test)]
 mod books;
 #[cfg(test)]
-mod calls;
+mod cases;
 #[cfg(test)]
-mod fences;
-#[cfg(test)]
-mod fits;
-#[cfg(test)]
-mod function_fits;
-#[cfg(test)]
-mod halts;
+mod commits;
 #[cfg(test)]
 mod judges;
 #[cfg(test)]
-mod plans;
-#[cfg(test)]
-mod seen;
-#[cfg(test)]
-mod takeovers;
+mod orders;

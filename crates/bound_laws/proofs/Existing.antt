@@ -27,10 +27,10 @@ use Rattle.history_laws.proofs.tables.Rows.{row-key, same_or_not, same_some, sta
 use Rattle.history_laws.proofs.tables.Tables.{at-place}
 use Rattle.history_laws.proofs.tables.Targets.{target_once}
 use Rattle.next_laws.proofs.Listings.{in_head, in_tail}
-use Rattle.turn_laws.proofs.Decide.{Decided, bound_at, both_or_not, le_or_not, member_or_not, not_or}
-use Rattle.turn_laws.proofs.Fates.{init_or_not}
-use Rattle.turn_laws.proofs.Sights.{done_or_not, ready_or_not}
-use Rattle.turn_laws.proofs.Targets.{target_or_none}
+use Rattle.next_laws.proofs.Decide.{Decided, bound_at, both_or_not, le_or_not, member_or_not, not_or}
+use Rattle.next_laws.proofs.Fates.{init_or_not}
+use Rattle.next_laws.proofs.Sights.{done_or_not, ready_or_not}
+use Rattle.next_laws.proofs.Targets.{target_or_none}
 use Rattle.bound_laws.specs.Counts.{Counts}
 use Rattle.bound_laws.specs.Rolls.{MayRoll, RollFar, RollItem, RollJob, RollLetter, RollNode, RollRow}
 use Rattle.bound_laws.specs.Work.{IsAt, IsLate, IsLeft, IsLetter, IsPoll, IsUnready}

@@ -14,8 +14,8 @@ use Rattle.core_state.specs.declared.stack.Stack.{Stack}
 use Rattle.step_relation.specs.Orders.{past_of}
 use Rattle.step_relation.specs.Rows.{token_of}
 use Rattle.history_laws.proofs.tables.Rows.{job_cut, job_gone, job_here, job_put, row_cut, row_put, same_some}
-use Rattle.turn_laws.proofs.Decide.{flag_or_not}
-use Rattle.turn_laws.proofs.Waiting.{progress_or_not}
+use Rattle.next_laws.proofs.Decide.{flag_or_not}
+use Rattle.next_laws.proofs.Waiting.{progress_or_not}
 use Rattle.bound_laws.specs.Bound.{IsWork}
 use Rattle.bound_laws.specs.Rolls.{MayRoll}
 use Rattle.bound_laws.proofs.Jobs.{JobsWere, RowsWere}

@@ -14,7 +14,7 @@ use Rattle.step_relation.specs.Rows.{token_of}
 use Rattle.step_relation.specs.Linked.{Links}
 use Rattle.history_laws.proofs.tables.Rows.{same_or_not, same_some, text_or_not}
 use Rattle.next_laws.proofs.Listings.{cons_cases, in_head, in_tail, no_member}
-use Rattle.turn_laws.proofs.Decide.{Decided}
+use Rattle.next_laws.proofs.Decide.{Decided}
 use Rattle.bound_laws.specs.Bound.{IsWork}
 use Rattle.bound_laws.specs.Counts.{Counts}
 use Rattle.bound_laws.specs.Rolls.{RollJob}

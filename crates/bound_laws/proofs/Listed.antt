@@ -3,7 +3,7 @@ use Rattle.std.proofs.Common.{◌≡◌, inl, inr, ◌<◌, ℕ, ◌*◌, List, 
 use Rattle.std.specs.Prelude.{Contains}
 use Rattle.std.proofs.lemmas.List.Elements.{Contains-append_cases, Contains-append_left, Contains-append_right}
 use Rattle.next_laws.proofs.Listings.{cons_cases, in_head, in_tail, no_member}
-use Rattle.turn_laws.proofs.Decide.{Decided, member_or_not}
+use Rattle.next_laws.proofs.Decide.{Decided, member_or_not}
 use Rattle.bound_laws.specs.Counts.{AreOnce, Counts}
 use Rattle.bound_laws.proofs.Sets.{both_once, picked}
 use Rattle.bound_laws.proofs.Spans.{beside, beside_length, beside_once, beside_was, in_beside, in_upto, length-append}

@@ -38,7 +38,7 @@ use Rattle.history_laws.proofs.tables.Rows.{stack-key, text_or_not}
 use Rattle.workable_laws.proofs.Below.{rows_in, sent_to}
 use Rattle.workable_laws.proofs.Below.{laid_end, laid_state}
 use Rattle.next_laws.proofs.Listings.{cons_cases, in_head, in_tail, no_member}
-use Rattle.turn_laws.proofs.Decide.{member_or_not, not_or}
+use Rattle.next_laws.proofs.Decide.{member_or_not, not_or}
 use Rattle.workable_laws.proofs.Laid.{letters_length, new_rows, rows_found_in}
 use Rattle.bound_laws.specs.Bound.{IsWork}
 use Rattle.bound_laws.specs.Counts.{Counts}

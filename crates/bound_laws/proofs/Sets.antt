@@ -4,7 +4,7 @@ use Rattle.std.proofs.Common.{arith}
 use Rattle.std.specs.Prelude.{Contains}
 use Rattle.std.proofs.lemmas.List.Elements.{Contains-append_cases, Contains-append_left, Contains-append_right}
 use Rattle.next_laws.proofs.Listings.{cons_cases, in_head, in_tail, no_member}
-use Rattle.turn_laws.proofs.Decide.{Decided}
+use Rattle.next_laws.proofs.Decide.{Decided}
 use Rattle.bound_laws.specs.Counts.{AreOnce, Counts}
 use Rattle.bound_laws.proofs.Spans.{length-append}
 

@@ -8,7 +8,7 @@ use Rattle.mail_table.specs.declared.mail.Stage.{Stage}
 use Rattle.mail_table.specs.declared.mail.Stage.TheVariants.{Asking, Ending, Taken}
 use Rattle.core_state.specs.State.{StateData}
 use Rattle.step_relation.specs.Rows.{token_of}
-use Rattle.turn_laws.proofs.Decide.{bound_at}
+use Rattle.next_laws.proofs.Decide.{bound_at}
 use Rattle.bound_laws.specs.Bound.{IsWork, RollWork}
 use Rattle.bound_laws.specs.Counts.{Counts}
 use Rattle.bound_laws.specs.Exists.{PollsAreFew, WorkExists, WorkIsOne}

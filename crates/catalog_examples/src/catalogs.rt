@@ -6,9 +6,8 @@ use crate::cases::{Asked, Case, all_told, value_of};
 use heat_plan::Properties;
 use heat_value::{Seq, Text};
 use hot_catalog::{Catalog, CatalogFault};
-use hot_registry::{Change, Judge, Registry, box_kind};
 use std::alloc::{AllocError, Global};
-use type_catalog::{Effect, change_of};
+use type_catalog::{Change, Effect, Judge, Registry, box_kind, change_of};
 
 // A fault's code and path.
 fn words_of(alloc: Global, fault: &CatalogFault) -> Result<String, AllocError> {

@@ -1,4 +1,4 @@
-//! What a program registers, catalogues and the parts of templates as cases from outside.
+//! What changes ask for, what a program registers, catalogues and the parts of templates as cases from outside.
 //! There are tests alone here; nothing stands on this crate.
 #![tactic(auto)]
 
@@ -6,6 +6,8 @@
 mod cases;
 #[cfg(test)]
 mod catalogs;
+#[cfg(test)]
+mod changes;
 #[cfg(test)]
 mod parts;
 #[cfg(test)]

@@ -1,7 +1,7 @@
 //! What no clause says: objects from outside, in single quotes, read to the end.
 use crate::cases::{Asked, Case, all_told, value_of};
 use heat_value::Value;
-use hot_parts::{Param, Parts, Res};
+use hot_tree::{Param, Parts, Res};
 use std::alloc::{AllocError, Global};
 
 // The text of a value that may be missing, in single quotes.

@@ -2,16 +2,17 @@
 //! where memory is wanted, it is asked once more.
 ghost use Rattle.std.specs.Prelude.{◌≡◌};
 ghost use Rattle.type_catalog.specs.Changes.{ChangeOf};
-ghost use Rattle.hot_registry.specs.Names.{is_listed};
-ghost use Rattle.hot_registry.specs.Shipped.{flavor_test as the_flavor_test};
+ghost use Rattle.type_catalog.specs.Names.{is_listed};
+ghost use Rattle.type_catalog.specs.Shipped.{flavor_test as the_flavor_test};
 
 use crate::cases::{Asked, Case, all_told, value_of};
 use heat_plan::Properties;
 use heat_value::{Text, TryCopy, Value};
-use hot_registry::{Ask, Change, Registry, box_kind, is_flavor, shipped_registry};
 use sample_plans::boxes;
 use std::alloc::{AllocError, Global};
-use type_catalog::{Effect, change_of};
+use type_catalog::{
+    Ask, Change, Effect, Registry, box_kind, change_of, is_flavor, shipped_registry,
+};
 
 // What is asked: the test of a name, of a text; the judge of a kind, of a change from the first properties to
 // the second; the registry, of such a change of a box for which these properties change in place.

@@ -7,7 +7,7 @@ use Rattle.heat_plan.specs.declared.facts.KnownFacts.{KnownFacts}
 use Rattle.heat_plan.specs.declared.item.Item.{Item}
 use Rattle.sync_points.specs.declared.point.Input.{Input}
 use Rattle.hot_resolve.specs.Resolutions.{resolved_of}
-use Rattle.hot_resolve.specs.Resolve.{Resolved, resolve}
+use Rattle.eval_words.specs.Resolve.{Resolved, resolve}
 use Rattle.hot_resolve.specs.declared.resolving.Resolution.{Resolution}
 use Rattle.step_relation.specs.Inputs.{AreKnown}
 use Rattle.check_steps.specs.Prepares.{IsBeginPrepared, IsGivenFor, IsPrepared, Resolves}

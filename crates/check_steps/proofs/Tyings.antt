@@ -8,7 +8,7 @@ use Rattle.core_state.specs.State.{StateData}
 use Rattle.core_state.specs.declared.change.Change.{Change}
 use Rattle.core_state.specs.declared.entry.Entry.{Entry}
 use Rattle.core_state.specs.declared.stack.Stack.{Stack}
-use Rattle.hot_resolve.specs.Resolve.{Fault, Props, Resolved, resolve}
+use Rattle.eval_words.specs.Resolve.{Fault, Props, Resolved, resolve}
 use Rattle.type_catalog.specs.declared.effect.Effect.{Effect}
 use Rattle.step_relation.specs.Begins.{Begins}
 use Rattle.step_relation.specs.Freshness.{plan_of}

@@ -6,8 +6,8 @@ use Rattle.heat_plan.specs.declared.facts.KnownFacts.{KnownFacts}
 use Rattle.heat_plan.specs.declared.item.Item.{Item}
 use Rattle.sync_points.specs.declared.point.Input.{Input}
 use Rattle.core_state.specs.State.{StateData}
-use Rattle.hot_resolve.specs.Resolve.{Resolved, resolve}
-use Rattle.hot_resolve.specs.Resolve as resolved
+use Rattle.eval_words.specs.Resolve.{Resolved, resolve}
+use Rattle.eval_words.specs.Resolve as resolved
 use Rattle.type_catalog.specs.Changes.{ChangeOf}
 use Rattle.step_relation.specs.Inputs.{AreKnown}
 use Rattle.check_steps.specs.Looks.{IsBegin}

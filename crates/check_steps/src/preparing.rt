@@ -8,10 +8,10 @@ use crate::parts::parts_of;
 use crate::prepared::Prepared;
 use core_state::{Job, SharedInput, State};
 use heat_plan::{EngineNo, Item, Plan, Properties};
-use hot_registry::Registry;
 use hot_resolve::{Resolution, resolve};
 use std::alloc::{AllocError, Global};
 use step_reads::known;
+use type_catalog::Registry;
 
 /// What the step that was looked at is given; the registry's judge of the item's kind is asked of the
 /// change. It reads no state.

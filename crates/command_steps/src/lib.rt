@@ -23,4 +23,11 @@ pub use creating::create;
 pub use deleting::delete;
 pub use due::is_due;
 pub use rolling_back::roll_back;
+pub use step_parts::{
+    begun_changes, begun_entries, call_entry, cause_at, draw_letters, ended_and_sent, failed_mark,
+    failed_row, final_props, joined, letter_to, made_within, mail_entry, mark_failed, may_all_rise,
+    may_rise, one, onward_changes, onward_entries, purged_changes, purged_entries, ready_row,
+    released_changes, released_entries, rows_entry, sends, seq_of_one, two, with_first, with_last,
+};
+pub use step_reads::{freshness, job_at, resent, row_at};
 pub use updating::update;

@@ -10,7 +10,7 @@ use Rattle.driver.specs.declared.ran.Ran.{Ran}
 use Rattle.driver.specs.declared.ran.Ran.TheVariants as ran
 use Rattle.report.specs.Seen.{SeenData, seen_of}
 use Rattle.report.specs.Text.{seen_after, text_after}
-use Rattle.book.specs.Quiet.{Page}
+use Rattle.driver.specs.Quiet.{Page}
 use Rattle.converge_call.specs.declared.exit.Exit.{Exit}
 use Rattle.converge_call.specs.declared.exit.Exit.TheVariants as exit
 use Rattle.converge_call.specs.Notes.{HasDone, IsUndone}

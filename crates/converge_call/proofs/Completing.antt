@@ -6,7 +6,7 @@ use Rattle.core_state.specs.State.{StateData}
 use Rattle.step_relation.specs.Opening.{Opening}
 use Rattle.script_lines.specs.declared.line.Line.{Line}
 use Rattle.script_lines.specs.declared.line.Line.TheVariants as form
-use Rattle.book.specs.Turned.{IsWornBy}
+use Rattle.driver.specs.Turned.{IsWornBy}
 use Rattle.driver.specs.Turns.{RanTo}
 use Rattle.driver.specs.Turns as turns
 use Rattle.driver.specs.declared.ran.Ran.{Ran}

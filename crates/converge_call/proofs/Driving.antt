@@ -16,15 +16,15 @@ use Rattle.heat_io.proofs.Runs.{are_lines}
 use Rattle.heat_io.proofs.Streaming.{grown-grown}
 use Rattle.report.specs.Text.{text_of, text_after, told}
 use Rattle.report.proofs.Parts.{is_parted}
-use Rattle.book.specs.Quiet.{Page}
+use Rattle.driver.specs.Quiet.{Page}
 use Rattle.converge_call.specs.declared.exit.Exit.{Exit}
 use Rattle.converge_call.specs.declared.exit.Exit.TheVariants as exit
 use Rattle.converge_call.specs.Lines.{LineDoes, LineBreaks, Serial}
 use Rattle.converge_call.specs.Lines as lines
 use Rattle.converge_call.specs.Stocks.{Stock, StockBehind, CatalogBehind, stock, first_stock}
 use Rattle.hot_catalog.specs.declared.catalog.Catalog.{Catalog}
-use Rattle.hot_registry.specs.declared.custom.NamedTest.{NamedTest}
-use Rattle.hot_registry.specs.declared.kind.KindDef.{KindDef}
+use Rattle.type_catalog.specs.declared.custom.NamedTest.{NamedTest}
+use Rattle.type_catalog.specs.declared.kind.KindDef.{KindDef}
 use Rattle.converge_call.specs.Stocks as stocks
 use Rattle.converge_call.specs.Drives.{AreRead, PassesLimit, FirstRead, LimitRead, AllRead, Streams, streams, Written}
 use Rattle.converge_call.specs.Drives.{LineAnswered, Drove, EndsWriting}

@@ -3,7 +3,7 @@ use Rattle.std.proofs.Common.{◌≡◌, refl, sym, subst}
 use Rattle.heat_value.specs.Counts.{Rose}
 use Rattle.step_relation.specs.Opening.{Opening}
 use Rattle.provider.specs.Cloud.{Cloud}
-use Rattle.book.specs.Kept.{Shown, IsSameBook, HasRun, HasHeadline, opening_of}
+use Rattle.driver.specs.Kept.{Shown, IsSameBook, HasRun, HasHeadline, opening_of}
 use Rattle.converge_call.specs.declared.exit.Exit.{Exit}
 use Rattle.converge_call.specs.declared.exit.Exit.TheVariants as exit
 use Rattle.converge_call.specs.Stocks.{Stock}

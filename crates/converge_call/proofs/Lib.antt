@@ -9,3 +9,6 @@ pub mod Answering
 pub mod Driving
 pub mod Completing
 pub mod Handing
+pub mod Options
+pub mod Wording
+pub mod Saying

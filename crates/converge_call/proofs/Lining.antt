@@ -6,7 +6,7 @@ use Rattle.step_relation.specs.Opening.{Opening}
 use Rattle.script_lines.specs.Readings.{Reads}
 use Rattle.script_lines.specs.declared.line.Line.{Line}
 use Rattle.script_lines.specs.declared.misread.Misread.{Misread}
-use Rattle.book.specs.Quiet.{Page}
+use Rattle.driver.specs.Quiet.{Page}
 use Rattle.converge_call.specs.declared.exit.Exit.{Exit}
 use Rattle.converge_call.specs.Notes.{IsUndone, HasDone}
 use Rattle.converge_call.specs.Lines.{AskedDoes, AskedBreaks, LineDoes, LineBreaks, IsMisreadFor, asks, misread, unread}

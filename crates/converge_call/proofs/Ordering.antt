@@ -16,12 +16,12 @@ use Rattle.template_plans.specs.declared.fault.PlanFault.TheVariants as fault
 use Rattle.script_lines.specs.Misreads.{misread_code}
 use Rattle.script_lines.specs.declared.misread.Misread.{Misread}
 use Rattle.script_lines.specs.declared.misread.Misread.TheVariants as misread
-use Rattle.book.specs.Commands.{IsOrder, RefusesOrder}
-use Rattle.book.specs.Makings.{Does}
-use Rattle.book.specs.Makings as makings
-use Rattle.book.specs.Quiet.{Page}
-use Rattle.book.specs.declared.commanding.StackCommand.{StackCommand}
-use Rattle.book.specs.declared.commanding.StackCommand.TheVariants as order
+use Rattle.driver.specs.Commands.{IsOrder, RefusesOrder}
+use Rattle.driver.specs.Makings.{Does}
+use Rattle.driver.specs.Makings as makings
+use Rattle.driver.specs.Quiet.{Page}
+use Rattle.driver.specs.declared.StackCommand.{StackCommand}
+use Rattle.driver.specs.declared.StackCommand.TheVariants as order
 use Rattle.converge_call.specs.declared.exit.Exit.{Exit}
 use Rattle.converge_call.specs.Notes.{IsUndone, HasDone, did}
 use Rattle.converge_call.specs.Commands.{StepDoes, IsRefusedFor, made, not_made}

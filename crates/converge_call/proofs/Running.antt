@@ -11,8 +11,8 @@ use Rattle.step_relation.specs.Opening.{Opening}
 use Rattle.step_relation.specs.Headline.{IsSettledAs}
 use Rattle.driver.specs.Below.{IsFullWork}
 use Rattle.provider.specs.Cloud.{Cloud}
-use Rattle.book.specs.Kept.{Shown, IsSameBook, opening_of}
-use Rattle.book.specs.Quiet.{Page, IsIdle}
+use Rattle.driver.specs.Kept.{Shown, IsSameBook, opening_of}
+use Rattle.driver.specs.Quiet.{Page, IsIdle}
 use Rattle.driver.specs.Settled as settled_book
 use Rattle.driver.specs.Turns.{Turns, RanTo, HasRan}
 use Rattle.driver.specs.Turns as to

@@ -8,7 +8,7 @@ use Rattle.core_state.specs.declared.entry.ShowWhat.{ShowWhat}
 use Rattle.core_state.specs.declared.entry.ShowWhat.TheVariants as show
 use Rattle.core_state.specs.declared.entry.What.TheVariants as what
 use Rattle.core_state.specs.State.{stack_at}
-use Rattle.book.specs.Quiet.{Page}
+use Rattle.driver.specs.Quiet.{Page}
 use Rattle.converge_call.specs.declared.exit.Exit.{Exit}
 use Rattle.converge_call.specs.Notes.{refused, Notes, IsUndone, HasDone}
 use Rattle.converge_call.specs.Shows.{ShowDoes, OutputsDoes}

@@ -7,11 +7,11 @@ use Rattle.core_state.specs.State.{StateData}
 use Rattle.step_relation.specs.Given.{Answer}
 use Rattle.step_relation.specs.Rows.{token_of}
 use Rattle.step_relation.specs.Runs.{answer}
-use Rattle.book.specs.declared.turning.Turn.TheVariants as turn
-use Rattle.book.specs.Quiet.{Page, page}
-use Rattle.book.specs.Scenes.{Scene, IsUnmade}
-use Rattle.book.specs.Turned.{Turned, IsWornBy}
-use Rattle.book.specs.Turned as turned
+use Rattle.driver.specs.declared.Turn.TheVariants as turn
+use Rattle.driver.specs.Quiet.{Page, page}
+use Rattle.driver.specs.Scenes.{Scene, IsUnmade}
+use Rattle.driver.specs.Turned.{Turned, IsWornBy}
+use Rattle.driver.specs.Turned as turned
 use Rattle.driver.specs.Turns as to
 use Rattle.converge_call.specs.declared.exit.Exit.{Exit}
 use Rattle.converge_call.specs.declared.exit.Exit.TheVariants as exit

@@ -12,14 +12,14 @@ use Rattle.core_state.specs.declared.entry.Entry.{Entry}
 use Rattle.core_state.specs.Changes.{applied}
 use Rattle.core_state.specs.State.{StateData}
 use Rattle.step_relation.specs.Refusals.{RefusesEnlist, RefusesStop}
-use Rattle.book.specs.Below.{Enlists, Stops}
+use Rattle.driver.specs.Below.{Enlists, Stops}
 use Rattle.script_lines.specs.Requested.{BodyData}
 use Rattle.template_plans.specs.Plans.{Beside, beside, IsPlanOf, IsNoPlan}
 use Rattle.template_plans.specs.Faults.{fault_code, fault_path}
 use Rattle.template_plans.specs.declared.fault.PlanFault.{PlanFault}
-use Rattle.book.specs.Commands.{IsOrder, RefusesOrder}
-use Rattle.book.specs.Quiet.{number_of}
-use Rattle.book.specs.declared.commanding.StackCommand.{StackCommand}
+use Rattle.driver.specs.Commands.{IsOrder, RefusesOrder}
+use Rattle.driver.specs.Quiet.{number_of}
+use Rattle.driver.specs.declared.StackCommand.{StackCommand}
 use Rattle.converge_call.specs.Notes.{refused, refused_at, Notes, IsNothing}
 use Rattle.converge_call.specs.Stocks.{Stock}
 

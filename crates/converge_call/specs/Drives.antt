@@ -7,7 +7,7 @@ use Rattle.heat_io.specs.Lines.{cut_lines, length_of_line, size_of_line, line_li
 use Rattle.heat_io.specs.Reading.{Reads}
 use Rattle.heat_io.specs.Streams.{grown}
 use Rattle.report.specs.Text.{text_of, text_after}
-use Rattle.book.specs.Quiet.{Page}
+use Rattle.driver.specs.Quiet.{Page}
 use Rattle.converge_call.specs.declared.exit.Exit.{Exit}
 use Rattle.converge_call.specs.declared.exit.Exit.TheVariants as exit
 use Rattle.converge_call.specs.Lines.{LineDoes, LineBreaks, Serial}

@@ -6,14 +6,14 @@ use Rattle.core_state.specs.State.{StateData}
 use Rattle.provider.specs.Calls.{ListsNone}
 use Rattle.provider.specs.Changes.{IsAsBefore}
 use Rattle.provider.specs.Cloud.{Cloud}
-use Rattle.book.specs.Kept.{Shown, HasRun, HasHeadline, opened, opening_of}
-use Rattle.book.specs.Openings.{HasStranger}
-use Rattle.book.specs.Turned.{IsWornBy}
+use Rattle.driver.specs.Kept.{Shown, HasRun, HasHeadline, opened, opening_of}
+use Rattle.driver.specs.Openings.{HasStranger}
+use Rattle.driver.specs.Turned.{IsWornBy}
 use Rattle.converge_call.specs.declared.exit.Exit.{Exit}
 use Rattle.converge_call.specs.declared.exit.Exit.TheVariants as exit
 use Rattle.converge_call.specs.declared.exit.Finding.TheVariants.{Stranger}
-use Rattle.program_words.specs.declared.setup.Setup.{Setup}
-use Rattle.program_words.specs.Words.{Drives}
+use Rattle.converge_call.specs.declared.setup.Setup.{Setup}
+use Rattle.converge_call.specs.Words.{Drives}
 use Rattle.converge_call.specs.Stocks.{Stock}
 use Rattle.converge_call.specs.Drives.{Streams, streams, StaysWithin, Drove}
 

@@ -8,3 +8,6 @@ pub mod Lines
 pub mod Drives
 pub mod Exits
 pub mod Ends
+pub mod Options
+pub mod Words
+pub mod Choices

@@ -11,7 +11,7 @@ use Rattle.script_lines.specs.declared.line.Line.{Line}
 use Rattle.script_lines.specs.declared.line.Line.TheVariants.{Blank, Create, Update, Delete, Cancel, Status, Resources}
 use Rattle.script_lines.specs.declared.line.Line.TheVariants.{Outputs, Types, Run, Turn, Stop, Start, Restart}
 use Rattle.script_lines.specs.declared.misread.Misread.{Misread}
-use Rattle.book.specs.declared.commanding.StackCommand.TheVariants as order
+use Rattle.driver.specs.declared.StackCommand.TheVariants as order
 use Rattle.converge_call.specs.declared.exit.Exit.{Exit}
 use Rattle.converge_call.specs.Notes.{refused, refused_at, Notes, IsNothing, IsUndone}
 use Rattle.converge_call.specs.Stocks.{Stock, StockBehind}

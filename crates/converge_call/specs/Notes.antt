@@ -6,7 +6,7 @@ use Rattle.core_state.specs.declared.entry.Entry.{Entry}
 use Rattle.core_state.specs.declared.entry.What.{What}
 use Rattle.core_state.specs.declared.entry.What.TheVariants as what
 use Rattle.core_state.specs.State.{StateData}
-use Rattle.book.specs.Quiet.{Page}
+use Rattle.driver.specs.Quiet.{Page}
 use Rattle.converge_call.specs.declared.exit.Exit.{Exit}
 use Rattle.converge_call.specs.declared.exit.Exit.TheVariants as exit
 

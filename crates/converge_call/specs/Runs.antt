@@ -12,8 +12,8 @@ use Rattle.step_relation.specs.Nexts as next
 use Rattle.step_relation.specs.Opening.{Opening}
 use Rattle.step_relation.specs.Headline.{IsSettledAs}
 use Rattle.driver.specs.Below.{IsFullWork}
-use Rattle.book.specs.Quiet.{IsIdle}
-use Rattle.book.specs.Turned.{IsWornBy}
+use Rattle.driver.specs.Quiet.{IsIdle}
+use Rattle.driver.specs.Turned.{IsWornBy}
 use Rattle.driver.specs.Turns.{TurnOf, Turns, Lacks, RanTo}
 use Rattle.driver.specs.declared.ran.Ran.{Ran}
 use Rattle.driver.specs.declared.ran.Ran.TheVariants as ran

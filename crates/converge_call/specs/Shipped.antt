@@ -1,6 +1,6 @@
 -- What stands before the first line, where the shipped kinds and tests are registered.
 use Rattle.std.specs.Prelude.{[], ◌∷◌}
-use Rattle.hot_registry.specs.Shipped.{box_kind, flavor_test}
+use Rattle.type_catalog.specs.Shipped.{box_kind, flavor_test}
 use Rattle.converge_call.specs.Stocks.{Stock, first_stock}
 
 -- the kind `Test::Box` and the test `nova.flavor`, and no other

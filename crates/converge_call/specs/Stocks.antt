@@ -6,8 +6,8 @@ use Rattle.heat_value.specs.Meaning.{data_of}
 use Rattle.heat_value.specs.declared.path.Step.{Step}
 use Rattle.hot_catalog.specs.Catalogs.{read_flaw, after}
 use Rattle.hot_catalog.specs.declared.catalog.Catalog.{Catalog}
-use Rattle.hot_registry.specs.declared.custom.NamedTest.{NamedTest}
-use Rattle.hot_registry.specs.declared.kind.KindDef.{KindDef}
+use Rattle.type_catalog.specs.declared.custom.NamedTest.{NamedTest}
+use Rattle.type_catalog.specs.declared.kind.KindDef.{KindDef}
 use Rattle.script_lines.specs.Readings.{Reads}
 use Rattle.script_lines.specs.declared.line.Line.{Line}
 use Rattle.script_lines.specs.declared.line.Line.TheVariants.{Blank, Create, Update, Delete, Cancel, Status, Resources}

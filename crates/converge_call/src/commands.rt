@@ -1,7 +1,7 @@
 //! Lines that make one step by the reader of commands: commands on stacks, and changes of engines.
 ghost use Rattle.std.specs.Prelude.{◌≢◌, IfOk, IfErr, map};
-ghost use Rattle.book.specs.Kept.{IsSameBook};
-ghost use Rattle.book.specs.Quiet.{page};
+ghost use Rattle.driver.specs.Kept.{IsSameBook};
+ghost use Rattle.driver.specs.Quiet.{page};
 ghost use Rattle.converge_call.specs.Notes.{IsUndone, HasDone};
 ghost use Rattle.converge_call.specs.Commands.{BodyDoes, OrderDoes, StopDoes, StartDoes, IsRefusedFor, IsUnplannedFor};
 ghost use Rattle.converge_call.specs.Commands.{beside_body};
@@ -11,7 +11,7 @@ ghost use Rattle.template_plans.specs.Plans.{IsPlanOf, IsNoPlan};
 use crate::exit::Exit;
 use crate::means::Means;
 use crate::notes::{refuse, refuse_at};
-use book::{Book, StackCommand};
+use driver::{Book, StackCommand};
 use heat_plan::{EngineNo, Plan, Refusal, StackName};
 use heat_value::TryCopy;
 use hot_catalog::Catalog;

@@ -3,21 +3,21 @@ ghost use Rattle.std.specs.Prelude.{◌≡◌, ◌≤◌, [], OnOk, take, length
 ghost use Rattle.heat_value.specs.Counts.{Rose};
 ghost use Rattle.report.specs.Seen.{seen_of};
 ghost use Rattle.report.specs.Text.{seen_after, text_after};
-ghost use Rattle.book.specs.Kept.{IsSameBook, opening_of};
-ghost use Rattle.book.specs.Quiet.{page};
+ghost use Rattle.driver.specs.Kept.{IsSameBook, opening_of};
+ghost use Rattle.driver.specs.Quiet.{page};
 ghost use Rattle.converge_call.specs.Drives.{streams, Drove, LineAnswered, Written};
 ghost use Rattle.converge_call.specs.Stocks.{stock, first_stock, CatalogBehind};
 
 use crate::exit::Exit;
 use crate::line::do_line;
 use crate::means::Means;
-use book::Book;
+use driver::Book;
 use heat_io::{LineReader, Next, PutFault, SCRIPT_LIMIT, Sink, Source, put_all};
 use hot_catalog::Catalog;
-use hot_registry::Registry;
 use provider::Provider;
 use report::Reporter;
 use std::alloc::Global;
+use type_catalog::Registry;
 
 /// Drives the book by the lines of the source. No script has more lines than bytes, and one more read
 /// finds its end.

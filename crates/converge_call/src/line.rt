@@ -1,7 +1,7 @@
 //! What one line of the script does.
 ghost use Rattle.std.specs.Prelude.{Some, None, OnOk, map};
-ghost use Rattle.book.specs.Kept.{IsSameBook, opening_of};
-ghost use Rattle.book.specs.Quiet.{page};
+ghost use Rattle.driver.specs.Kept.{IsSameBook, opening_of};
+ghost use Rattle.driver.specs.Quiet.{page};
 ghost use Rattle.converge_call.specs.Notes.{HasDone, IsUndone};
 ghost use Rattle.converge_call.specs.Lines.{AskedDoes, AskedBreaks, LineDoes, LineBreaks, IsMisreadFor};
 ghost use Rattle.converge_call.specs.Stocks.{stock, CatalogAsked, CatalogBehind};
@@ -13,8 +13,8 @@ use crate::notes::{refuse, refuse_at};
 use crate::runs::{run, turn};
 use crate::shows::{outputs, show};
 use crate::types::types;
-use book::{Book, StackCommand};
 use core_state::ShowWhat;
+use driver::{Book, StackCommand};
 use hot_catalog::Catalog;
 use provider::Provider;
 use script_lines::{Line, Misread};

@@ -1,7 +1,7 @@
 //! What every line is done with.
 
-use hot_registry::Registry;
 use std::alloc::Global;
+use type_catalog::Registry;
 
 /// The allocator, and what the program registers.
 #[derive(Clone, Copy)]

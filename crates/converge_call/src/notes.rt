@@ -1,13 +1,13 @@
 //! What a line notes: a refusal, what it shows, or how its turns ended.
 ghost use Rattle.std.specs.Prelude.{◌≡◌, IfOk, option_map};
 ghost use Rattle.step_relation.specs.Steps.{IsNote};
-ghost use Rattle.book.specs.Kept.{IsSameBook};
-ghost use Rattle.book.specs.Quiet.{page};
+ghost use Rattle.driver.specs.Kept.{IsSameBook};
+ghost use Rattle.driver.specs.Quiet.{page};
 ghost use Rattle.converge_call.specs.Notes.{refused, refused_at, Notes, IsUndone, HasDone};
 
 use crate::exit::Exit;
-use book::Book;
 use core_state::What;
+use driver::Book;
 use heat_value::{Path, Text, TryCopy};
 use provider::Provider;
 use std::alloc::{AllocError, Global};

@@ -1,20 +1,19 @@
 //! Lines that make turns of engines.
 ghost use Rattle.std.specs.Prelude.{◌≡◌, ◌≢◌, ◌<◌, ◌↔◌, [], IsTrue};
 ghost use Rattle.core_state.specs.declared.entry.What.TheVariants as what;
-ghost use Rattle.book.specs.Kept.{IsSameBook, opening_of};
-ghost use Rattle.book.specs.Quiet.{page};
+ghost use Rattle.driver.specs.Kept.{IsSameBook, opening_of};
+ghost use Rattle.driver.specs.Quiet.{page};
 ghost use Rattle.converge_call.specs.Notes.{Notes, IsUndone, HasDone};
 ghost use Rattle.converge_call.specs.Runs.{IsLimit, RunDoes, RunBreaks, RunEnds, RunStops, TurnDoes, TurnBreaks};
 
 use crate::exit::Exit;
 use crate::means::Means;
 use crate::notes::{note, refuse};
-use book::{Book, Turn};
 use core_state::What;
-use driver::{Ran, turns, work};
+use driver::{Book, Ran, Turn, turns, work};
 use heat_plan::EngineNo;
-use hot_registry::Registry;
 use provider::Provider;
+use type_catalog::Registry;
 
 /// Makes as many turns as are asked for, or as there is work, until the book is idle; and notes how
 /// many.

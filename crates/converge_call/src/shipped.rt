@@ -1,14 +1,14 @@
 //! The top call with what the program registers: the judge of `Test::Box`, and the test `nova.flavor`.
 ghost use Rattle.std.specs.Prelude.{◌≡◌, ◌≢◌, ◌↔◌, [], IfOk};
 ghost use Rattle.type_catalog.specs.Changes.{ChangeOf};
-ghost use Rattle.hot_registry.specs.Kinds.{softs_of};
-ghost use Rattle.hot_registry.specs.Names.{is_listed};
-ghost use Rattle.hot_registry.specs.Shipped.{box_kind as the_box_kind};
-ghost use Rattle.hot_registry.specs.Shipped.{flavor_test as the_flavor_test};
+ghost use Rattle.type_catalog.specs.Kinds.{softs_of};
+ghost use Rattle.type_catalog.specs.Names.{is_listed};
+ghost use Rattle.type_catalog.specs.Shipped.{box_kind as the_box_kind};
+ghost use Rattle.type_catalog.specs.Shipped.{flavor_test as the_flavor_test};
 ghost use Rattle.provider.specs.Calls.{Lists};
-ghost use Rattle.book.specs.Kept.{Shown};
-ghost use Rattle.program_words.specs.Words.{IsForm};
-ghost use Rattle.program_words.specs.declared.setup.Mode.{Mode as mode_type};
+ghost use Rattle.driver.specs.Kept.{Shown};
+ghost use Rattle.converge_call.specs.Words.{IsForm};
+ghost use Rattle.converge_call.specs.declared.setup.Mode.{Mode as mode_type};
 ghost use Rattle.converge_call.specs.Ends.{outside, HasDriven, IsUntouched, OpensFor};
 ghost use Rattle.converge_call.specs.Shipped.{shipped_stock};
 
@@ -17,10 +17,9 @@ use crate::top::{End, Outcome, converge, unopened};
 use heat_io::{Sink, Source};
 use heat_plan::Properties;
 use heat_value::{Seq, Text};
-use hot_registry::{box_kind, is_flavor, shipped_registry};
 use provider::Provider;
 use std::alloc::{AllocError, Global};
-use type_catalog::{Effect, change_of};
+use type_catalog::{Effect, box_kind, change_of, is_flavor, shipped_registry};
 
 /// Does what the words ask for. Without memory for what is registered no book is opened.
 pub fn converge_shipped<S: Source, K: Sink, P: Provider>(

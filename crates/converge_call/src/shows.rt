@@ -2,15 +2,15 @@
 ghost use Rattle.std.specs.Prelude.{◌≡◌, option_map};
 ghost use Rattle.core_state.specs.State.{stack_at};
 ghost use Rattle.core_state.specs.declared.stack.Stack.{Stack as stack_type};
-ghost use Rattle.book.specs.Kept.{IsSameBook};
-ghost use Rattle.book.specs.Quiet.{page};
+ghost use Rattle.driver.specs.Kept.{IsSameBook};
+ghost use Rattle.driver.specs.Quiet.{page};
 ghost use Rattle.converge_call.specs.Notes.{IsUndone, HasDone};
 ghost use Rattle.converge_call.specs.Shows.{ShowDoes, OutputsDoes};
 
 use crate::exit::Exit;
 use crate::notes::{note, refuse};
-use book::Book;
 use core_state::{ShowWhat, What};
+use driver::Book;
 use heat_plan::{StackName, Status};
 use provider::Provider;
 use std::alloc::Global;

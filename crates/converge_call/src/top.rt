@@ -1,21 +1,21 @@
 //! The top call: from the words and the bytes that come in to the bytes that go out.
 ghost use Rattle.std.specs.Prelude.{◌≡◌, ◌≢◌, ◌≤◌, ◌↔◌, [], map};
 ghost use Rattle.provider.specs.Calls.{Lists};
-ghost use Rattle.book.specs.Kept.{Shown, IsSameBook, HasRun, HasHeadline, opened};
-ghost use Rattle.program_words.specs.Words.{IsForm};
+ghost use Rattle.driver.specs.Kept.{Shown, IsSameBook, HasRun, HasHeadline, opened};
+ghost use Rattle.converge_call.specs.Words.{IsForm};
 ghost use Rattle.converge_call.specs.Ends.{outside, HasDriven, IsUntouched, OpensFor};
 ghost use Rattle.converge_call.specs.Stocks.{first_stock};
-ghost use Rattle.program_words.specs.declared.setup.Mode.{Mode as mode_type};
+ghost use Rattle.converge_call.specs.declared.setup.Mode.{Mode as mode_type};
 
 use crate::drive::drive;
 use crate::exit::{Exit, Finding};
-use book::{Book, Opened};
+use crate::{WordsFault, words_of};
+use driver::{Book, Opened};
 use heat_io::{Sink, Source};
 use heat_value::Text;
-use hot_registry::Registry;
-use program_words::{WordsFault, words_of};
 use provider::Provider;
 use std::alloc::Global;
+use type_catalog::Registry;
 
 /// What is left at the end: the book, or the cloud as it was where no book was opened.
 pub enum End<P: Provider> {

@@ -1,16 +1,16 @@
 //! Lines that give kinds.
 ghost use Rattle.std.specs.Prelude.{◌≡◌, List, OnOk};
 ghost use Rattle.heat_value.specs.Meaning.{data_of};
-ghost use Rattle.hot_registry.specs.declared.custom.NamedTest.{NamedTest as test_type};
-ghost use Rattle.book.specs.Kept.{IsSameBook};
-ghost use Rattle.book.specs.Quiet.{page};
+ghost use Rattle.type_catalog.specs.declared.custom.NamedTest.{NamedTest as test_type};
+ghost use Rattle.driver.specs.Kept.{IsSameBook};
+ghost use Rattle.driver.specs.Quiet.{page};
 ghost use Rattle.converge_call.specs.Notes.{IsUndone, HasDone};
 ghost use Rattle.converge_call.specs.Commands.{TypesDoes};
 ghost use Rattle.converge_call.specs.Stocks.{stock, TakesKinds};
 
 use crate::exit::Exit;
 use crate::notes::refuse_at;
-use book::Book;
+use driver::Book;
 use heat_value::Value;
 use hot_catalog::{Catalog, CatalogFault};
 use provider::Provider;

@@ -2,8 +2,8 @@
 use Rattle.std.proofs.Common.{◌≡◌, ◌+◌, ℕ, false, List, [], ◌∷◌, length, refl, ap, arith}
 use Rattle.traversal_graph.specs.declared.shape.Node.{Node}
 use Rattle.sync_points.specs.declared.point.Point.{Point}
-use Rattle.indexed_points.specs.Numbers.{fresh_points as fresh_with}
-use Rattle.indexed_points.specs.Points.{own_points}
+use Rattle.sync_points.specs.Numbers.{fresh_points as fresh_with}
+use Rattle.sync_points.specs.Points.{own_points}
 use Rattle.core_state.specs.Graphs.{fresh_points}
 
 pub fresh_alone : (stack : List ℕ) (place : ℕ) (preds : List (List ℕ)) (nodes : List Node) → length preds ≡ length nodes

@@ -4,9 +4,9 @@ ghost use Rattle.core_state.specs.Graphs.{fresh_points};
 
 use heat_plan::StackName;
 use heat_value::{Equals, TryCopy};
-use indexed_points::NodePoints;
 use keyed_table::Keyed;
 use std::alloc::{AllocError, Global};
+use sync_points::NodePoints;
 use traversal_graph::TravGraph;
 
 /// A stack's newest graph, with a point for each of its nodes.

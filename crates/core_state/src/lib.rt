@@ -17,6 +17,7 @@ mod ready;
 mod shared_plan;
 mod stack;
 mod state;
+mod state_equality;
 
 pub use apply_fault::ApplyFault;
 pub use batch::Batch;

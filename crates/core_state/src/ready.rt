@@ -5,9 +5,9 @@ ghost use Rattle.core_state.specs.Changes.{points_for};
 use crate::batch::Batch;
 use crate::change::Change;
 use crate::graph::fresh_points;
-use indexed_points::NodePoints;
 use std::alloc::{AllocError, Global};
 use std::marker::Model;
+use sync_points::NodePoints;
 
 /// A change, with the points that it brings with it. It is made without memory, within the room.
 #[derive(Debug, Drop)]
@@ -39,6 +39,13 @@ impl Ready {
     {
         let points = points_for(alloc, &change)?;
         Ok(Ready { change, points })
+    }
+
+    /// The change.
+    pub fn change(&self) -> &Change
+        ensures { result.now ≡ self.now }
+    {
+        &self.change
     }
 
     /// The change and its points.

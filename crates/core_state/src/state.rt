@@ -1,9 +1,9 @@
 //! The engine's state: tables, the live engines, the released tokens, and the next numbers.
 ghost use Rattle.std.specs.Prelude.{◌≡◌, ◌<◌, ◌≤◌, ◌+◌, [], OnOk, IfOk, filter, length, nat_eq, not, option_map};
 ghost use Rattle.row_table.specs.Rows.{row_at};
-ghost use Rattle.indexed_rows.specs.Found.{IsCurrentOf};
+ghost use Rattle.row_table.specs.Found.{IsCurrentOf};
 ghost use Rattle.mail_table.specs.Mails.{letter_at, job_at};
-ghost use Rattle.indexed_mail.specs.Holders.{IsFirst};
+ghost use Rattle.mail_table.specs.Holders.{IsFirst};
 ghost use Rattle.core_state.specs.State.{StateData, stack_at, graph_at, past_at};
 ghost use Rattle.core_state.specs.Changes.{apply, applied, put_point};
 
@@ -16,11 +16,9 @@ use crate::point_write::PointWrite;
 use crate::ready::Ready;
 use crate::stack::Stack;
 use heat_plan::{EngineNo, LetterNo, ResName, RowNo, StackName, Token};
-use indexed_mail::{MailTable, Mails};
-use indexed_rows::{RowTable, Rows};
 use keyed_table::{ListTable, Roomed, Table};
-use mail_table::{Job, Letter};
-use row_table::Row;
+use mail_table::{Job, Letter, MailTable, Mails};
+use row_table::{Row, RowTable, Rows};
 use std::alloc::{AllocError, Global};
 use std::marker::Model;
 use sync_points::Point;
@@ -116,6 +114,20 @@ impl State {
         ensures { result.now ≡ self.now.state.stacks }
     {
         self.stacks.as_slice()
+    }
+
+    /// The stacks' newest graphs.
+    pub fn graphs(&self) -> &[Graph]
+        ensures { result.now ≡ self.now.state.graphs }
+    {
+        self.graphs.as_slice()
+    }
+
+    /// What stacks could go back to.
+    pub fn pasts(&self) -> &[Past]
+        ensures { result.now ≡ self.now.state.pasts }
+    {
+        self.pasts.as_slice()
     }
 
     /// The rows.

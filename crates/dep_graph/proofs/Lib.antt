@@ -8,3 +8,7 @@ pub mod ClosingLemmas
 pub mod CycleLemmas
 pub mod ReadyLemmas
 pub mod CountLemmas
+pub mod RankCountLemmas
+pub mod VisitLemmas
+pub mod RankLemmas
+pub mod LoopLemmas

@@ -6,3 +6,6 @@ pub mod Counts
 pub mod Orders
 pub mod Closings
 pub mod Answers
+pub mod Loops
+pub mod Ranks
+pub mod Leaving

@@ -1,5 +1,5 @@
 //! Images of worked bytes in both versions: whole, cut at each length, behind each gate, out of place.
-use journal_form::read_image;
+use row_journal::read_image;
 use std::alloc::{AllocError, Global};
 use std::process::Abort;
 use std::test::Fail;

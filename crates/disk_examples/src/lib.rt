@@ -1,5 +1,5 @@
 //! Disks and journals: what crashes leave of worked bytes, what each failing call leaves, and real files.
-//! There are tests alone here, of `heat_disk`, `journal_form` and `row_journal`; nothing stands on this crate.
+//! There are tests alone here, of `heat_disk` and `row_journal`; nothing stands on this crate.
 #![tactic(auto)]
 
 #[cfg(test)]

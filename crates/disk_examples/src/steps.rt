@@ -1,7 +1,6 @@
 //! Steps of a journal, and what is read of one.
 use heat_disk::Disk;
-use journal_form::Payload;
-use row_journal::Journal;
+use row_journal::{Journal, Payload};
 use std::alloc::{AllocError, Global};
 
 /// The payloads, each with a stop behind it.

@@ -18,7 +18,7 @@ use Rattle.core_state.specs.State.{StateData}
 use Rattle.step_relation.specs.Nexts as next
 use Rattle.next_laws.proofs.Listings.{in_head, no_member}
 use Rattle.history_laws.proofs.tables.Rows.{same_or_not}
-use Rattle.turn_laws.proofs.Decide.{below_or_not, member_or_not}
+use Rattle.next_laws.proofs.Decide.{below_or_not, member_or_not}
 use Rattle.step_relation.specs.Headline.{IsIdleBook}
 use Rattle.step_relation.specs.MailFits.{IsUnderWay, polls}
 use Rattle.step_relation.specs.Sound.{Standing}

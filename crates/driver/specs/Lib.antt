@@ -4,3 +4,10 @@ pub mod Turns
 pub mod Settled
 pub mod Keyed
 pub mod Parts
+pub use Rattle.book.specs.Commands
+pub use Rattle.book.specs.Kept
+pub use Rattle.book.specs.Makings
+pub use Rattle.book.specs.Openings
+pub use Rattle.book.specs.Quiet
+pub use Rattle.book.specs.Scenes
+pub use Rattle.book.specs.Turned

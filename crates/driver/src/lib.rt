@@ -13,6 +13,7 @@ mod rounds;
 mod rows;
 mod stacks;
 
+pub use book::{Book, Opened, StackCommand, Turn};
 pub use left::work;
 pub use ran::Ran;
 pub use rounds::turns;

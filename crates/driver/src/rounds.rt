@@ -9,8 +9,8 @@ ghost use Rattle.driver.specs.Turns.{HasRan};
 use crate::next::next_engine;
 use crate::ran::Ran;
 use book::{Book, Turn};
-use hot_registry::Registry;
 use provider::Provider;
+use type_catalog::Registry;
 
 /// Makes at most `n` turns, until the book is idle. It goes round the live engines by rising number from
 /// the lowest; one that has nothing to do is passed over, and isn't counted.

@@ -10,7 +10,7 @@ use Rattle.heat_plan.specs.declared.facts.KnownFacts.{KnownFacts}
 use Rattle.heat_plan.specs.declared.item.Item.{Item}
 use Rattle.heat_plan.specs.declared.token.Token.{Token}
 use Rattle.core_state.specs.declared.entry.Entry.{Entry}
-use Rattle.hot_resolve.specs.Resolve.{Fault, Props, Resolved, resolve}
+use Rattle.eval_words.specs.Resolve.{Fault, Props, Resolved, resolve}
 use Rattle.provider.specs.Table.{Living, TokenState}
 use Rattle.step_relation.specs.Opening.{Opening, first_of, empty_opening}
 use Rattle.step_relation.specs.Could.{could}

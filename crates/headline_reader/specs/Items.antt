@@ -6,7 +6,7 @@ use Rattle.heat_plan.specs.Plans.{PlanData}
 use Rattle.heat_plan.specs.declared.facts.Facts.{Facts}
 use Rattle.heat_plan.specs.declared.facts.KnownFacts.{KnownFacts}
 use Rattle.heat_plan.specs.declared.item.Item.{Item}
-use Rattle.hot_resolve.specs.Resolve.{Fault, Props, Resolved, resolve}
+use Rattle.eval_words.specs.Resolve.{Fault, Props, Resolved, resolve}
 use Rattle.provider.specs.Table.{Living, TokenState}
 use Rattle.step_relation.specs.Tokens.{IsCertain, MayLive}
 use Rattle.headline_reader.specs.declared.possible.Possible.{Possible}

@@ -1,6 +1,6 @@
 //! What an item of a plan asks for, among the tokens that calls name.
 ghost use Rattle.std.specs.Prelude.{◌↔◌, IsTrue, IfOk};
-ghost use Rattle.hot_resolve.specs.Resolve.{resolve};
+ghost use Rattle.eval_words.specs.Resolve.{resolve};
 ghost use Rattle.headline_reader.specs.Items.{IsAs, IsOfItem, IsSame, IsOnly, HasOne, HasResolved, HasItem};
 ghost use Rattle.headline_reader.specs.Items.{HasName, IsPlanned};
 

@@ -6,3 +6,4 @@ pub mod Named
 pub mod Plans
 pub mod Refusals
 pub mod Tables
+pub use Rattle.heat_value.specs.Code

@@ -25,6 +25,7 @@ pub use calls::{Answered, Request};
 pub use conditions::Condition;
 pub use facts::{Facts, Known, KnownFacts};
 pub use files::File;
+pub use heat_value::{Equals, Seq, TryCopy, copy_option};
 pub use item::{Item, Policy};
 pub use kind::Kind;
 pub use names::{ResName, StackName};

@@ -3,3 +3,4 @@ pub mod Lists
 pub mod Conversions
 pub mod Puts
 pub mod Searches
+pub mod Orders

@@ -9,3 +9,5 @@ pub mod Reading
 pub mod Places
 pub mod Lending
 pub mod Counts
+pub mod Order
+pub mod OrderLaws

@@ -19,5 +19,6 @@ pub use seq::Seq;
 pub use text::Text;
 pub use value::coercion::text_of;
 pub use value::nesting::nests_within;
+pub use value::ordering::values_are_ordered;
 pub use value::reading::MAX_DEPTH;
 pub use value::{Items, Member, Props, Value};

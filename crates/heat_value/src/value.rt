@@ -8,6 +8,7 @@ mod equality;
 mod lists;
 mod maps;
 pub mod nesting;
+pub mod ordering;
 pub mod printing;
 pub mod reading;
 

@@ -25,7 +25,7 @@ use Rattle.step_relation.specs.Tokens.{token_at}
 use Rattle.step_relation.specs.Headline.{AtPrefix, Headline}
 use Rattle.history_laws.proofs.tables.Puts.{contains_head}
 use Rattle.history_laws.proofs.tables.Rows.{same_some}
-use Rattle.hot_resolve.specs.Resolve.{Props}
+use Rattle.eval_words.specs.Resolve.{Props}
 use Rattle.next_laws.proofs.Listings.{in_head, in_tail}
 use Rattle.history_examples.specs.Created.{poll_tells, until_asked}
 use Rattle.history_examples.specs.FirstRow.{row_begun, row_done, row_ready}

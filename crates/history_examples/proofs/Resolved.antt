@@ -5,9 +5,9 @@ use Rattle.json.specs.Print.{escape_byte}
 use Rattle.heat_value.specs.Data.{fields}
 use Rattle.heat_plan.specs.declared.facts.KnownFacts.{KnownFacts}
 use Rattle.heat_plan.specs.declared.item.Policy.{Policy}
-use Rattle.hot_eval.specs.Outcomes.{is_result}
-use Rattle.hot_resolve.proofs.Unchanged.{unchanged}
-use Rattle.hot_resolve.specs.Resolve.{Props, resolve}
+use Rattle.eval_words.specs.Outcomes.{is_result}
+use Rattle.eval_words.proofs.Unchanged.{unchanged}
+use Rattle.eval_words.specs.Resolve.{Props, resolve}
 use Rattle.history_examples.specs.Setting.{item_under, plan_under, sized}
 
 one_is_small : is_result (fields (sized 1)) ≡ true

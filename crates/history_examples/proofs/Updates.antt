@@ -25,7 +25,7 @@ use Rattle.core_state.specs.declared.change.Change.{Change}
 use Rattle.core_state.specs.declared.change.Change.TheVariants.{Drop, PutGraph, PutJob, PutPast, PutRow, PutStack, Send}
 use Rattle.core_state.specs.declared.entry.Entry.{Entry}
 use Rattle.core_state.specs.declared.stack.Stack.{Stack}
-use Rattle.hot_resolve.specs.Resolve.{Props, resolve}
+use Rattle.eval_words.specs.Resolve.{Props, resolve}
 use Rattle.type_catalog.specs.Changes.{ChangeOf}
 use Rattle.type_catalog.specs.declared.effect.Effect.{Effect}
 use Rattle.step_relation.specs.Begins.{Begins, MustGo}

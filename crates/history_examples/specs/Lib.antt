@@ -16,3 +16,11 @@ pub mod Cancelled
 pub mod Stolen
 pub mod InPlace
 pub mod Retained
+pub mod Links
+pub mod Graphs
+pub mod Edges
+pub mod Jobs
+pub mod Rows
+pub mod Marks
+pub mod Covers
+pub mod Tells

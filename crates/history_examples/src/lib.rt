@@ -1,5 +1,6 @@
-//! Written-out histories of a stack with one resource: each is a run, and has the main theorem.
-//! Nothing here is run: each function has an empty body and stands for its clause.
+//! Written-out histories of a stack with one resource: each is a run, and has the main theorem; and
+//! single moves with their changes and entries written out (`case_laws`). Nothing here is run: each
+//! function has an empty body and stands for its clause.
 #![tactic(auto)]
 
 ghost use Rattle.history_examples.specs.Cancelled.{IsCancelled, cancelled_by_an_engine};
@@ -20,6 +21,15 @@ ghost use Rattle.history_examples.specs.Spoiled.{purged_while_alive, released_wi
 ghost use Rattle.history_examples.specs.Stolen.{IsStolen, marked_at_the_steal};
 ghost use Rattle.history_examples.specs.TakenOver.{IsTakenOver, purged_at_the_take_over};
 ghost use Rattle.history_examples.specs.Undone.{IsUndone, marked_in_doubt};
+
+mod case_laws;
+
+pub use case_laws::{
+    begun_fits, cleaned_is_marked, delete_is_linked, deleted_fits, finish_fits, given_up_fits,
+    given_up_is_retained, in_place_agrees, leaving_is_linked, only_cycles_are_left_out,
+    overrun_fits, purge_agrees, release_is_linked, replacement_fits, replacement_is_linked,
+    resumed_fits, stale_end_tells, stale_take_over_tells, steal_is_linked, taken_is_linked,
+};
 
 /// A run from the opening of the examples has the main theorem, where its answers are a provider's.
 pub fn runs_have_headline()

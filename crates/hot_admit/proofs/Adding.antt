@@ -8,8 +8,8 @@ use Rattle.std.proofs.lemmas.Option.{slice_get_within}
 use Rattle.std.proofs.lemmas.Slice.Eq.{bytes_eq-Decides}
 use Rattle.heat_plan.specs.Named.{condition_value}
 use Rattle.heat_value.specs.Data.{Data, Members, no_members, member, keys_of, lookup, Rises}
-use Rattle.hot_eval.specs.Conditions.{flag_of}
-use Rattle.hot_eval.specs.SoFar.{named_values}
+use Rattle.eval_words.specs.Conditions.{flag_of}
+use Rattle.eval_words.specs.SoFar.{named_values}
 use Rattle.hot_admit.specs.Valuing.{AreFound, Grows, IsFoundAt, AddsRound, FindsOne}
 use Rattle.hot_admit.proofs.Rounds.{flag_stays, valued_at, within_both}
 

@@ -9,7 +9,7 @@ use Rattle.hot_forms.specs.Shapes.{members_in}
 use Rattle.std.proofs.lemmas.List.Elements.{All-nil, All-cons}
 use Rattle.hot_admit.specs.Plans.{AreShallow}
 use Rattle.hot_admit.specs.Resources.{OutputData, output_with, outputs_among}
-use Rattle.hot_parts.specs.Readings.{object_in, or_null, entries}
+use Rattle.hot_tree.specs.Readings.{object_in, or_null, entries}
 
 found_at : (l k : List ℕ) (e d : Data) (o : Option Data) (n : ℕ) (b : Bool) → (if b then Some e else o) ≡ Some d
     → (o ≡ Some d → depth d ≤ n) → depth d ≤ max (depth e) n

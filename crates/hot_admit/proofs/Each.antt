@@ -9,8 +9,8 @@ use Rattle.hot_admit.specs.Items.{IsFit}
 use Rattle.hot_admit.specs.Plans.{AreShallow}
 use Rattle.hot_admit.specs.Resources.{ResourceData, resource_data, resources_data, names_of}
 use Rattle.hot_admit.specs.Resources.{OutputData, output_data, outputs_data}
-use Rattle.hot_parts.specs.declared.output.Out.{Out}
-use Rattle.hot_parts.specs.declared.res.Res.{Res}
+use Rattle.hot_tree.specs.declared.out_part.Out.{Out}
+use Rattle.hot_tree.specs.declared.res.Res.{Res}
 
 pub name_at : (rs : List Res) (i : ℕ) (r : Res) → All IsResName (names_of (resources_data rs)) → i < length rs
     → r ≡ get_or rs i r → IsResName r.name

@@ -16,9 +16,9 @@ use Rattle.heat_value.proofs.Searches.{flipped, equal_by}
 use Rattle.heat_value.specs.Data.{Data, Members, no_members, member, keys_of, lookup, Rises}
 use Rattle.heat_value.specs.Meaning.{data_of, members_of}
 use Rattle.heat_value.specs.declared.value.Member.{Member}
-use Rattle.hot_eval.specs.Conditions.{flag_of, values_of}
-use Rattle.hot_eval.specs.SoFar.{with_value, named_values}
-use Rattle.hot_eval.proofs.Placed.{value_in_front, nothing_below, or_none}
+use Rattle.eval_words.specs.Conditions.{flag_of, values_of}
+use Rattle.eval_words.specs.SoFar.{with_value, named_values}
+use Rattle.eval_words.proofs.Placed.{value_in_front, nothing_below, or_none}
 use Rattle.hot_admit.specs.Valuing.{FindsOne, IsWithin, AreFound, Grows, IsFoundAt}
 use Rattle.hot_admit.proofs.Chosen.{Behind}
 use Rattle.hot_admit.proofs.Keyed.{behind_at, keys_count}

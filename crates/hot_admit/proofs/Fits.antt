@@ -19,14 +19,14 @@ use Rattle.hot_forms.specs.Parameters.{parameter_flaw}
 use Rattle.hot_forms.specs.Shapes.{members_in}
 use Rattle.hot_forms.specs.declared.code.HotCode.{HotCode}
 use Rattle.hot_forms.specs.declared.flaw.Flaw.{Flaw}
-use Rattle.hot_registry.specs.declared.kind.KindDef.{KindDef}
+use Rattle.type_catalog.specs.declared.kind.KindDef.{KindDef}
 use Rattle.hot_tree.specs.Entries.{resource_flaw as shape_flaw, condition_flaw, output_flaw}
 use Rattle.hot_tree.specs.Whole.{in_section, entries_flaw, functions_flaw, entries as whole_entries}
 use Rattle.std.proofs.lemmas.Bool.{leb-true}
 use Rattle.hot_admit.specs.Admission.{own_flaw}
 use Rattle.hot_admit.specs.Plans.{Given, basis_of}
 use Rattle.hot_forms.specs.Sections.{section, sections_flaw}
-use Rattle.hot_parts.specs.Readings.{object_in, entries}
+use Rattle.hot_tree.specs.Readings.{object_in, entries}
 use Rattle.hot_tree.specs.Functions.{members_there}
 use Rattle.hot_tree.specs.Template.{IsRight}
 use Rattle.hot_admit.proofs.Depths.{members_in_depth, object_depth, entries_depth}

@@ -3,19 +3,19 @@ use Rattle.std.proofs.Common.{◌≡◌, ◌+◌, ℕ, List, [], ◌∷◌, Bool
 use Rattle.std.proofs.Common.{Result, refl, sym, subst, nat_le, option_map, if◌then◌else◌}
 use Rattle.std.specs.Prelude.{⊤, IsSome, option_and_then}
 use Rattle.heat_value.specs.Data.{Data, Nodes, node}
-use Rattle.hot_eval.specs.Evaluation.{Evaluating, answer_of}
-use Rattle.hot_eval.specs.Functions.{flags_in}
-use Rattle.hot_eval.specs.Manners.{manner_of}
-use Rattle.hot_eval.specs.Outcomes.{Outcome, Gives, Faults, and_then, made_into, charged, answered}
-use Rattle.hot_eval.specs.Outcomes.{size, cost_limit}
-use Rattle.hot_eval.specs.Scenes.{SceneData}
-use Rattle.hot_eval.specs.Sorts.{flag_in, listed, two_of, wanted}
-use Rattle.hot_eval.specs.declared.code.FaultCode.{FaultCode}
-use Rattle.hot_eval.specs.declared.code.FaultCode.TheVariants.{F07}
-use Rattle.hot_eval.specs.declared.function.Function.{Function}
-use Rattle.hot_eval.specs.declared.function.Function.TheVariants as function
-use Rattle.hot_eval.specs.declared.manner.Manner.{Manner}
-use Rattle.hot_eval.specs.declared.manner.Manner.TheVariants as manner
+use Rattle.eval_words.specs.Evaluation.{Evaluating, answer_of}
+use Rattle.eval_words.specs.Functions.{flags_in}
+use Rattle.eval_words.specs.Manners.{manner_of}
+use Rattle.eval_words.specs.Outcomes.{Outcome, Gives, Faults, and_then, made_into, charged, answered}
+use Rattle.eval_words.specs.Outcomes.{size, cost_limit}
+use Rattle.eval_words.specs.Scenes.{SceneData}
+use Rattle.eval_words.specs.Sorts.{flag_in, listed, two_of, wanted}
+use Rattle.eval_words.specs.declared.code.FaultCode.{FaultCode}
+use Rattle.eval_words.specs.declared.code.FaultCode.TheVariants.{F07}
+use Rattle.eval_words.specs.declared.function.Function.{Function}
+use Rattle.eval_words.specs.declared.function.Function.TheVariants as function
+use Rattle.eval_words.specs.declared.manner.Manner.{Manner}
+use Rattle.eval_words.specs.declared.manner.Manner.TheVariants as manner
 
 -- ---- which arguments a function answers at all
 

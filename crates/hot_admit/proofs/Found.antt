@@ -11,9 +11,9 @@ use Rattle.heat_plan.specs.declared.conditions.Condition.{Condition}
 use Rattle.heat_value.specs.Data.{Data, Members, no_members, member, keys_of, lookup, Rises}
 use Rattle.heat_value.specs.Meaning.{data_of, members_of}
 use Rattle.heat_value.specs.declared.value.Member.{Member}
-use Rattle.hot_eval.specs.Conditions.{flag_of, values_of, valued, valued_after, count_of, first_unvalued}
-use Rattle.hot_eval.specs.SoFar.{with_value, named_values}
-use Rattle.hot_eval.specs.Conditions.{unless_valued}
+use Rattle.eval_words.specs.Conditions.{flag_of, values_of, valued, valued_after, count_of, first_unvalued}
+use Rattle.eval_words.specs.SoFar.{with_value, named_values}
+use Rattle.eval_words.specs.Conditions.{unless_valued}
 use Rattle.hot_admit.specs.Conds.{flags_of, condition_path}
 use Rattle.hot_admit.specs.Valuing.{IsWithin, AreFound, AddsRound}
 use Rattle.hot_admit.proofs.Rounds.{value_is, values_again, within_both, nothing_within, round_within, none_behind}

@@ -13,7 +13,7 @@ use Rattle.hot_admit.specs.Cycles.{IsCycleOf, names_at}
 use Rattle.hot_admit.specs.Plans.{Given}
 use Rattle.hot_admit.specs.declared.code.AdmitCode.TheVariants.{C01, C02, A04}
 use Rattle.hot_admit.specs.declared.fault.AdmitFlaw.{AdmitFlaw}
-use Rattle.hot_eval.specs.Conditions.{IsLeastOnCycle}
+use Rattle.eval_words.specs.Conditions.{IsLeastOnCycle}
 use Rattle.traversal_graph.specs.Relations.{IsNeeded}
 use Rattle.hot_admit.proofs.Members.{first_is}
 use Rattle.hot_admit.proofs.OneCycle.{cycle_one}

@@ -27,11 +27,11 @@ use Rattle.hot_admit.specs.declared.conds.Wanted.{Wanted}
 use Rattle.hot_admit.specs.declared.fault.AdmitFlaw.{AdmitFlaw}
 use Rattle.hot_admit.specs.declared.fault.CondFault.{CondFault}
 use Rattle.hot_admit.specs.declared.fault.CondFault.TheVariants.{C01, C02, Memory}
-use Rattle.hot_parts.specs.Parts.{ArePartsOf}
-use Rattle.hot_parts.specs.Readings.{entries}
-use Rattle.hot_parts.specs.declared.parts.Parts.{Parts}
-use Rattle.hot_parts.specs.declared.res.Res.{Res}
-use Rattle.hot_registry.specs.declared.kind.KindDef.{KindDef}
+use Rattle.hot_tree.specs.Parts.{ArePartsOf}
+use Rattle.hot_tree.specs.Readings.{entries}
+use Rattle.hot_tree.specs.declared.parts.Parts.{Parts}
+use Rattle.hot_tree.specs.declared.res.Res.{Res}
+use Rattle.type_catalog.specs.declared.kind.KindDef.{KindDef}
 use Rattle.hot_tree.specs.Template.{IsRight}
 use Rattle.hot_admit.proofs.Admitted.{items_rise, items_met, items_few, items_are_plan}
 use Rattle.hot_admit.proofs.Depths.{entries_depth, outputs_depth}

@@ -16,8 +16,8 @@ use Rattle.heat_value.specs.declared.value.Member.{Member}
 use Rattle.heat_plan.proofs.Searched.{cmp}
 use Rattle.hot_admit.specs.Kinds.{has_property, first_unknown}
 use Rattle.hot_forms.specs.Checks.{is_among}
-use Rattle.hot_registry.specs.declared.kind.KindDef.{KindDef}
-use Rattle.hot_registry.specs.declared.kind.PropDef.{PropDef}
+use Rattle.type_catalog.specs.declared.kind.KindDef.{KindDef}
+use Rattle.type_catalog.specs.declared.kind.PropDef.{PropDef}
 use Rattle.traversal_graph.proofs.NeedMembers.{same_name}
 use Rattle.hot_admit.proofs.Found.{left_at}
 use Rattle.hot_admit.proofs.Keyed.{named_at, is_at, keys_count}

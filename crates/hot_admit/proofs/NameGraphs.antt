@@ -9,7 +9,7 @@ use Rattle.heat_value.specs.Data.{Data, keys_of, lookup, Rises}
 use Rattle.heat_value.specs.Meaning.{data_of, members_of}
 use Rattle.heat_value.specs.declared.value.Member.{Member}
 use Rattle.hot_admit.specs.Naming.{IsNamedBy, HasNames, HasFirstNames, HasNameAt, AddsNames}
-use Rattle.hot_eval.specs.Conditions.{names_read}
+use Rattle.eval_words.specs.Conditions.{names_read}
 use Rattle.hot_functions.specs.declared.place.Place.TheVariants as place
 use Rattle.hot_admit.proofs.Keyed.{is_at, keys_count}
 

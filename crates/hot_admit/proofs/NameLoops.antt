@@ -13,7 +13,7 @@ use Rattle.dep_graph.specs.Orders.{Orders}
 use Rattle.dep_graph.specs.Paths.{Leads, HasPath, IsAcyclic}
 use Rattle.dep_graph.proofs.PathLemmas.{HasPath-refl, HasPath-push, HasPath-first, IsPath-weaker, leads_of}
 use Rattle.dep_graph.proofs.PathLemmas.{no_loop, acyclic_from}
-use Rattle.graph_loops.specs.Loops.{IsOnLoop}
+use Rattle.dep_graph.specs.Loops.{IsOnLoop}
 use Rattle.heat_plan.specs.Order.{Rising}
 use Rattle.heat_value.proofs.Searches.{lookup_placed, at_place}
 use Rattle.heat_value.specs.Data.{Data, Members, keys_of, lookup, Rises}
@@ -21,7 +21,7 @@ use Rattle.heat_value.specs.Meaning.{members_of}
 use Rattle.heat_value.specs.Places.{place}
 use Rattle.heat_value.specs.declared.value.Member.{Member}
 use Rattle.hot_admit.specs.Naming.{IsNamedBy, HasNames, IsNamingOrder}
-use Rattle.hot_eval.specs.Conditions.{Names, IsChain, IsOnCycle, IsLeastOnCycle}
+use Rattle.eval_words.specs.Conditions.{Names, IsChain, IsOnCycle, IsLeastOnCycle}
 use Rattle.hot_admit.proofs.Alike.{orders_alike}
 use Rattle.hot_admit.proofs.Keyed.{named_at, behind_at}
 

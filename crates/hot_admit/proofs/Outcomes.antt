@@ -2,7 +2,7 @@
 use Rattle.std.proofs.Common.{◌≡◌, ◌∙◌, ◌∷◌, ℕ, List, Bool, true, false, refl, ap, if◌then◌else◌}
 use Rattle.std.specs.Prelude.{⊤}
 use Rattle.heat_value.specs.declared.path.Step.{Step}
-use Rattle.hot_eval.specs.Outcomes.{Outcome, Gives, Faults, and_then, made_into, seen_from, under}
+use Rattle.eval_words.specs.Outcomes.{Outcome, Gives, Faults, and_then, made_into, seen_from, under}
 
 -- what it gives, if that fits, the other gives too
 abbrev pub StaysIf : {A : Type 0} → (A → Type 0) → Outcome A → Outcome A → Type 0

@@ -10,12 +10,12 @@ use Rattle.heat_plan.specs.Named.{condition_value}
 use Rattle.heat_plan.specs.declared.conditions.Condition.{Condition}
 use Rattle.heat_value.proofs.Searches.{equal_by}
 use Rattle.heat_value.specs.Data.{Data, flag, words, Members, no_members, member, lookup, keys_of, Rises}
-use Rattle.hot_eval.specs.Conditions.{flag_of, flag_made, valued, valued_after, count_of, values_of}
-use Rattle.hot_eval.specs.Conditions.{in_conditions}
-use Rattle.hot_eval.specs.SoFar.{with_value}
-use Rattle.hot_eval.specs.Evaluation.{evaluation, evaluation_within, condition_outcome}
-use Rattle.hot_eval.specs.Lookups.{named_condition}
-use Rattle.hot_eval.specs.Outcomes.{Outcome, Gives, Faults, cost_limit}
+use Rattle.eval_words.specs.Conditions.{flag_of, flag_made, valued, valued_after, count_of, values_of}
+use Rattle.eval_words.specs.Conditions.{in_conditions}
+use Rattle.eval_words.specs.SoFar.{with_value}
+use Rattle.eval_words.specs.Evaluation.{evaluation, evaluation_within, condition_outcome}
+use Rattle.eval_words.specs.Lookups.{named_condition}
+use Rattle.eval_words.specs.Outcomes.{Outcome, Gives, Faults, cost_limit}
 use Rattle.hot_admit.specs.Valuing.{IsWithin}
 use Rattle.hot_admit.proofs.Chosen.{Behind}
 use Rattle.hot_admit.proofs.Outcomes.{StaysIf}

@@ -4,7 +4,7 @@ use Rattle.std.proofs.Common.{map, option_map, cond, find, bytes_eq}
 use Rattle.heat_plan.specs.Order.{Rising}
 use Rattle.hot_admit.specs.Basis.{resource_named}
 use Rattle.hot_admit.specs.Resources.{ResourceData, resource_data, resources_data, names_of}
-use Rattle.hot_parts.specs.declared.res.Res.{Res}
+use Rattle.hot_tree.specs.declared.res.Res.{Res}
 
 names_are : (rs : List Res) → names_of (resources_data rs) ≡ map (λ (r : Res). r.name) rs
 names_are [] = refl

@@ -6,27 +6,27 @@ use Rattle.heat_plan.specs.declared.conditions.Condition.{Condition}
 use Rattle.heat_value.specs.Data.{Data, null, flag, whole, words, items, fields, Nodes, no_nodes, node}
 use Rattle.heat_value.specs.Data.{Members, no_members, member}
 use Rattle.heat_value.specs.declared.path.Step.TheVariants.{Key, Index}
-use Rattle.hot_eval.specs.Choices.{Choice, Repetition, repetition}
-use Rattle.hot_eval.specs.Conditions.{in_conditions}
-use Rattle.hot_eval.specs.Evaluation.{Evaluating, Sole, sole_of, argument, call, called, answer_of, repeated}
-use Rattle.hot_eval.specs.Evaluation.{choice_outcome, choices_outcome, counted, in_repeat, alone}
-use Rattle.hot_eval.specs.Evaluation.{value_outcome, values_outcome, members_outcome, parts_outcome, repeat_outcome}
-use Rattle.hot_eval.specs.Evaluation.{all_but_outcome, if_outcome, chosen_outcome, branch_outcome, condition_outcome}
-use Rattle.hot_eval.specs.Evaluation.{condition_parts_outcome, conditions_outcome, evaluation_within}
-use Rattle.hot_eval.specs.Evaluation.{sole, object_outcome, object_condition, outcome_unless}
-use Rattle.hot_eval.specs.Fillings.{filled}
-use Rattle.hot_eval.specs.Lookups.{named_condition}
-use Rattle.hot_eval.specs.Manners.{manner_of}
-use Rattle.hot_eval.specs.Names.{function_of, condition_function_of, is_formed, is_condition_formed}
-use Rattle.hot_eval.specs.Outcomes.{Outcome, Gives, and_then, made_into, under, charged, answered}
-use Rattle.hot_eval.specs.Outcomes.{size}
-use Rattle.hot_eval.specs.Scenes.{SceneData}
-use Rattle.hot_eval.specs.Sorts.{flag_in, listed}
-use Rattle.hot_eval.specs.declared.code.FaultCode.{FaultCode}
-use Rattle.hot_eval.specs.declared.function.Function.{Function}
-use Rattle.hot_eval.specs.declared.function.Function.TheVariants as function
-use Rattle.hot_eval.specs.declared.manner.Manner.{Manner}
-use Rattle.hot_eval.specs.declared.manner.Manner.TheVariants as manner
+use Rattle.eval_words.specs.Choices.{Choice, Repetition, repetition}
+use Rattle.eval_words.specs.Conditions.{in_conditions}
+use Rattle.eval_words.specs.Evaluation.{Evaluating, Sole, sole_of, argument, call, called, answer_of, repeated}
+use Rattle.eval_words.specs.Evaluation.{choice_outcome, choices_outcome, counted, in_repeat, alone}
+use Rattle.eval_words.specs.Evaluation.{value_outcome, values_outcome, members_outcome, parts_outcome, repeat_outcome}
+use Rattle.eval_words.specs.Evaluation.{all_but_outcome, if_outcome, chosen_outcome, branch_outcome, condition_outcome}
+use Rattle.eval_words.specs.Evaluation.{condition_parts_outcome, conditions_outcome, evaluation_within}
+use Rattle.eval_words.specs.Evaluation.{sole, object_outcome, object_condition, outcome_unless}
+use Rattle.eval_words.specs.Fillings.{filled}
+use Rattle.eval_words.specs.Lookups.{named_condition}
+use Rattle.eval_words.specs.Manners.{manner_of}
+use Rattle.eval_words.specs.Names.{function_of, condition_function_of, is_formed, is_condition_formed}
+use Rattle.eval_words.specs.Outcomes.{Outcome, Gives, and_then, made_into, under, charged, answered}
+use Rattle.eval_words.specs.Outcomes.{size}
+use Rattle.eval_words.specs.Scenes.{SceneData}
+use Rattle.eval_words.specs.Sorts.{flag_in, listed}
+use Rattle.eval_words.specs.declared.code.FaultCode.{FaultCode}
+use Rattle.eval_words.specs.declared.function.Function.{Function}
+use Rattle.eval_words.specs.declared.function.Function.TheVariants as function
+use Rattle.eval_words.specs.declared.manner.Manner.{Manner}
+use Rattle.eval_words.specs.declared.manner.Manner.TheVariants as manner
 use Rattle.hot_admit.proofs.Outcomes.{StaysIf, Stays, Any, same_stays, stays_if, seen_stays, under_stays, made_stays}
 use Rattle.hot_admit.proofs.Outcomes.{next_stays, stays_where, unless_stays}
 use Rattle.hot_admit.proofs.Fitting.{HasFlag, HasFlags, HasTwo, FitsManner, fits_counted, flags_rest, first_has}

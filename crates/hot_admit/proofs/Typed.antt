@@ -6,12 +6,12 @@ use Rattle.hot_admit.specs.Resources.{names_of}
 use Rattle.hot_admit.specs.Resources.{output_with, outputs_among, output_data, outputs_data}
 use Rattle.hot_forms.specs.Shapes.{members_in}
 use Rattle.heat_plan.specs.Order.{Rising}
-use Rattle.hot_parts.specs.Entries.{IsRes, IsOut}
-use Rattle.hot_parts.specs.Parts.{ArePartsOf}
-use Rattle.hot_parts.specs.Readings.{AreEach, entries}
-use Rattle.hot_parts.specs.declared.parts.Parts.{Parts}
-use Rattle.hot_parts.specs.declared.output.Out.{Out}
-use Rattle.hot_parts.specs.declared.res.Res.{Res}
+use Rattle.hot_tree.specs.PartEntries.{IsRes, IsOut}
+use Rattle.hot_tree.specs.Parts.{ArePartsOf}
+use Rattle.hot_tree.specs.Readings.{AreEach, entries}
+use Rattle.hot_tree.specs.declared.parts.Parts.{Parts}
+use Rattle.hot_tree.specs.declared.out_part.Out.{Out}
+use Rattle.hot_tree.specs.declared.res.Res.{Res}
 
 resource_same : (k : List ℕ) (d : Data) (r : Res) → IsRes k d r → resource_data r ≡ resource_with k (members_in d)
 resource_same k d r h =

@@ -14,12 +14,12 @@ use Rattle.hot_admit.specs.Resources.{resources_in, outputs_in, conditions_in}
 use Rattle.hot_admit.specs.declared.conds.Wanted.{Wanted}
 use Rattle.hot_admit.specs.declared.fault.CondFault.{CondFault}
 use Rattle.hot_admit.specs.declared.fault.CondFault.TheVariants.{C01, C02, Memory}
-use Rattle.hot_eval.specs.Conditions.{condition_in, first_in_section, first_unvalued, unvalued, values_of}
-use Rattle.hot_eval.specs.Conditions.{IsOnCycle}
+use Rattle.eval_words.specs.Conditions.{condition_in, first_in_section, first_unvalued, unvalued, values_of}
+use Rattle.eval_words.specs.Conditions.{IsOnCycle}
 use Rattle.hot_forms.specs.Shapes.{members_in}
-use Rattle.hot_parts.specs.Parts.{ArePartsOf}
-use Rattle.hot_parts.specs.Readings.{entries}
-use Rattle.hot_parts.specs.declared.parts.Parts.{Parts}
+use Rattle.hot_tree.specs.Parts.{ArePartsOf}
+use Rattle.hot_tree.specs.Readings.{entries}
+use Rattle.hot_tree.specs.declared.parts.Parts.{Parts}
 use Rattle.hot_admit.specs.Naming.{IsNamingOrder}
 use Rattle.hot_admit.proofs.NameLoops.{none_cyclic}
 use Rattle.hot_admit.proofs.Typed.{resources_same, outputs_same}

@@ -4,8 +4,8 @@ use Rattle.heat_value.specs.Data.{Members}
 use Rattle.hot_admit.specs.Resources.{ResourceData, resources_data}
 use Rattle.hot_admit.specs.declared.basis.Basis.{Basis}
 use Rattle.hot_catalog.specs.Catalogs.{standing}
-use Rattle.hot_registry.specs.Registries.{kind_named}
-use Rattle.hot_registry.specs.declared.kind.KindDef.{KindDef}
+use Rattle.type_catalog.specs.Registries.{kind_named}
+use Rattle.type_catalog.specs.declared.kind.KindDef.{KindDef}
 
 -- a template's resources, the files beside it, and the kinds that stand
 pub record BasisData : Type 0 where

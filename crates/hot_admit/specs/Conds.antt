@@ -10,9 +10,9 @@ use Rattle.hot_admit.specs.declared.conds.Conds.{Conds}
 use Rattle.hot_admit.specs.declared.conds.Wanted.{Wanted}
 use Rattle.hot_admit.specs.declared.fault.CondFault.{CondFault}
 use Rattle.hot_admit.specs.declared.fault.CondFault.TheVariants.{C01, C02, Memory}
-use Rattle.hot_eval.specs.Conditions.{IsOnCycle, IsLeastOnCycle, IsFirstUnvalued, unvalued, values_of, flag_of}
-use Rattle.hot_eval.specs.Conditions.{unvalued_in}
-use Rattle.hot_parts.specs.Readings.{entries}
+use Rattle.eval_words.specs.Conditions.{IsOnCycle, IsLeastOnCycle, IsFirstUnvalued, unvalued, values_of, flag_of}
+use Rattle.eval_words.specs.Conditions.{unvalued_in}
+use Rattle.hot_tree.specs.Readings.{entries}
 
 -- the flag of an entry's `condition`, where these conditions have values; where there is none, true
 abbrev pub held : Members → List Condition → Option Data → Option Bool

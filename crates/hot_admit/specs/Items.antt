@@ -13,10 +13,10 @@ use Rattle.hot_admit.specs.Basis.{BasisData, kind_at}
 use Rattle.hot_admit.specs.Conds.{holds}
 use Rattle.hot_admit.specs.Resources.{ResourceData, names_of}
 use Rattle.hot_admit.specs.declared.conds.Wanted.{Wanted}
-use Rattle.hot_eval.specs.Needs.{references_under}
+use Rattle.eval_words.specs.Needs.{references_under}
 use Rattle.hot_forms.specs.Checks.{is_among}
-use Rattle.hot_registry.specs.Kinds.{kind_of}
-use Rattle.hot_registry.specs.declared.kind.KindDef.{KindDef}
+use Rattle.type_catalog.specs.Kinds.{kind_of}
+use Rattle.type_catalog.specs.declared.kind.KindDef.{KindDef}
 
 -- ---- which resources are wanted
 

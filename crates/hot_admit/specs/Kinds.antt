@@ -8,8 +8,8 @@ use Rattle.heat_value.specs.declared.path.Step.TheVariants.{Key}
 use Rattle.hot_admit.specs.Basis.{BasisData, kind_at}
 use Rattle.hot_admit.specs.Resources.{ResourceData}
 use Rattle.hot_catalog.specs.Paths.{here_unless, behind}
-use Rattle.hot_registry.specs.declared.kind.KindDef.{KindDef}
-use Rattle.hot_registry.specs.declared.kind.PropDef.{PropDef}
+use Rattle.type_catalog.specs.declared.kind.KindDef.{KindDef}
+use Rattle.type_catalog.specs.declared.kind.PropDef.{PropDef}
 
 -- A01: the type isn't in the catalogue
 abbrev pub of_unknown_kind : BasisData → ResourceData → Option (List Step)

@@ -3,7 +3,7 @@ use Rattle.std.specs.Prelude.{◌≡◌, ◌↔◌, ◌⊎◌, ◌<◌, ℕ, Lis
 use Rattle.dep_graph.specs.Edges.{Links, HasEdge}
 use Rattle.dep_graph.specs.Orders.{Orders}
 use Rattle.heat_value.specs.Data.{Members, keys_of}
-use Rattle.hot_eval.specs.Conditions.{Names}
+use Rattle.eval_words.specs.Conditions.{Names}
 
 -- the condition at the one place is named by the condition at the other
 pub record IsNamedBy (conds : Members) (before after : ℕ) : Type 0 where

@@ -11,9 +11,9 @@ use Rattle.hot_admit.specs.Conds.{holds}
 use Rattle.hot_admit.specs.Items.{wanted_among, absent_among, items_of}
 use Rattle.hot_admit.specs.Resources.{OutputData, conditions_in, resources_in, outputs_in}
 use Rattle.hot_admit.specs.declared.conds.Wanted.{Wanted}
-use Rattle.hot_eval.specs.Conditions.{values_of}
-use Rattle.hot_parts.specs.Readings.{text_or}
-use Rattle.hot_registry.specs.declared.kind.KindDef.{KindDef}
+use Rattle.eval_words.specs.Conditions.{values_of}
+use Rattle.hot_tree.specs.Readings.{text_or}
+use Rattle.type_catalog.specs.declared.kind.KindDef.{KindDef}
 
 -- what is given with a template: its bound parameters, the files of its body, and the kinds that stand
 pub record Given : Type 0 where

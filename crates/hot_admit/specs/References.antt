@@ -10,10 +10,10 @@ use Rattle.hot_admit.specs.Basis.{BasisData, kind_at, resource_named}
 use Rattle.hot_admit.specs.Places.{place_in, place_under, place_there}
 use Rattle.hot_admit.specs.Resources.{ResourceData, OutputData}
 use Rattle.hot_catalog.specs.Paths.{here_unless, behind, first_path}
-use Rattle.hot_eval.specs.Needs.{referred}
-use Rattle.hot_eval.specs.Sorts.{text_in, list_in}
+use Rattle.eval_words.specs.Needs.{referred}
+use Rattle.eval_words.specs.Sorts.{text_in, list_in}
 use Rattle.hot_forms.specs.Checks.{is_among}
-use Rattle.hot_registry.specs.declared.kind.KindDef.{KindDef}
+use Rattle.type_catalog.specs.declared.kind.KindDef.{KindDef}
 
 -- ---- A02
 

@@ -3,9 +3,9 @@ use Rattle.std.specs.Prelude.{ℕ, List, [], ◌∷◌, Option, option_map, map,
 use Rattle.heat_value.specs.Data.{Data, Members, no_members, member, lookup}
 use Rattle.heat_value.specs.Meaning.{data_of}
 use Rattle.hot_forms.specs.Shapes.{members_in}
-use Rattle.hot_parts.specs.Readings.{object_in, text_or, or_null, entries}
-use Rattle.hot_parts.specs.declared.output.Out.{Out}
-use Rattle.hot_parts.specs.declared.res.Res.{Res}
+use Rattle.hot_tree.specs.Readings.{object_in, text_or, or_null, entries}
+use Rattle.hot_tree.specs.declared.out_part.Out.{Out}
+use Rattle.hot_tree.specs.declared.res.Res.{Res}
 
 -- a resource; absent and null objects are empty, what it depends on is as written, null where absent
 pub record ResourceData : Type 0 where

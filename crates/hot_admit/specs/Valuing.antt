@@ -3,8 +3,8 @@ use Rattle.std.specs.Prelude.{◌≡◌, ℕ, List, Bool, Option, Some, None, le
 use Rattle.heat_plan.specs.Named.{condition_value}
 use Rattle.heat_plan.specs.declared.conditions.Condition.{Condition}
 use Rattle.heat_value.specs.Data.{Data, Members, keys_of, lookup}
-use Rattle.hot_eval.specs.Conditions.{flag_of, values_of, valued}
-use Rattle.hot_eval.specs.SoFar.{named_values}
+use Rattle.eval_words.specs.Conditions.{flag_of, values_of, valued}
+use Rattle.eval_words.specs.SoFar.{named_values}
 
 -- each that has a value in the one list has it in the other
 pub record IsWithin (known more : List Condition) : Type 0 where

@@ -6,8 +6,8 @@ ghost use Rattle.hot_admit.specs.Resources.{resources_data, names_of};
 use crate::lookup::resource_of;
 use heat_value::{Props, Text};
 use hot_catalog::Catalog;
-use hot_parts::Res;
-use hot_registry::KindDef;
+use hot_tree::Res;
+use type_catalog::KindDef;
 
 /// A template's resources, in byte order of their names, the files beside it, and the kinds that stand.
 #[derive(Clone, Copy)]

@@ -9,20 +9,18 @@ ghost use Rattle.hot_admit.specs.Conds.{resource_wanted, output_wanted, unvalued
 ghost use Rattle.hot_admit.specs.Naming.{IsNamingOrder};
 ghost use Rattle.hot_admit.specs.Resources.{resources_data, outputs_data};
 ghost use Rattle.hot_admit.specs.Valuing.{AreFound, Grows, IsFoundAt, AddsRound, FindsOne};
-ghost use Rattle.hot_eval.specs.Conditions.{first_unvalued, values_of};
+ghost use Rattle.eval_words.specs.Conditions.{first_unvalued, values_of};
 
 use crate::conds::{Conds, Wanted};
 use crate::fault::CondFault;
 use crate::names::names_graph;
 use crate::waiting::{Due, Waiting};
-use dep_graph::Order;
-use graph_loops::least_on_loop;
+use dep_graph::{Order, least_on_loop};
 use heat_plan::{ByName, Condition};
 use heat_value::{Member, Path, Props, Seq, Step, Text, TryCopy, Value};
 use hot_eval::{ValuedConds, flag_of, flag_or_missed};
 use hot_params::Bound;
-use hot_parts::{Out, Res};
-use hot_tree::Template;
+use hot_tree::{Out, Res, Template};
 use std::alloc::{AllocError, Global};
 
 /// The values of a template's conditions, and which of its resources and outputs are wanted; or C01 at

@@ -17,7 +17,7 @@ use crate::unsupported::{unsupported_in_output, unsupported_in_resource};
 use crate::{AdmitCode, AdmitFlaw, Basis};
 use heat_value::{Path, Text};
 use hot_catalog::{behind_key, behind_name, here_unless};
-use hot_parts::{Out, Res};
+use hot_tree::{Out, Res};
 use std::alloc::{AllocError, Global};
 
 // How many resources a template may have.

@@ -13,9 +13,9 @@ use crate::{Basis, Wanted};
 use heat_plan::{Item, Policy, Properties, ResName};
 use heat_value::{Props, Seq, Text, TryCopy};
 use hot_forms::is_among;
-use hot_parts::Res;
-use hot_registry::KindDef;
+use hot_tree::Res;
 use std::alloc::{AllocError, Global};
+use type_catalog::KindDef;
 
 /// The items of the resources that are wanted, in their order.
 pub fn items_of(alloc: Global, basis: &Basis, wanted: &[Wanted]) -> Result<Seq<Item>, AllocError>

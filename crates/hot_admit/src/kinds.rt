@@ -17,9 +17,9 @@ use crate::Basis;
 use crate::lookup::place_of;
 use heat_value::{Member, Path, Props, Text};
 use hot_catalog::{behind_key, behind_name, here_unless};
-use hot_parts::Res;
-use hot_registry::{KindDef, PropDef};
+use hot_tree::Res;
 use std::alloc::{AllocError, Global};
+use type_catalog::{KindDef, PropDef};
 
 /// A01: the type isn't in the catalogue.
 pub fn of_unknown_kind(alloc: Global, basis: &Basis, res: &Res) -> Result<Option<Path>, AllocError>

@@ -8,7 +8,7 @@ ghost use Rattle.hot_admit.specs.Basis.{resource_named};
 ghost use Rattle.hot_admit.specs.Resources.{resource_data, resources_data, names_of};
 
 use heat_value::{Member, Text};
-use hot_parts::Res;
+use hot_tree::Res;
 
 /// The resource of this name among those that stand in byte order of their names.
 pub(crate) fn resource_of<'a>(resources: &'a [Res], name: &Text) -> Option<&'a Res>

@@ -2,8 +2,8 @@
 ghost use Rattle.std.specs.Prelude.{◌≡◌, ◌++◌, ◌<◌, ◌^◌, IfOk, OnOk, map, length};
 ghost use Rattle.heat_value.specs.Data.{keys_of, Rises};
 ghost use Rattle.heat_value.specs.Meaning.{data_of, nodes_of, members_of};
-ghost use Rattle.hot_eval.specs.Conditions.{names_read as the_names_read, names_read_among as the_names_read_among};
-ghost use Rattle.hot_eval.specs.Conditions.{names_read_under as the_names_read_under, name_at as the_name_at};
+ghost use Rattle.eval_words.specs.Conditions.{names_read as the_names_read, names_read_among as the_names_read_among};
+ghost use Rattle.eval_words.specs.Conditions.{names_read_under as the_names_read_under, name_at as the_name_at};
 ghost use Rattle.hot_admit.specs.Naming.{HasNames, AddsNames};
 
 use crate::lookup::place_of;

@@ -9,7 +9,7 @@ ghost use Rattle.hot_forms.specs.Checks.{is_among};
 use heat_plan::{Needs, ResName};
 use heat_value::{Seq, Text, TryCopy, Value};
 use hot_eval::{references_under, text_in};
-use hot_parts::Res;
+use hot_tree::Res;
 use std::alloc::{AllocError, Global};
 
 /// Of these names, which rise, those in every get_resource and get_attr anywhere in a resource's

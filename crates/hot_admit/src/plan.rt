@@ -7,7 +7,7 @@ ghost use Rattle.heat_value.specs.Meaning.{data_of};
 ghost use Rattle.hot_admit.specs.Items.{names_marked};
 ghost use Rattle.hot_admit.specs.Plans.{AreShallow, outputs_marked, files_of as the_files_of};
 ghost use Rattle.hot_admit.specs.Resources.{resources_data, outputs_data, names_of};
-ghost use Rattle.hot_parts.specs.Readings.{text_or};
+ghost use Rattle.hot_tree.specs.Readings.{text_or};
 ghost use Rattle.hot_admit.specs.Admission.{IsAdmitted};
 ghost use Rattle.hot_admit.specs.Faults.{IsAdmitFaultOf};
 ghost use Rattle.hot_catalog.specs.Catalogs.{standing};
@@ -21,8 +21,7 @@ use heat_plan::{ByName, Expression, File, Item, Output, Plan};
 use heat_value::{Props, Seq, Text, TryCopy, Value};
 use hot_catalog::Catalog;
 use hot_params::Bound;
-use hot_parts::{Out, Parts};
-use hot_tree::Template;
+use hot_tree::{Out, Parts, Template};
 use std::alloc::{AllocError, Global};
 
 /// The plan of a template with its bound parameters, the files beside it, each of which is a text, and

@@ -25,7 +25,7 @@ use crate::{Basis, Sought};
 use heat_value::{Member, Path, Text, Value};
 use hot_catalog::{behind_name, behind_place, here_unless};
 use hot_eval::{list_in, referred, text_in};
-use hot_parts::{Out, Res};
+use hot_tree::{Out, Res};
 use std::alloc::{AllocError, Global};
 
 // ---- A02

@@ -16,7 +16,7 @@ use heat_value::{Member, Path, Props, Value};
 use hot_catalog::{behind_name, here_unless};
 use hot_forms::is_among;
 use hot_functions::stands;
-use hot_parts::{Out, Res};
+use hot_tree::{Out, Res};
 use std::alloc::{AllocError, Global};
 
 // The functions that are left out, but for those that begin with `Fn::`.

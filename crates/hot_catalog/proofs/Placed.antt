@@ -4,9 +4,9 @@ use Rattle.std.proofs.Common.{get_or, take, drop, slice_set}
 use Rattle.std.proofs.Common.{refl, ap, sym, arith, Option, Some, None, bytes_eq, if◌then◌else◌}
 use Rattle.std.specs.Option.{option_or}
 use Rattle.hot_catalog.specs.Catalogs.{with_kind}
-use Rattle.hot_registry.specs.Names.{named}
-use Rattle.hot_registry.specs.Registries.{kind_name}
-use Rattle.hot_registry.specs.declared.kind.KindDef.{KindDef}
+use Rattle.type_catalog.specs.Names.{named}
+use Rattle.type_catalog.specs.Registries.{kind_name}
+use Rattle.type_catalog.specs.declared.kind.KindDef.{KindDef}
 
 -- a kind of another name is passed
 pub passed : (k : KindDef) (ks : List KindDef) (i : ℕ) (l : KindDef) → i < length ks → l ≡ get_or ks i l

@@ -11,7 +11,7 @@ use Rattle.hot_catalog.specs.declared.catalog.Catalog.{Catalog}
 use Rattle.hot_catalog.specs.declared.fault.CatalogFault.{CatalogFault}
 use Rattle.hot_catalog.specs.declared.fault.CatalogFault.TheVariants.{L09, Memory}
 use Rattle.hot_forms.specs.Shapes.{members_in}
-use Rattle.hot_registry.specs.declared.kind.KindDef.{KindDef}
+use Rattle.type_catalog.specs.declared.kind.KindDef.{KindDef}
 
 -- the kind in place of the one of its name, or behind the last
 abbrev pub with_kind : KindDef → List KindDef → List KindDef

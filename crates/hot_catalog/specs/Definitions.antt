@@ -3,8 +3,8 @@ use Rattle.std.specs.Prelude.{ℕ, List, [], ◌∷◌, Bool, false, Option, Som
 use Rattle.heat_value.specs.Data.{Data, null, flag, whole, words, items, fields, Nodes, no_nodes, node, Members}
 use Rattle.heat_value.specs.Data.{no_members, member, lookup, keys_of, put}
 use Rattle.hot_forms.specs.Shapes.{members_in}
-use Rattle.hot_registry.specs.declared.kind.KindDef.{KindDef}
-use Rattle.hot_registry.specs.declared.kind.PropDef.{PropDef}
+use Rattle.type_catalog.specs.declared.kind.KindDef.{KindDef}
+use Rattle.type_catalog.specs.declared.kind.PropDef.{PropDef}
 
 -- the text as a key of the map
 abbrev pub with_text : Data → Members → Members

@@ -12,8 +12,8 @@ use Rattle.heat_value.specs.declared.path.Step.TheVariants.{Key, Index}
 use Rattle.hot_forms.specs.Shapes.{is_text, is_flag}
 use Rattle.hot_catalog.specs.Definitions.{attributes_in}
 use Rattle.hot_catalog.specs.Paths.{here_unless, behind, first_path}
-use Rattle.hot_registry.specs.Registries.{kind_named}
-use Rattle.hot_registry.specs.declared.kind.KindDef.{KindDef}
+use Rattle.type_catalog.specs.Registries.{kind_named}
+use Rattle.type_catalog.specs.declared.kind.KindDef.{KindDef}
 
 -- ---- names
 

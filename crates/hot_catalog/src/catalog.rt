@@ -4,15 +4,15 @@ ghost use Rattle.heat_value.specs.Meaning.{data_of};
 ghost use Rattle.hot_catalog.specs.Catalogs.{with_kind as the_with_kind, with_kinds as the_with_kinds};
 ghost use Rattle.hot_catalog.specs.Catalogs.{standing, after, read_flaw, IsFaultOf};
 ghost use Rattle.hot_forms.specs.Shapes.{members_in as the_members_in};
-ghost use Rattle.hot_registry.specs.Registries.{kind_named};
+ghost use Rattle.type_catalog.specs.Registries.{kind_named};
 
 use crate::CatalogFault;
 use crate::check::members_in;
 use crate::definition::definition_of;
 use crate::flaw::catalogue_flaw;
 use heat_value::{Path, Props, Seq, Text, TryCopy, Value};
-use hot_registry::{KindDef, Registry, named};
 use std::alloc::{AllocError, Global};
+use type_catalog::{KindDef, Registry, named};
 
 // How many kinds stand in a catalogue at most.
 const MOST_KINDS: u128 = 256;

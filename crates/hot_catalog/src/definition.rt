@@ -6,8 +6,8 @@ ghost use Rattle.hot_catalog.specs.Definitions.{definition_of as the_definition_
 use crate::attributes::attributes_in;
 use crate::properties::properties_in;
 use heat_value::{Member, TryCopy};
-use hot_registry::KindDef;
 use std::alloc::{AllocError, Global};
+use type_catalog::KindDef;
 
 /// The kind of a catalogue's member.
 pub fn definition_of(alloc: Global, member: &Member) -> Result<KindDef, AllocError>

@@ -7,14 +7,14 @@ ghost use Rattle.hot_catalog.specs.Flaws.{definition_shape as the_definition_sha
 ghost use Rattle.hot_catalog.specs.Flaws.{with_many_attributes as the_with_many_attributes};
 ghost use Rattle.hot_catalog.specs.Flaws.{kind_flaw as the_kind_flaw, kinds_flaw as the_kinds_flaw};
 ghost use Rattle.hot_catalog.specs.Flaws.{catalogue_flaw as the_catalogue_flaw};
-ghost use Rattle.hot_registry.specs.Registries.{kind_named};
+ghost use Rattle.type_catalog.specs.Registries.{kind_named};
 
 use crate::attributes::attributes_in;
 use crate::check::{behind_key, behind_name, here_unless};
 use crate::shape::definition_shape;
 use heat_value::{Path, Props, Text, Value};
-use hot_registry::{KindDef, named};
 use std::alloc::{AllocError, Global};
+use type_catalog::{KindDef, named};
 
 // How many attributes a kind has at most.
 const MOST_ATTRIBUTES: usize = 64;

@@ -10,8 +10,8 @@ ghost use Rattle.hot_catalog.specs.Definitions.{properties_in as the_properties_
 use crate::check::{members_in, members_there};
 use heat_value::{Member, Props, Seq, Text, TryCopy, Value};
 use hot_forms::found;
-use hot_registry::PropDef;
 use std::alloc::{AllocError, Global};
+use type_catalog::PropDef;
 
 /// The properties, in byte order.
 pub fn properties_in(alloc: Global, definition: &Value) -> Result<Seq<PropDef>, AllocError>

@@ -7,25 +7,25 @@ use Rattle.heat_value.specs.Meaning.{data_of}
 use Rattle.heat_value.specs.declared.path.Step.TheVariants.{Key}
 use Rattle.heat_value.specs.declared.value.Value.{Value}
 use Rattle.hot_eval.specs.Answers.{IsFaultIn, IsOutcome, IsAnswer, IsOwnAnswer}
-use Rattle.hot_eval.specs.Choices.{Choice, Repetition, choices, repetition}
-use Rattle.hot_eval.specs.Evaluation.{Evaluating, Sole, sole_of, argument, call, called, answered_by, repeated}
-use Rattle.hot_eval.specs.Evaluation.{answer_of, choice_outcome, choices_outcome, counted, in_repeat}
-use Rattle.hot_eval.specs.Evaluation.{value_outcome, members_outcome, condition_outcome}
-use Rattle.hot_eval.specs.Faults.{of_function}
-use Rattle.hot_eval.specs.Manners.{manner_of}
-use Rattle.hot_eval.specs.Names.{function_of, condition_function_of, named_in, is_formed, is_condition_formed}
-use Rattle.hot_eval.specs.Outcomes.{Outcome, Gives, Faults, and_then, made_into, seen_from, under, charged, size, answered}
-use Rattle.hot_eval.specs.Outcomes.{cost_limit}
+use Rattle.eval_words.specs.Choices.{Choice, Repetition, choices, repetition}
+use Rattle.eval_words.specs.Evaluation.{Evaluating, Sole, sole_of, argument, call, called, answered_by, repeated}
+use Rattle.eval_words.specs.Evaluation.{answer_of, choice_outcome, choices_outcome, counted, in_repeat}
+use Rattle.eval_words.specs.Evaluation.{value_outcome, members_outcome, condition_outcome}
+use Rattle.eval_words.specs.Faults.{of_function}
+use Rattle.eval_words.specs.Manners.{manner_of}
+use Rattle.eval_words.specs.Names.{function_of, condition_function_of, named_in, is_formed, is_condition_formed}
+use Rattle.eval_words.specs.Outcomes.{Outcome, Gives, Faults, and_then, made_into, seen_from, under, charged, size, answered}
+use Rattle.eval_words.specs.Outcomes.{cost_limit}
 use Rattle.hot_eval.specs.Repeats.{lists_of, IsRepetition}
-use Rattle.hot_eval.specs.Scenes.{SceneData}
+use Rattle.eval_words.specs.Scenes.{SceneData}
 use Rattle.hot_eval.specs.declared.choices.Repetition.{Repetition as Held}
-use Rattle.hot_eval.specs.declared.code.FaultCode.{FaultCode}
-use Rattle.hot_eval.specs.declared.code.FaultCode.TheVariants.{F01, F07}
-use Rattle.hot_eval.specs.declared.fault.EvalFault.{EvalFault}
-use Rattle.hot_eval.specs.declared.fault.EvalFault.TheVariants as fault
-use Rattle.hot_eval.specs.declared.fault.FunctionFault.{FunctionFault}
-use Rattle.hot_eval.specs.declared.fault.FunctionFault.TheVariants.{Wrong, Memory}
-use Rattle.hot_eval.specs.declared.function.Function.{Function}
+use Rattle.eval_words.specs.declared.code.FaultCode.{FaultCode}
+use Rattle.eval_words.specs.declared.code.FaultCode.TheVariants.{F01, F07}
+use Rattle.eval_words.specs.declared.fault.EvalFault.{EvalFault}
+use Rattle.eval_words.specs.declared.fault.EvalFault.TheVariants as fault
+use Rattle.eval_words.specs.declared.fault.FunctionFault.{FunctionFault}
+use Rattle.eval_words.specs.declared.fault.FunctionFault.TheVariants.{Wrong, Memory}
+use Rattle.eval_words.specs.declared.function.Function.{Function}
 use Rattle.hot_eval.proofs.Steps.{fault_same, fault_next}
 
 -- ---- the same outcome, said otherwise

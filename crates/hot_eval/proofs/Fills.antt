@@ -8,10 +8,10 @@ use Rattle.std.specs.declared.cmp.Ordering.{Ordering}
 use Rattle.std.specs.declared.cmp.Ordering.TheVariants.{Less, Equal, Greater}
 use Rattle.heat_value.specs.Data.{Data, items, fields, Nodes, no_nodes, node, node_last, Members, no_members, member, keys_of, put}
 use Rattle.hot_functions.specs.Forms.{stands}
-use Rattle.hot_eval.specs.Choices.{Choice}
-use Rattle.hot_eval.specs.Fillings.{filled, nodes_filled, members_filled, text_filled}
-use Rattle.hot_eval.specs.Lists.{both_lists}
-use Rattle.hot_eval.specs.Maps.{mapped_onto, map_of}
+use Rattle.eval_words.specs.Choices.{Choice}
+use Rattle.eval_words.specs.Fillings.{filled, nodes_filled, members_filled, text_filled}
+use Rattle.eval_words.specs.Lists.{both_lists}
+use Rattle.eval_words.specs.Maps.{mapped_onto, map_of}
 use Rattle.hot_eval.specs.Rooms.{taken, nodes_taken, members_taken, room_behind, IsMade}
 use Rattle.hot_eval.proofs.Joins.{both_lists-none, both_lists-last}
 use Rattle.hot_eval.proofs.Renames.{mapped_onto-same, mapped_onto-new}

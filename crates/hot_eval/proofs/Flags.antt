@@ -1,10 +1,10 @@
 -- The flag that the evaluation of a condition expression gives.
 use Rattle.std.proofs.Common.{◌≡◌, ◌∙◌, ℕ, Option, Bool, sym, ap}
 use Rattle.heat_value.specs.Data.{Data}
-use Rattle.hot_eval.specs.Conditions.{flag_made}
-use Rattle.hot_eval.specs.Evaluation.{Evaluating, condition_outcome, evaluation}
-use Rattle.hot_eval.specs.Outcomes.{Outcome}
-use Rattle.hot_eval.specs.Scenes.{SceneData}
+use Rattle.eval_words.specs.Conditions.{flag_made}
+use Rattle.eval_words.specs.Evaluation.{Evaluating, condition_outcome, evaluation}
+use Rattle.eval_words.specs.Outcomes.{Outcome}
+use Rattle.eval_words.specs.Scenes.{SceneData}
 
 -- in a setting at its root
 pub flag_is : (X : Evaluating) (S T : SceneData) (d : Data) (n : ℕ) (o : Outcome Data) → T ≡ S → X ≡ evaluation S

@@ -4,9 +4,9 @@ use Rattle.std.proofs.Common.{Option, Some, None, option_map, option_and_then}
 use Rattle.heat_value.specs.Data.{Data, Nodes, no_nodes, node, node_last}
 use Rattle.heat_value.specs.Meaning.{data_of, nodes_of}
 use Rattle.heat_value.specs.declared.value.Value.{Value}
-use Rattle.hot_eval.specs.Lists.{both_lists, new_ones, without, concatenated}
-use Rattle.hot_eval.specs.Sorts.{list_or_null}
-use Rattle.hot_eval.specs.Sameness.{is_same, has}
+use Rattle.eval_words.specs.Lists.{both_lists, new_ones, without, concatenated}
+use Rattle.eval_words.specs.Sorts.{list_or_null}
+use Rattle.eval_words.specs.Sameness.{is_same, has}
 use Rattle.std.specs.Prelude.{if◌then◌else◌}
 
 pub both_lists-none : (ns : Nodes) → both_lists ns no_nodes ≡ ns

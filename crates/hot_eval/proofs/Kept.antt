@@ -15,7 +15,7 @@ use Rattle.std.proofs.Math.Seq.{take-suc}
 use Rattle.std.proofs.lemmas.List.{map-append}
 use Rattle.std.proofs.lemmas.List.Elements.{Contains-append_left, Contains-append_right, Contains-append_cases}
 use Rattle.heat_plan.specs.Names.{IsResName}
-use Rattle.hot_eval.specs.Needs.{AreResNamesOf}
+use Rattle.eval_words.specs.Needs.{AreResNamesOf}
 
 pub kept_none : AreResNamesOf [] []
 kept_none name = (λ h. absurd (omega (arith, h.1)), λ h. absurd (omega (arith, h.0.1)))

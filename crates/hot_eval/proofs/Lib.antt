@@ -12,11 +12,9 @@ pub mod Rooms
 pub mod Fills
 pub mod Scalars
 pub mod Takes
-pub mod Finds
 pub mod Weights
 pub mod Kept
 pub mod Steps
 pub mod Made
 pub mod Calls
 pub mod Flags
-pub mod Placed

@@ -9,9 +9,9 @@ use Rattle.std.proofs.Math.ListN.{set}
 use Rattle.heat_value.specs.Coercion.{coerced}
 use Rattle.heat_value.specs.Meaning.{data_of, nodes_of}
 use Rattle.hot_strings.specs.Pieces.{Params}
-use Rattle.hot_eval.specs.Lookups.{node_at}
+use Rattle.eval_words.specs.Lookups.{node_at}
 use Rattle.heat_value.specs.declared.value.Value.{Value}
-use Rattle.hot_eval.specs.Choices.{Lists, choices}
+use Rattle.eval_words.specs.Choices.{Lists, choices}
 use Rattle.hot_eval.specs.Repeats.{lists_of, count_of, ArePlaces, choices_from}
 use Rattle.hot_eval.specs.declared.choices.Listed.{Listed}
 use Rattle.hot_eval.proofs.Turns.{AreZeros, zeros_push, zeros_first, zeros_are, no_choice, place_within, places_length}

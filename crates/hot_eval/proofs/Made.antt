@@ -4,13 +4,13 @@ use Rattle.std.proofs.Common.{◌≤◌, ◌-◌, [], arith, if◌then◌else◌
 use Rattle.std.proofs.lemmas.Bool.{leb-true}
 use Rattle.heat_value.specs.Data.{Data, Members, fields, depth}
 use Rattle.hot_eval.specs.Answers.{IsFaultIn, IsOutcome, IsMadeOf}
-use Rattle.hot_eval.specs.Outcomes.{Outcome, Gives, Faults, is_result, size, cost_limit}
-use Rattle.hot_eval.specs.Evaluation.{Evaluating, value_outcome, members_outcome, evaluation, evaluation_within}
-use Rattle.hot_eval.specs.Resolutions.{unless_large, eval, properties}
-use Rattle.hot_eval.specs.Scenes.{SceneData}
-use Rattle.hot_eval.specs.declared.code.FaultCode.TheVariants.{F06}
-use Rattle.hot_eval.specs.declared.fault.EvalFault.{EvalFault}
-use Rattle.hot_eval.specs.declared.fault.EvalFault.TheVariants as fault
+use Rattle.eval_words.specs.Outcomes.{Outcome, Gives, Faults, is_result, size, cost_limit}
+use Rattle.eval_words.specs.Evaluation.{Evaluating, value_outcome, members_outcome, evaluation, evaluation_within}
+use Rattle.eval_words.specs.Resolutions.{unless_large, eval, properties}
+use Rattle.eval_words.specs.Scenes.{SceneData}
+use Rattle.eval_words.specs.declared.code.FaultCode.TheVariants.{F06}
+use Rattle.eval_words.specs.declared.fault.EvalFault.{EvalFault}
+use Rattle.eval_words.specs.declared.fault.EvalFault.TheVariants as fault
 
 pub made_of : {V A : Type 0} (content : V → A) (r : Result V EvalFault) (sum : ℕ) (o p : Outcome A) → o ≡ p
     → IsOutcome content r sum p → IsMadeOf content r o

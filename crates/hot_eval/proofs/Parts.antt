@@ -2,7 +2,7 @@
 use Rattle.std.proofs.Common.{◌≡◌, ◌<◌, ◌≤◌, List, [], ◌∷◌, None, length, refl, arith}
 use Rattle.heat_value.specs.Meaning.{nodes_of}
 use Rattle.heat_value.specs.declared.value.Value.{Value}
-use Rattle.hot_eval.specs.Sorts.{two_of}
+use Rattle.eval_words.specs.Sorts.{two_of}
 
 pub two_of-one : (vs : List Value) → length vs < 2 → None ≡ two_of (nodes_of vs)
 two_of-one [] below = refl

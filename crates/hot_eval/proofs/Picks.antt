@@ -22,12 +22,12 @@ use Rattle.heat_plan.specs.Order.{Rising}
 use Rattle.heat_plan.proofs.Searched.{same_by, below_same, below_at}
 use Rattle.hot_strings.specs.Indexes.{keys_in}
 use Rattle.hot_strings.specs.Pieces.{Params, AreDistinct, HasNoEmptyKey}
-use Rattle.hot_eval.specs.Choices.{Lists, lists_in}
-use Rattle.hot_eval.specs.Fillings.{texts_for, item_of}
-use Rattle.hot_eval.specs.Lookups.{node_at}
+use Rattle.eval_words.specs.Choices.{Lists, lists_in}
+use Rattle.eval_words.specs.Fillings.{texts_for, item_of}
+use Rattle.eval_words.specs.Lookups.{node_at}
 use Rattle.hot_eval.specs.Repeats.{AreKeys, choice_at, with_items}
-use Rattle.hot_eval.specs.Sorts.{list_in}
-use Rattle.hot_eval.specs.Texts.{is_empty}
+use Rattle.eval_words.specs.Sorts.{list_in}
+use Rattle.eval_words.specs.Texts.{is_empty}
 use Rattle.hot_eval.proofs.Places.{rest_at}
 use Rattle.hot_eval.proofs.Replacements.{is_empty-none}
 

@@ -2,8 +2,8 @@
 use Rattle.std.proofs.Common.{◌≡◌, ◌<◌, ◌≤◌, ◌+◌, ℕ, List, [], ◌∷◌, length, get_or, drop, map, ap, sym, ◌∙◌}
 use Rattle.std.proofs.Common.{zero, suc, Option, Some, None, option_map, option_and_then, refl, arith}
 use Rattle.std.specs.Slice.{IsItemAt}
-use Rattle.hot_eval.specs.Lookups.{node_at}
-use Rattle.hot_eval.specs.Fillings.{step_in_list}
+use Rattle.eval_words.specs.Lookups.{node_at}
+use Rattle.eval_words.specs.Fillings.{step_in_list}
 use Rattle.heat_value.specs.declared.path.Step.{Step}
 use Rattle.heat_value.specs.declared.path.Step.TheVariants.{Index}
 use Rattle.std.proofs.lemmas.List.{drop_more, drop_all}

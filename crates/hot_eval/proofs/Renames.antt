@@ -5,8 +5,8 @@ use Rattle.std.specs.Prelude.{if◌then◌else◌}
 use Rattle.heat_value.specs.Data.{Data, Members, no_members, member, lookup, put}
 use Rattle.hot_functions.specs.Forms.{stands}
 use Rattle.hot_eval.specs.Answers.{code_of}
-use Rattle.hot_eval.specs.Maps.{mapped_onto, renamed, name_for, value_for, unless_same}
-use Rattle.hot_eval.specs.declared.code.FaultCode.TheVariants.{F05}
+use Rattle.eval_words.specs.Maps.{mapped_onto, renamed, name_for, value_for, unless_same}
+use Rattle.eval_words.specs.declared.code.FaultCode.TheVariants.{F05}
 
 -- ---- whether a key stands
 

@@ -27,10 +27,10 @@ use Rattle.hot_strings.specs.Split.{Asked, all, one, unfit, texts, IsSplitFault}
 use Rattle.hot_strings.specs.declared.fault.StringFault.{StringFault}
 use Rattle.hot_strings.specs.declared.fault.StringFault.TheVariants as text
 use Rattle.hot_eval.specs.Answers.{code_of, IsFaultOf}
-use Rattle.hot_eval.specs.Faults.{of_text_function}
-use Rattle.hot_eval.specs.Outcomes.{size}
-use Rattle.hot_eval.specs.Texts.{is_empty, split_asked, has_empty_key, lacks_some_key, put_into, params_of}
-use Rattle.hot_eval.specs.declared.code.FaultCode.TheVariants.{F06}
+use Rattle.eval_words.specs.Faults.{of_text_function}
+use Rattle.eval_words.specs.Outcomes.{size}
+use Rattle.eval_words.specs.Texts.{is_empty, split_asked, has_empty_key, lacks_some_key, put_into, params_of}
+use Rattle.eval_words.specs.declared.code.FaultCode.TheVariants.{F06}
 use Rattle.hot_eval.proofs.Contained.{is_part-found}
 
 -- ---- lengths

@@ -10,7 +10,7 @@ use Rattle.heat_value.specs.Data.{Data, null, flag, whole, words, items, fields,
 use Rattle.heat_value.specs.Data.{Members, no_members, member}
 use Rattle.heat_value.specs.Meaning.{data_of, nodes_of}
 use Rattle.heat_value.specs.declared.value.Value.{Value}
-use Rattle.hot_eval.specs.Sameness.{is_same, are_same, hold_same, has}
+use Rattle.eval_words.specs.Sameness.{is_same, are_same, hold_same, has}
 
 both : (a b : Bool) → (a && b) ≡ true → (a ≡ true) × (b ≡ true)
 both true b e = (refl, e)

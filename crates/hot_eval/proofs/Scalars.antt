@@ -4,8 +4,8 @@ use Rattle.heat_value.specs.Data.{Data, whole}
 use Rattle.heat_value.specs.Meaning.{data_of}
 use Rattle.heat_value.specs.declared.value.Value.{Value}
 use Rattle.heat_value.specs.declared.value.Value.TheVariants as value
-use Rattle.hot_eval.specs.Choices.{Choice}
-use Rattle.hot_eval.specs.Fillings.{filled}
+use Rattle.eval_words.specs.Choices.{Choice}
+use Rattle.eval_words.specs.Fillings.{filled}
 use Rattle.hot_eval.specs.Rooms.{taken, room_behind, IsMade}
 use Rattle.hot_eval.proofs.Fills.{always}
 use Rattle.hot_eval.proofs.Rooms.{room_behind-none}

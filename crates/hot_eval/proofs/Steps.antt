@@ -14,14 +14,14 @@ use Rattle.heat_value.specs.declared.path.Step.TheVariants.{Index}
 use Rattle.heat_value.specs.declared.value.Value.{Value}
 use Rattle.heat_value.specs.declared.value.Member.{Member}
 use Rattle.hot_eval.specs.Answers.{IsFaultIn}
-use Rattle.hot_eval.specs.Choices.{Choice, Lists, choices, each_with}
-use Rattle.hot_eval.specs.Evaluation.{Evaluating, choice_outcome, choices_outcome}
-use Rattle.hot_eval.specs.Fillings.{filled}
-use Rattle.hot_eval.specs.Lookups.{node_at}
+use Rattle.eval_words.specs.Choices.{Choice, Lists, choices, each_with}
+use Rattle.eval_words.specs.Evaluation.{Evaluating, choice_outcome, choices_outcome}
+use Rattle.eval_words.specs.Fillings.{filled}
+use Rattle.eval_words.specs.Lookups.{node_at}
 use Rattle.hot_eval.specs.Repeats.{ArePlaces, GoesOn, choice_at, choices_from, each_from, count_of}
-use Rattle.hot_eval.specs.Outcomes.{Outcome, Gives, Faults, and_then, made_into, under}
-use Rattle.hot_eval.specs.declared.fault.EvalFault.{EvalFault}
-use Rattle.hot_eval.specs.declared.fault.EvalFault.TheVariants as fault
+use Rattle.eval_words.specs.Outcomes.{Outcome, Gives, Faults, and_then, made_into, under}
+use Rattle.eval_words.specs.declared.fault.EvalFault.{EvalFault}
+use Rattle.eval_words.specs.declared.fault.EvalFault.TheVariants as fault
 
 -- ---- faults go on
 

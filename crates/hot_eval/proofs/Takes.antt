@@ -13,10 +13,10 @@ use Rattle.heat_value.specs.Compact.{compact, nodes_text, fields_text}
 use Rattle.heat_value.specs.Data.{Data, null, flag, whole, words, items, fields, Nodes, no_nodes, node}
 use Rattle.heat_value.specs.Data.{Members, no_members, member, put}
 use Rattle.hot_functions.specs.Forms.{stands}
-use Rattle.hot_eval.specs.Choices.{Choice}
-use Rattle.hot_eval.specs.Fillings.{filled, nodes_filled, members_filled, text_filled, words_filled}
-use Rattle.hot_eval.specs.Maps.{mapped_onto, map_of}
-use Rattle.hot_eval.specs.Outcomes.{size}
+use Rattle.eval_words.specs.Choices.{Choice}
+use Rattle.eval_words.specs.Fillings.{filled, nodes_filled, members_filled, text_filled, words_filled}
+use Rattle.eval_words.specs.Maps.{mapped_onto, map_of}
+use Rattle.eval_words.specs.Outcomes.{size}
 use Rattle.hot_eval.specs.Rooms.{taken, nodes_taken, members_taken, room_behind, IsFilled, IsTooLarge}
 use Rattle.hot_eval.specs.declared.fillings.Filled.{Filled}
 use Rattle.hot_eval.specs.declared.fillings.Filled.TheVariants as fills

@@ -6,8 +6,8 @@ use Rattle.std.proofs.Math.ListN.{set}
 use Rattle.std.specs.Prelude.{⊤, unwrap_or}
 use Rattle.hot_eval.proofs.Places.{rest_at}
 use Rattle.heat_value.specs.Data.{Data, null, Nodes, no_nodes, node}
-use Rattle.hot_eval.specs.Choices.{Lists, Choice, choices, each_with}
-use Rattle.hot_eval.specs.Lookups.{node_at}
+use Rattle.eval_words.specs.Choices.{Lists, Choice, choices, each_with}
+use Rattle.eval_words.specs.Lookups.{node_at}
 use Rattle.hot_eval.specs.Repeats.{count_of, ArePlaces, choice_at, each_from, choices_from}
 
 -- ---- the first choice

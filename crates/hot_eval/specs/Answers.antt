@@ -4,18 +4,18 @@ use Rattle.heat_value.specs.Data.{Data, null, Nodes, no_nodes}
 use Rattle.heat_value.specs.Meaning.{data_of}
 use Rattle.heat_value.specs.declared.value.Value.{Value}
 use Rattle.heat_value.specs.declared.path.Step.TheVariants.{Index}
-use Rattle.hot_eval.specs.Evaluation.{Evaluating, evaluation_within, value_outcome, branch_outcome, alone}
-use Rattle.hot_eval.specs.Outcomes.{Outcome, Gives, Faults, made_into, under, is_result, cost_limit}
-use Rattle.hot_eval.specs.Scenes.{SceneData, scene_data}
+use Rattle.eval_words.specs.Evaluation.{Evaluating, evaluation_within, value_outcome, branch_outcome, alone}
+use Rattle.eval_words.specs.Outcomes.{Outcome, Gives, Faults, made_into, under, is_result, cost_limit}
+use Rattle.eval_words.specs.Scenes.{SceneData, scene_data}
 use Rattle.hot_eval.specs.declared.branches.Picked.{Picked}
 use Rattle.hot_eval.specs.declared.branches.Picked.TheVariants as pick
-use Rattle.hot_eval.specs.declared.code.FaultCode.{FaultCode}
-use Rattle.hot_eval.specs.declared.code.FaultCode.TheVariants.{F06}
+use Rattle.eval_words.specs.declared.code.FaultCode.{FaultCode}
+use Rattle.eval_words.specs.declared.code.FaultCode.TheVariants.{F06}
 use Rattle.hot_eval.specs.declared.setting.Setting.{Setting}
-use Rattle.hot_eval.specs.declared.fault.EvalFault.{EvalFault}
-use Rattle.hot_eval.specs.declared.fault.EvalFault.TheVariants as eval
-use Rattle.hot_eval.specs.declared.fault.FunctionFault.{FunctionFault}
-use Rattle.hot_eval.specs.declared.fault.FunctionFault.TheVariants.{Wrong, Memory}
+use Rattle.eval_words.specs.declared.fault.EvalFault.{EvalFault}
+use Rattle.eval_words.specs.declared.fault.EvalFault.TheVariants as eval
+use Rattle.eval_words.specs.declared.fault.FunctionFault.{FunctionFault}
+use Rattle.eval_words.specs.declared.fault.FunctionFault.TheVariants.{Wrong, Memory}
 
 -- the code of an answer that is a fault, or that is too large to be a result
 abbrev pub code_of : Result Data FaultCode → Option FaultCode

@@ -11,15 +11,15 @@ use Rattle.heat_value.specs.declared.value.Value.{Value}
 use Rattle.heat_plan.specs.Order.{Rising}
 use Rattle.hot_strings.specs.Indexes.{keys_in, IsIndexOf}
 use Rattle.hot_strings.specs.Pieces.{Params, AreDistinct, HasNoEmptyKey}
-use Rattle.hot_eval.specs.Choices.{Lists, Choice, choices, each_with, Repetition}
-use Rattle.hot_eval.specs.Fillings.{texts_for}
-use Rattle.hot_eval.specs.Lookups.{node_at}
+use Rattle.eval_words.specs.Choices.{Lists, Choice, choices, each_with, Repetition}
+use Rattle.eval_words.specs.Fillings.{texts_for}
+use Rattle.eval_words.specs.Lookups.{node_at}
 use Rattle.hot_eval.specs.declared.choices.Listed.{Listed}
 use Rattle.hot_eval.specs.declared.choices.Repetition.{Repetition as Held}
 use Rattle.hot_eval.specs.declared.choices.Choice.{Choice as Picked}
-use Rattle.hot_eval.specs.declared.code.FaultCode.{FaultCode}
-use Rattle.hot_eval.specs.declared.fault.FunctionFault.{FunctionFault}
-use Rattle.hot_eval.specs.declared.fault.FunctionFault.TheVariants.{Wrong, Memory}
+use Rattle.eval_words.specs.declared.code.FaultCode.{FaultCode}
+use Rattle.eval_words.specs.declared.fault.FunctionFault.{FunctionFault}
+use Rattle.eval_words.specs.declared.fault.FunctionFault.TheVariants.{Wrong, Memory}
 
 -- ---- what they show
 

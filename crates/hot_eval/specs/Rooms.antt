@@ -4,9 +4,9 @@ use Rattle.std.specs.Prelude.{◌<◌, if◌then◌else◌}
 use Rattle.heat_value.specs.Data.{Data, null, flag, whole, words, items, fields, Nodes, no_nodes, node}
 use Rattle.heat_value.specs.Data.{Members, no_members, member}
 use Rattle.heat_value.specs.Meaning.{data_of}
-use Rattle.hot_eval.specs.Choices.{Choice}
-use Rattle.hot_eval.specs.Fillings.{words_filled}
-use Rattle.hot_eval.specs.Outcomes.{size}
+use Rattle.eval_words.specs.Choices.{Choice}
+use Rattle.eval_words.specs.Fillings.{words_filled}
+use Rattle.eval_words.specs.Outcomes.{size}
 use Rattle.hot_eval.specs.declared.fillings.Filled.{Filled}
 use Rattle.hot_eval.specs.declared.fillings.Filled.TheVariants as filled
 

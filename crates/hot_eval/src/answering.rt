@@ -3,12 +3,12 @@ ghost use Rattle.std.specs.Prelude.{◌≡◌, Result, IfOk};
 ghost use Rattle.heat_value.specs.Data.{Data};
 ghost use Rattle.heat_value.specs.Meaning.{data_of};
 ghost use Rattle.hot_eval.specs.Answers.{IsOutcome, IsAnswer, IsOwnAnswer};
-ghost use Rattle.hot_eval.specs.Evaluation.{own_answer as the_own_answer};
-ghost use Rattle.hot_eval.specs.Functions.{only_flag as the_only_flag};
-ghost use Rattle.hot_eval.specs.Lookups.{named_condition as the_named_condition, parameter as the_parameter};
-ghost use Rattle.hot_eval.specs.Outcomes.{answered as the_answered, charged, size, is_result as the_is_result};
-ghost use Rattle.hot_eval.specs.Scenes.{scene_data};
-ghost use Rattle.hot_eval.specs.declared.code.FaultCode.{FaultCode as code_type};
+ghost use Rattle.eval_words.specs.Evaluation.{own_answer as the_own_answer};
+ghost use Rattle.eval_words.specs.Functions.{only_flag as the_only_flag};
+ghost use Rattle.eval_words.specs.Lookups.{named_condition as the_named_condition, parameter as the_parameter};
+ghost use Rattle.eval_words.specs.Outcomes.{answered as the_answered, charged, size, is_result as the_is_result};
+ghost use Rattle.eval_words.specs.Scenes.{scene_data};
+ghost use Rattle.eval_words.specs.declared.code.FaultCode.{FaultCode as code_type};
 
 use crate::functions::{branch, conjoined, disjoined, negated, only_flag};
 use crate::lists::{contains, equals, filter, list_concat, list_concat_unique};

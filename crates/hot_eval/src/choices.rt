@@ -3,11 +3,11 @@ ghost use Rattle.std.specs.Prelude.{◌≡◌, ◌<◌, ◌≤◌, ◌+◌, IfOk
 ghost use Rattle.std.specs.List.{list_any};
 ghost use Rattle.heat_value.specs.Coercion.{coerced};
 ghost use Rattle.heat_value.specs.Meaning.{data_of, nodes_of, members_of};
-ghost use Rattle.hot_eval.specs.Choices.{repetition, lists_in as the_lists_in};
-ghost use Rattle.hot_eval.specs.Lookups.{node_at};
+ghost use Rattle.eval_words.specs.Choices.{repetition, lists_in as the_lists_in};
+ghost use Rattle.eval_words.specs.Lookups.{node_at};
 ghost use Rattle.hot_eval.specs.Repeats.{lists_of, AreKeys, IsRepetition, choice_of, IsChoice};
 ghost use Rattle.hot_eval.specs.Repeats.{ArePlaces, choice_at as the_choice_at, AreFirst, GoesOn};
-ghost use Rattle.hot_eval.specs.Texts.{is_empty};
+ghost use Rattle.eval_words.specs.Texts.{is_empty};
 
 use crate::sorts::{list_in, object_in, under, wanted};
 use crate::{FaultCode, FunctionFault};

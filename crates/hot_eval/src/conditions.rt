@@ -2,10 +2,10 @@
 ghost use Rattle.std.specs.Prelude.{◌≡◌, IfOk};
 ghost use Rattle.heat_value.specs.Meaning.{data_of};
 ghost use Rattle.hot_eval.specs.Answers.{again};
-ghost use Rattle.hot_eval.specs.Conditions.{flag_of as the_flag_of, in_conditions};
-ghost use Rattle.hot_eval.specs.Evaluation.{evaluation};
-ghost use Rattle.hot_eval.specs.ValuedConds.{valued_data};
-ghost use Rattle.hot_eval.specs.Scenes.{scene_data};
+ghost use Rattle.eval_words.specs.Conditions.{flag_of as the_flag_of, in_conditions};
+ghost use Rattle.eval_words.specs.Evaluation.{evaluation};
+ghost use Rattle.eval_words.specs.ValuedConds.{valued_data};
+ghost use Rattle.eval_words.specs.Scenes.{scene_data};
 
 use crate::depth::Depth;
 use crate::evaluation::condition;

@@ -3,27 +3,26 @@ ghost use Rattle.std.specs.Prelude.{Bool, Option};
 ghost use Rattle.heat_value.specs.Data.{Nodes, fields as fields_data};
 ghost use Rattle.heat_value.specs.Meaning.{data_of, nodes_of};
 ghost use Rattle.hot_eval.specs.Answers.{IsOutcome, IsPicked, again, branch_nodes};
-ghost use Rattle.hot_eval.specs.Choices.{repetition as the_repetition, choices};
-ghost use Rattle.hot_eval.specs.Evaluation.{value_outcome, values_outcome, members_outcome, all_but_outcome};
-ghost use Rattle.hot_eval.specs.Evaluation.{condition_outcome, conditions_outcome, chosen_outcome, branch_outcome};
-ghost use Rattle.hot_eval.specs.Evaluation.{call as the_call, argument as the_argument, sole_of};
-ghost use Rattle.hot_eval.specs.Evaluation.{answer_of as the_answer_of, repeated as the_repeated};
-ghost use Rattle.hot_eval.specs.Evaluation.{choice_outcome, choices_outcome, outcome_unless};
-ghost use Rattle.hot_eval.specs.Fillings.{filled};
+ghost use Rattle.eval_words.specs.Choices.{repetition as the_repetition, choices};
+ghost use Rattle.eval_words.specs.Evaluation.{value_outcome, values_outcome, members_outcome, all_but_outcome};
+ghost use Rattle.eval_words.specs.Evaluation.{condition_outcome, conditions_outcome, chosen_outcome, branch_outcome};
+ghost use Rattle.eval_words.specs.Evaluation.{call as the_call, argument as the_argument, sole_of};
+ghost use Rattle.eval_words.specs.Evaluation.{answer_of as the_answer_of, repeated as the_repeated};
+ghost use Rattle.eval_words.specs.Evaluation.{choice_outcome, choices_outcome, outcome_unless};
+ghost use Rattle.eval_words.specs.Fillings.{filled};
 ghost use Rattle.hot_eval.specs.Repeats.{lists_of, AreKeys, choice_of, IsChoice};
-ghost use Rattle.hot_eval.specs.Scenes.{scene_data};
+ghost use Rattle.eval_words.specs.Scenes.{scene_data};
 
 use crate::answering::{answered, charge, named_condition, own_answer};
 use crate::branches::{Picked, condition_and, pick};
 use crate::choices::{Choice, Repetition, choice_at, first_places, go_on, repetition_in};
-use crate::manner::Manner;
 use crate::names::{condition_function_in, function_in, is_condition_formed, is_formed};
 use crate::placing::{at_key, at_place};
 use crate::replacing::{in_template, replaced_template};
 use crate::setting::Setting;
 use crate::sorts::flag_in;
 use crate::sum::Sum;
-use crate::{EvalFault, FaultCode, Function};
+use crate::{EvalFault, FaultCode, Function, Manner};
 use heat_value::{Items, Member, Props, TryCopy, Value};
 
 /// Scalars are themselves, lists and objects go part by part, an object with one key may be a function.

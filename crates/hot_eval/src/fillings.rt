@@ -5,9 +5,9 @@ ghost use Rattle.std.specs.Prelude.{◌≡◌, ◌<◌, ◌-◌, ◌^◌, ◌≢
 ghost use Rattle.std.specs.Prelude.{option_map, unwrap_or};
 ghost use Rattle.heat_value.specs.Data.{words as words_data, items as items_data, fields as fields_data};
 ghost use Rattle.heat_value.specs.Meaning.{data_of, nodes_of, members_of};
-ghost use Rattle.hot_eval.specs.Fillings.{filled as the_filled, text_filled as the_text_filled};
-ghost use Rattle.hot_eval.specs.Fillings.{words_filled as the_words_filled, item_of as the_item_of};
-ghost use Rattle.hot_eval.specs.Outcomes.{size};
+ghost use Rattle.eval_words.specs.Fillings.{filled as the_filled, text_filled as the_text_filled};
+ghost use Rattle.eval_words.specs.Fillings.{words_filled as the_words_filled, item_of as the_item_of};
+ghost use Rattle.eval_words.specs.Outcomes.{size};
 ghost use Rattle.hot_eval.specs.Repeats.{choice_of, IsChoice};
 ghost use Rattle.hot_eval.specs.Rooms.{taken, room_behind, IsMade, IsFilled, IsTooLarge};
 

@@ -3,9 +3,9 @@ ghost use Rattle.std.specs.Prelude.{◌≡◌, Ok, option_map};
 ghost use Rattle.std.specs.List.{list_all, list_any};
 ghost use Rattle.heat_value.specs.Meaning.{data_of, nodes_of};
 ghost use Rattle.hot_eval.specs.Answers.{IsAnswer};
-ghost use Rattle.hot_eval.specs.Functions.{branch as the_branch, negated as the_negated, only_flag as the_only_flag};
-ghost use Rattle.hot_eval.specs.Functions.{conjoined as the_conjoined, disjoined as the_disjoined};
-ghost use Rattle.hot_eval.specs.Functions.{flags_in as the_flags_in};
+ghost use Rattle.eval_words.specs.Functions.{branch as the_branch, negated as the_negated, only_flag as the_only_flag};
+ghost use Rattle.eval_words.specs.Functions.{conjoined as the_conjoined, disjoined as the_disjoined};
+ghost use Rattle.eval_words.specs.Functions.{flags_in as the_flags_in};
 
 use crate::FunctionFault;
 use crate::sorts::{flag_in, parts, two_of, wanted};

@@ -3,12 +3,12 @@ ghost use Rattle.std.specs.Prelude.{◌≡◌, ◌++◌, OnOk, IfOk, option_map,
 ghost use Rattle.heat_value.specs.Data.{no_nodes};
 ghost use Rattle.heat_value.specs.Meaning.{data_of, nodes_of};
 ghost use Rattle.hot_eval.specs.Answers.{IsAnswer};
-ghost use Rattle.hot_eval.specs.Lists.{list_concat as the_list_concat, list_concat_unique as the_list_concat_unique};
-ghost use Rattle.hot_eval.specs.Lists.{filter as the_filter, contains as the_contains, equals as the_equals};
-ghost use Rattle.hot_eval.specs.Lists.{concatenated as the_concatenated, new_ones as the_new_ones, without as the_without};
-ghost use Rattle.hot_eval.specs.Lists.{contains_in as the_contains_in, contains_text as the_contains_text};
+ghost use Rattle.eval_words.specs.Lists.{list_concat as the_list_concat, list_concat_unique as the_list_concat_unique};
+ghost use Rattle.eval_words.specs.Lists.{filter as the_filter, contains as the_contains, equals as the_equals};
+ghost use Rattle.eval_words.specs.Lists.{concatenated as the_concatenated, new_ones as the_new_ones, without as the_without};
+ghost use Rattle.eval_words.specs.Lists.{contains_in as the_contains_in, contains_text as the_contains_text};
 ghost use Rattle.hot_strings.specs.Answers.{is_part};
-ghost use Rattle.hot_eval.specs.Sameness.{is_same as the_is_same, has as the_has};
+ghost use Rattle.eval_words.specs.Sameness.{is_same as the_is_same, has as the_has};
 
 use crate::FunctionFault;
 use crate::sorts::{list_in, list_or_null, parts, text_in, two_of, wanted};

@@ -3,12 +3,12 @@ ghost use Rattle.std.specs.Prelude.{◌≡◌, codes, option_map};
 ghost use Rattle.heat_value.specs.Meaning.{data_of, members_of};
 ghost use Rattle.hot_forms.specs.Shapes.{members_in};
 ghost use Rattle.hot_functions.specs.Forms.{stands as the_stands};
-ghost use Rattle.hot_eval.specs.Names.{function_of as the_function_of, named_in};
-ghost use Rattle.hot_eval.specs.Names.{text_function_of as the_text_function_of};
-ghost use Rattle.hot_eval.specs.Names.{collection_function_of as the_collection_function_of};
-ghost use Rattle.hot_eval.specs.Names.{condition_function_of as the_condition_function_of};
-ghost use Rattle.hot_eval.specs.Names.{has_form_of as the_has_form_of, is_formed as the_is_formed};
-ghost use Rattle.hot_eval.specs.Names.{is_condition_formed as the_is_condition_formed};
+ghost use Rattle.eval_words.specs.Names.{function_of as the_function_of, named_in};
+ghost use Rattle.eval_words.specs.Names.{text_function_of as the_text_function_of};
+ghost use Rattle.eval_words.specs.Names.{collection_function_of as the_collection_function_of};
+ghost use Rattle.eval_words.specs.Names.{condition_function_of as the_condition_function_of};
+ghost use Rattle.eval_words.specs.Names.{has_form_of as the_has_form_of, is_formed as the_is_formed};
+ghost use Rattle.eval_words.specs.Names.{is_condition_formed as the_is_condition_formed};
 
 use crate::Function;
 use heat_value::{Member, Value};

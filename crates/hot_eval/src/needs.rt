@@ -2,9 +2,9 @@
 ghost use Rattle.std.specs.Prelude.{◌≡◌, ◌++◌, ◌∷◌, [], List, ℕ, IfOk, OnOk, map, option_map};
 ghost use Rattle.heat_plan.specs.Order.{Rising};
 ghost use Rattle.heat_value.specs.Meaning.{data_of, nodes_of, members_of};
-ghost use Rattle.hot_eval.specs.Needs.{AreNeeds, AreResNamesOf, references_in, references_among};
-ghost use Rattle.hot_eval.specs.Needs.{references_under as the_references_under};
-ghost use Rattle.hot_eval.specs.Needs.{own_reference, referred as the_referred, first_text as the_first_text};
+ghost use Rattle.eval_words.specs.Needs.{AreNeeds, AreResNamesOf, references_in, references_among};
+ghost use Rattle.eval_words.specs.Needs.{references_under as the_references_under};
+ghost use Rattle.eval_words.specs.Needs.{own_reference, referred as the_referred, first_text as the_first_text};
 
 use crate::sorts::{list_in, text_in};
 use heat_plan::{Needs, ResName};

@@ -4,7 +4,7 @@ ghost use Rattle.heat_value.specs.Data.{Data};
 ghost use Rattle.heat_value.specs.Meaning.{data_of};
 ghost use Rattle.heat_value.specs.declared.path.Step.TheVariants.{Key, Index};
 ghost use Rattle.hot_eval.specs.Answers.{IsOutcome};
-ghost use Rattle.hot_eval.specs.Outcomes.{Outcome, under};
+ghost use Rattle.eval_words.specs.Outcomes.{Outcome, under};
 
 use crate::EvalFault;
 use heat_value::{Text, Value};

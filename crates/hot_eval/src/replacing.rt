@@ -3,9 +3,9 @@ ghost use Rattle.std.specs.Prelude.{ℕ};
 ghost use Rattle.heat_value.specs.Data.{Data};
 ghost use Rattle.heat_value.specs.Meaning.{data_of};
 ghost use Rattle.hot_eval.specs.Answers.{IsOutcome};
-ghost use Rattle.hot_eval.specs.Evaluation.{counted, in_repeat};
-ghost use Rattle.hot_eval.specs.Fillings.{filled};
-ghost use Rattle.hot_eval.specs.Outcomes.{Outcome, seen_from};
+ghost use Rattle.eval_words.specs.Evaluation.{counted, in_repeat};
+ghost use Rattle.eval_words.specs.Fillings.{filled};
+ghost use Rattle.eval_words.specs.Outcomes.{Outcome, seen_from};
 ghost use Rattle.hot_eval.specs.Repeats.{choice_of, IsChoice};
 
 use crate::answering::charge;

@@ -3,11 +3,11 @@ ghost use Rattle.std.specs.Prelude.{◌≡◌, ◌++◌, ℕ};
 ghost use Rattle.heat_value.specs.Data.{Members, fields};
 ghost use Rattle.heat_value.specs.Meaning.{data_of};
 ghost use Rattle.hot_eval.specs.Answers.{IsMadeOf, again};
-ghost use Rattle.hot_eval.specs.Evaluation.{evaluation};
-ghost use Rattle.hot_eval.specs.Outcomes.{Outcome, Gives, seen_from, is_result as the_is_result};
-ghost use Rattle.hot_eval.specs.Resolutions.{eval as the_eval, resolve as the_resolve};
-ghost use Rattle.hot_eval.specs.Resolutions.{properties as the_properties, properties_path, unless_large};
-ghost use Rattle.hot_eval.specs.Scenes.{scene_of, scene_data};
+ghost use Rattle.eval_words.specs.Evaluation.{evaluation};
+ghost use Rattle.eval_words.specs.Outcomes.{Outcome, Gives, seen_from, is_result as the_is_result};
+ghost use Rattle.eval_words.specs.Resolutions.{eval as the_eval, resolve as the_resolve};
+ghost use Rattle.eval_words.specs.Resolutions.{properties as the_properties, properties_path, unless_large};
+ghost use Rattle.eval_words.specs.Scenes.{scene_of, scene_data};
 
 use crate::depth::Depth;
 use crate::evaluation::{members, value};

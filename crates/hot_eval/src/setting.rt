@@ -2,9 +2,9 @@
 ghost use Rattle.std.specs.Prelude.{◌≡◌, ◌<◌, ℕ, IfOk, IfErr};
 ghost use Rattle.heat_value.specs.Data.{Data};
 ghost use Rattle.hot_eval.specs.Answers.{again};
-ghost use Rattle.hot_eval.specs.Evaluation.{value_outcome};
-ghost use Rattle.hot_eval.specs.Scenes.{scene_data};
-ghost use Rattle.hot_eval.specs.declared.fault.EvalFault.TheVariants.{Memory};
+ghost use Rattle.eval_words.specs.Evaluation.{value_outcome};
+ghost use Rattle.eval_words.specs.Scenes.{scene_data};
+ghost use Rattle.eval_words.specs.declared.fault.EvalFault.TheVariants.{Memory};
 
 use crate::depth::Depth;
 use crate::{EvalFault, Scene};

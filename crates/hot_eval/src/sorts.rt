@@ -3,10 +3,10 @@ ghost use Rattle.std.specs.Prelude.{◌≡◌, IfOk, option_map, ok_or};
 ghost use Rattle.heat_value.specs.Meaning.{data_of, nodes_of, members_of};
 ghost use Rattle.heat_value.specs.Data.{lookup};
 ghost use Rattle.hot_forms.specs.Shapes.{members_in};
-ghost use Rattle.hot_eval.specs.Sorts.{text_in as the_text_in, text_taken as the_text_taken};
-ghost use Rattle.hot_eval.specs.Sorts.{flag_in as the_flag_in, list_in as the_list_in, object_in as the_object_in};
-ghost use Rattle.hot_eval.specs.Sorts.{list_or_null as the_list_or_null, object_or_null as the_object_or_null};
-ghost use Rattle.hot_eval.specs.Sorts.{listed, first_and_rest as the_first_and_rest, two_of as the_two_of};
+ghost use Rattle.eval_words.specs.Sorts.{text_in as the_text_in, text_taken as the_text_taken};
+ghost use Rattle.eval_words.specs.Sorts.{flag_in as the_flag_in, list_in as the_list_in, object_in as the_object_in};
+ghost use Rattle.eval_words.specs.Sorts.{list_or_null as the_list_or_null, object_or_null as the_object_or_null};
+ghost use Rattle.eval_words.specs.Sorts.{listed, first_and_rest as the_first_and_rest, two_of as the_two_of};
 
 use crate::{FaultCode, FunctionFault};
 use heat_value::{Member, Props, Text, TryCopy, Value, text_of};

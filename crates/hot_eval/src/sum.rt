@@ -1,7 +1,7 @@
 //! The running sum of costs, and the condition that was missed first.
 ghost use Rattle.std.specs.Prelude.{◌≡◌, ◌-◌};
 ghost use Rattle.hot_eval.specs.Answers.{IsOutcome};
-ghost use Rattle.hot_eval.specs.Outcomes.{charged, cost_limit};
+ghost use Rattle.eval_words.specs.Outcomes.{charged, cost_limit};
 
 use crate::{EvalFault, FaultCode};
 use std::alloc::Global;
@@ -20,7 +20,7 @@ pub struct Sum {
 
 impl Model for Sum {
     ghost use Rattle.std.specs.Prelude.{ℕ, ◌≤◌};
-    ghost use Rattle.hot_eval.specs.Outcomes.{cost_limit};
+    ghost use Rattle.eval_words.specs.Outcomes.{cost_limit};
 
     ghost Value = { ℕ };
 

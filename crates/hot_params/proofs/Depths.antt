@@ -19,7 +19,7 @@ use Rattle.hot_params.specs.Conversions.{ConvertsTo, string_in, flag_in, list_in
 use Rattle.hot_params.specs.Identity.{with_pseudo}
 use Rattle.hot_params.specs.Texts.{listed_in}
 use Rattle.hot_params.specs.declared.ids.Ids.{Ids}
-use Rattle.hot_registry.specs.declared.custom.NamedTest.{NamedTest}
+use Rattle.type_catalog.specs.declared.custom.NamedTest.{NamedTest}
 
 abbrev Shallow : Data → Type 0
 Shallow d = depth d ≤ 64

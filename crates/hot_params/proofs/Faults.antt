@@ -14,7 +14,7 @@ use Rattle.hot_params.specs.declared.code.ParamCode.TheVariants.{P03}
 use Rattle.hot_params.specs.declared.fault.ParamFault.{ParamFault}
 use Rattle.hot_params.specs.declared.fault.ParamFault.TheVariants.{Wrong, Memory}
 use Rattle.hot_params.specs.declared.parameter.Unmet.{Unmet}
-use Rattle.hot_registry.specs.declared.custom.NamedTest.{NamedTest}
+use Rattle.type_catalog.specs.declared.custom.NamedTest.{NamedTest}
 
 none_of : (s : Option Sort) (d : Data) (o : Option Value) → o ≡ None → IsConversion s d (option_map data_of o)
     → (v : Data) → ¬ ConvertsTo s d v

@@ -19,11 +19,11 @@ use Rattle.hot_params.specs.Bindings.{AreMet, IsFirstUnmet, AreBound, IsValueOf,
 use Rattle.hot_params.specs.Bindings.{IsOwnFault, IsFirstFault}
 use Rattle.hot_params.specs.declared.fault.ParamFault.{ParamFault}
 use Rattle.hot_params.specs.declared.fault.ParamFault.TheVariants.{Wrong, Memory}
-use Rattle.hot_parts.specs.Constraints.{asked_in}
+use Rattle.hot_tree.specs.Constraints.{asked_in}
 use Rattle.hot_params.specs.Rules.{GivesFor}
 use Rattle.hot_params.specs.declared.code.ParamCode.{ParamCode}
 use Rattle.hot_params.specs.declared.fault.ParamFlaw.{ParamFlaw}
-use Rattle.hot_registry.specs.declared.custom.NamedTest.{NamedTest}
+use Rattle.type_catalog.specs.declared.custom.NamedTest.{NamedTest}
 
 -- ---- constraints
 

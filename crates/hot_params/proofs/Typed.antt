@@ -2,8 +2,8 @@
 use Rattle.std.proofs.Common.{◌≡◌, ◌∙◌, ℕ, List, Some, ap}
 use Rattle.heat_value.specs.Data.{Data}
 use Rattle.hot_forms.specs.Shapes.{members_in}
-use Rattle.hot_parts.specs.Entries.{IsParam, sort_of}
-use Rattle.hot_parts.specs.declared.param.Param.{Param}
+use Rattle.hot_tree.specs.PartEntries.{IsParam, sort_of}
+use Rattle.hot_tree.specs.declared.param.Param.{Param}
 use Rattle.hot_params.specs.Typed.{SaysTheSame}
 
 pub says_the_same : (name : List ℕ) (d : Data) (p : Param) → IsParam name d p → SaysTheSame (members_in d) p

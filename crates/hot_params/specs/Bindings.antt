@@ -5,7 +5,7 @@ use Rattle.hot_forms.specs.Parameters.{sort_in, nodes_in}
 use Rattle.hot_forms.specs.Sections.{unless_null}
 use Rattle.hot_forms.specs.Shapes.{members_in}
 use Rattle.hot_forms.specs.declared.sort.Sort.{Sort}
-use Rattle.hot_parts.specs.Constraints.{asked_in}
+use Rattle.hot_tree.specs.Constraints.{asked_in}
 use Rattle.hot_params.specs.Codes.{at_parameter, at_constraint}
 use Rattle.hot_params.specs.Conversions.{ConvertsTo}
 use Rattle.hot_params.specs.Rules.{GivesFor}
@@ -15,7 +15,7 @@ use Rattle.hot_params.specs.declared.fault.ParamFlaw.{ParamFlaw}
 use Rattle.hot_params.specs.declared.fault.ParamFault.{ParamFault}
 use Rattle.hot_params.specs.declared.fault.ParamFault.TheVariants.{Wrong, Memory}
 use Rattle.hot_params.specs.declared.parameter.Unmet.{Unmet}
-use Rattle.hot_registry.specs.declared.custom.NamedTest.{NamedTest}
+use Rattle.type_catalog.specs.declared.custom.NamedTest.{NamedTest}
 
 -- ---- what a template says of a parameter
 

@@ -9,7 +9,7 @@ use Rattle.hot_params.specs.declared.code.ParamCode.TheVariants.{P02}
 use Rattle.hot_params.specs.declared.fault.ParamFault.{ParamFault}
 use Rattle.hot_params.specs.declared.fault.ParamFault.TheVariants.{Wrong, Memory}
 use Rattle.hot_params.specs.declared.ids.Ids.{Ids}
-use Rattle.hot_registry.specs.declared.custom.NamedTest.{NamedTest}
+use Rattle.type_catalog.specs.declared.custom.NamedTest.{NamedTest}
 use Rattle.hot_tree.specs.Whole.{entries}
 
 -- the first given name, in byte order, that isn't a parameter's

@@ -15,9 +15,9 @@ use Rattle.hot_params.specs.Patterns.{IsReadAsPattern, AreWhole, IsNoPattern, Is
 use Rattle.hot_params.specs.Sizes.{size_of, is_within, is_remainder, of_whole}
 use Rattle.hot_params.specs.declared.code.ParamCode.{ParamCode}
 use Rattle.hot_params.specs.declared.code.ParamCode.TheVariants.{P01, P02, P03, P04, P05, P06}
-use Rattle.hot_registry.specs.Names.{is_listed}
-use Rattle.hot_registry.specs.Registries.{test_named}
-use Rattle.hot_registry.specs.declared.custom.NamedTest.{NamedTest}
+use Rattle.type_catalog.specs.Names.{is_listed}
+use Rattle.type_catalog.specs.Registries.{test_named}
+use Rattle.type_catalog.specs.declared.custom.NamedTest.{NamedTest}
 
 -- ---- allowed_values
 

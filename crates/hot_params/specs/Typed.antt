@@ -3,8 +3,8 @@ use Rattle.std.specs.Prelude.{◌≡◌, Option, Some, None, option_map}
 use Rattle.heat_value.specs.Data.{Members}
 use Rattle.heat_value.specs.Meaning.{data_of}
 use Rattle.hot_forms.specs.declared.sort.Sort.{Sort}
-use Rattle.hot_parts.specs.Constraints.{asked_by, asked_among}
-use Rattle.hot_parts.specs.declared.param.Param.{Param}
+use Rattle.hot_tree.specs.Constraints.{asked_by, asked_among}
+use Rattle.hot_tree.specs.declared.param.Param.{Param}
 use Rattle.hot_params.specs.Bindings.{type_of, chosen, constraints_of}
 
 -- its type, what is chosen where nothing is given, and what its constraints ask

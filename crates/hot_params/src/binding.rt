@@ -4,8 +4,8 @@ ghost use Rattle.heat_value.specs.Data.{Data, no_members, members_depth};
 ghost use Rattle.heat_value.specs.Meaning.{data_of};
 ghost use Rattle.hot_forms.specs.declared.sort.Sort.{Sort as sort_type};
 ghost use Rattle.hot_forms.specs.Shapes.{members_in};
-ghost use Rattle.hot_parts.specs.Entries.{IsParam};
-ghost use Rattle.hot_parts.specs.declared.param.Param.{Param as param_type};
+ghost use Rattle.hot_tree.specs.PartEntries.{IsParam};
+ghost use Rattle.hot_tree.specs.declared.param.Param.{Param as param_type};
 ghost use Rattle.hot_tree.specs.Functions.{members_there as the_members_there};
 ghost use Rattle.hot_params.specs.Bindings.{AreBound, IsFirstFault};
 ghost use Rattle.hot_params.specs.Bound.{IsBoundTo, IsFaultOf, params_of as the_params_of};
@@ -19,9 +19,9 @@ use crate::{Bound, Ids, ParamCode, ParamFault};
 use heat_plan::Parameters;
 use heat_value::{Props, Text, TryCopy, Value};
 use hot_forms::section;
-use hot_registry::Registry;
 use hot_tree::Template;
 use std::alloc::{AllocError, Global};
+use type_catalog::Registry;
 
 /// The values of a template's parameters, with the pseudo parameters among them, or the first fault:
 /// P02 of the first given name that is no parameter's; else of the first parameter, in byte order, P01,

@@ -5,15 +5,15 @@ ghost use Rattle.heat_value.specs.Data.{no_nodes};
 ghost use Rattle.heat_value.specs.Meaning.{data_of};
 ghost use Rattle.hot_forms.specs.Parameters.{nodes_in};
 ghost use Rattle.hot_forms.specs.Shapes.{members_in};
-ghost use Rattle.hot_parts.specs.Constraints.{asked_in};
+ghost use Rattle.hot_tree.specs.Constraints.{asked_in};
 ghost use Rattle.hot_params.specs.Codes.{unless as the_unless};
 ghost use Rattle.hot_params.specs.declared.code.ParamCode.TheVariants.{P04};
 ghost use Rattle.hot_params.specs.Rules.{Gives, GivesFor, IsAllowing, asked_of, texts_in, texts_among};
 ghost use Rattle.hot_params.specs.Rules.{text_in as the_text_in};
 ghost use Rattle.hot_params.specs.Sizes.{is_within as the_is_within, is_remainder as the_is_remainder};
 ghost use Rattle.hot_params.specs.Sizes.{size_of as the_size_of, of_whole};
-ghost use Rattle.hot_registry.specs.Names.{is_listed};
-ghost use Rattle.hot_registry.specs.Registries.{test_named};
+ghost use Rattle.type_catalog.specs.Names.{is_listed};
+ghost use Rattle.type_catalog.specs.Registries.{test_named};
 
 use crate::ParamCode;
 use crate::pattern::{pattern_code, text_in};
@@ -21,8 +21,8 @@ use crate::size::{is_remainder, is_within, size_of};
 use crate::values::is_allowed;
 use heat_value::{Items, Props, Text, Value};
 use hot_forms::{Rule, Sort, rule_of};
-use hot_registry::{Custom, Registry};
 use std::alloc::{AllocError, Global};
+use type_catalog::{Custom, Registry};
 
 /// What an entry of `constraints` gives for a value of the type: nothing where it is met, else a code.
 pub fn entry_code(

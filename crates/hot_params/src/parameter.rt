@@ -12,8 +12,8 @@ use crate::conversion::converted;
 use crate::{ParamCode, ParamFault, ParamFlaw};
 use heat_value::{Items, Member, Props, Text, Value};
 use hot_forms::{Sort, found, section, sort_in};
-use hot_registry::Registry;
 use std::alloc::{AllocError, Global};
+use type_catalog::Registry;
 
 /// A constraint's place with the code that it gives.
 #[derive(Clone, Copy, Debug, PartialEq, Eq)]

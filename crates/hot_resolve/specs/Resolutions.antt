@@ -1,7 +1,7 @@
 -- What the call answers.
 use Rattle.hot_resolve.specs.declared.resolving.Resolution.{Resolution}
 use Rattle.hot_resolve.specs.declared.resolving.Resolution.TheVariants as resolution
-use Rattle.hot_resolve.specs.Resolve.{Fault, Props, Resolved}
+use Rattle.eval_words.specs.Resolve.{Fault, Props, Resolved}
 
 -- the resolution as the definition has it
 abbrev pub resolved_of : Resolution → Resolved

@@ -1,6 +1,6 @@
 //! The resolution of an item's properties.
 ghost use Rattle.std.specs.Prelude.{◌≡◌, IfOk};
-ghost use Rattle.hot_resolve.specs.Resolve.{resolve};
+ghost use Rattle.eval_words.specs.Resolve.{resolve};
 ghost use Rattle.hot_resolve.specs.Resolutions.{resolved_of};
 
 use heat_plan::{Item, KnownFacts, Plan, Properties};
@@ -16,7 +16,7 @@ pub enum Resolution {
 }
 
 /// What the item resolves to, with the facts of what it needs.
-#[tactic(auto, unfolding(crate::specs::Resolve::resolve))]
+#[tactic(auto, unfolding(eval_words::specs::Resolve::resolve))]
 pub fn resolve(
     alloc: Global,
     plan: &Plan,

@@ -83,56 +83,12 @@ IsLongestKey-same params s j v k w distinct a b =
 pub key_some : (params : Params) (k v : List ℕ) → HasNoEmptyKey params → Contains params (k, v) → k ≢ []
 key_some params k v some listed = All-contains (λ q. q.0 ≢ []) params (k, v) some listed
 
--- the longest of the keys so far, and where it stands in the list
-pub record IsBest (params : Params) (s : List ℕ) (longest i : ℕ) : Type 0 where
-  pub key : List ℕ
-  pub value : List ℕ
-  pub there : slice_get params i ≡ Some (key, value)
-  pub stands : Begins key s
-  pub length : longest ≡ length key
-
--- after all keys, the best is the longest, or none begins
-pub best_found : (params : Params) (s : List ℕ) (longest : ℕ) (found : Option ℕ) → HasNoEmptyKey params → All (λ p. Begins p.0 s → length p.0 ≤ longest) params
-    → MatchOption found (longest ≡ 0) (IsBest params s longest)
-    → MatchOption found (NoKeyBegins params s) (λ i. (k : List ℕ) × (v : List ℕ) × (slice_get params i ≡ Some (k, v)) × IsLongestKey params s k v)
-best_found params s longest None some below is =
-    λ i d l b. nonempty (slice_index_or params i d).0 (some i d l) (below i d l b)
-  where
-    nonempty : (k : List ℕ) → k ≢ [] → length k ≤ longest → ⊥
-    nonempty [] h le = h refl
-    nonempty (x ∷ k) h le = omega (arith, is)
-best_found params s longest (Some i) some below best = (
-  best.key,
-  best.value,
-  best.there,
-  record {
-    listed = Contains-get params i (best.key, best.value) best.there;
-    stands = best.stands;
-    longest = rw (← best.length) below;
-  },
-)
-
 -- what holds of the items so far and of the next
 pub All-step : {X : Type 0} (P : X → Type 0) (xs : List X) (i : ℕ) (x : X) → i < length xs → x ≡ get_or xs i x → P x → All P (take i xs) → All P (take (i + 1) xs)
 All-step P xs i x l e h all = All-more P xs i x l all (subst P e h)
 
 pub All-end : {X : Type 0} (P : X → Type 0) (xs : List X) (i : ℕ) → length xs ≤ i → All P (take i xs) → All P xs
 All-end P xs i l all = subst (λ (ys : List _). All P ys) (take_all i xs l) all
-
--- a longer key that begins is the best
-pub best_more : (params : Params) (s : List ℕ) (i longest : ℕ) (p : List ℕ × List ℕ) (k : List ℕ) → i < length params → p ≡ get_or params i p → k ≡ p.0 → Begins k s → longest < length k
-    → All (λ q. Begins q.0 s → length q.0 ≤ longest) (take i params)
-    → All (λ q. Begins q.0 s → length q.0 ≤ length k) (take (i + 1) params) × IsBest params s (length k) i
-best_more params s i longest p k l e is here longer all = (
-  All-step (λ q. Begins q.0 s → length q.0 ≤ length k) params i p l e (λ _. omega (arith, ap length is))
-      (All-weaker (λ q. Begins q.0 s → length q.0 ≤ longest) (λ q. Begins q.0 s → length q.0 ≤ length k) (λ q h b. omega (arith, h b)) (take i params) all),
-  record { key = p.0; value = p.1; there = slice_get_read params (length params) i p refl l e; stands = subst (λ (x : List ℕ). Begins x s) is here; length = ap length is },
-)
-
--- a key that doesn't begin, or is no longer, leaves the best
-pub best_same : (params : Params) (s : List ℕ) (i longest : ℕ) (p : List ℕ × List ℕ) → i < length params → p ≡ get_or params i p → (Begins p.0 s → length p.0 ≤ longest)
-    → All (λ q. Begins q.0 s → length q.0 ≤ longest) (take i params) → All (λ q. Begins q.0 s → length q.0 ≤ longest) (take (i + 1) params)
-best_same params s i longest p l e own all = All-step (λ q. Begins q.0 s → length q.0 ≤ longest) params i p l e own all
 
 pub not_empty : (s k : List ℕ) → s ≡ k → false ≡ (length s == 0) → k ≢ []
 not_empty s k e h empty = let gone : false ≡ true = subst (λ (t : List ℕ). false ≡ (length t == 0)) (e ∙ empty) h in cc
@@ -152,3 +108,7 @@ pub AreDistinct-item : (params : Params) (i n : ℕ) (p : List ℕ × List ℕ) 
 AreDistinct-item params i n p l e h =
     let cut : drop i params ≡ get_or params i p ∷ drop (i + 1) params = rw (add-one, drop-cons params i p l) refl in
     All-take (λ q. q.0 ≢ (get_or params i p).0) n (drop (i + 1) params) (subst (λ (ps : Params). AreDistinct ps) cut h).0
+
+pub some_bytes : (s : List ℕ) → false ≡ (length s == 0) → 0 < length s
+some_bytes [] h = cc
+some_bytes (b ∷ s) h = omega arith

@@ -7,9 +7,6 @@ pub mod Characters
 pub mod KeyLemmas
 pub mod PieceLemmas
 pub mod Rises
-pub mod Nearest
-pub mod Marks
 pub mod Indexing
-pub mod Listings
 pub mod Weights
 pub mod AnswerLemmas

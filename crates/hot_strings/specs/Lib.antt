@@ -5,7 +5,6 @@ pub mod Joined
 pub mod Split
 pub mod Pieces
 pub mod Rising
-pub mod Marks
 pub mod Digest
 pub mod Faults
 pub mod Indexes

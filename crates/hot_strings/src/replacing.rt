@@ -5,7 +5,6 @@ ghost use Rattle.hot_strings.specs.Answers.{HasAnswer, with_values};
 ghost use Rattle.hot_strings.specs.Faults.{IsOfLimit};
 ghost use Rattle.hot_strings.specs.Indexes.{keys_in, IsIndexOf};
 ghost use Rattle.hot_strings.specs.Only.{HoldsOfOne};
-ghost use Rattle.hot_strings.specs.Places.{IsPart, Lacks};
 ghost use Rattle.hot_strings.specs.Size.{Fits, FitsWithin};
 ghost use Rattle.hot_strings.specs.Pieces.{ArePieces, IsReplaced, AreDistinct, HasNoEmptyKey};
 ghost use Rattle.hot_strings.specs.Pieces.{LacksSomeKey, HasEveryKey};
@@ -14,7 +13,6 @@ ghost use Rattle.hot_strings.specs.Replacing.{IsReplaceFault, IsWithinFault, IsO
 use crate::StringFault;
 use crate::draft::Draft;
 use crate::index::KeyIndex;
-use crate::marking::lacks_risen;
 use crate::pieces::first_piece;
 use crate::size::MAX_SIZE;
 use heat_value::Text;
@@ -112,49 +110,10 @@ fn strict_fails(
         (IsTrue strict → HasEveryKey params.now template.now)) }
 {
     if strict {
-        lacks_some_key(alloc, params, index, template)
+        index.lacks_some(alloc, template)
     } else {
         Ok(false)
     }
-}
-
-// Whether some key stands nowhere in the template.
-fn lacks_some_key(
-    alloc: Global,
-    params: &[(Text, Text)],
-    index: &KeyIndex,
-    template: &str,
-) -> Result<bool, AllocError>
-    requires keys { HasNoEmptyKey params.now }
-    requires index { IsIndexOf (keys_in params.now) index.now }
-    ensures { IfOk result (λ b. MatchBool b (LacksSomeKey params.now template.now)
-        (HasEveryKey params.now template.now)) }
-{
-    if index.rises() {
-        lacks_risen(alloc, params, index.shorter(), template.as_bytes())
-    } else {
-        Ok(lacks_sought(params, template))
-    }
-}
-
-// The same, by looking for each key in the whole template.
-fn lacks_sought(params: &[(Text, Text)], template: &str) -> bool
-    ensures { MatchBool result (LacksSomeKey params.now template.now)
-        (HasEveryKey params.now template.now) }
-{
-    for param in params {
-        if !has_part(template, param.0.as_str()) {
-            return true;
-        }
-    }
-    false
-}
-
-// Whether a key stands somewhere in a text.
-fn has_part(text: &str, key: &str) -> bool
-    ensures { MatchBool result (IsPart key.now text.now) (Lacks key.now text.now) }
-{
-    text.contains(key)
 }
 
 // The template with the values put in, the keys found by an index, where that takes no more than it may.
@@ -201,10 +160,12 @@ fn pass(
     ensures fits { IfOk result (λ t. FitsWithin limit (words t)) }
     ensures err { IfErr result (λ e. IsOfLimit e limit (words (with_values params.now template.now))) }
 {
+    let found = index.found_in(alloc, template)?;
     let mut draft = Draft::new(alloc, limit);
     let mut rest = template;
     while !rest.is_empty() {
-        let (put, tail) = first_piece(params, index, rest);
+        let longest = found[template.len() - rest.len()];
+        let (put, tail) = first_piece(params, longest, rest);
         draft.push(put)?;
         rest = tail;
     }

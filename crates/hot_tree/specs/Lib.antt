@@ -3,3 +3,7 @@ pub mod Functions
 pub mod Passes
 pub mod Whole
 pub mod Template
+pub mod Readings
+pub mod Constraints
+pub mod PartEntries
+pub mod Parts

@@ -2,15 +2,14 @@
 ghost use Rattle.std.specs.Prelude.{◌≡◌, IfOk, IfErr, None, codes};
 ghost use Rattle.heat_value.specs.Meaning.{data_of};
 ghost use Rattle.heat_value.specs.Data.{Rises};
-ghost use Rattle.hot_parts.specs.Parts.{ArePartsOf};
-ghost use Rattle.hot_parts.specs.Readings.{entries};
+ghost use Rattle.hot_tree.specs.Parts.{ArePartsOf};
+ghost use Rattle.hot_tree.specs.Readings.{entries};
 ghost use Rattle.hot_tree.specs.Template.{IsRight, IsTemplateOf, IsFaultOf};
 ghost use Rattle.hot_tree.specs.Whole.{template_flaw as the_template_flaw};
 
-use crate::HotFault;
 use crate::whole::template_flaw;
+use crate::{HotFault, Parts};
 use heat_value::{Props, TryCopy, Value};
-use hot_parts::Parts;
 use std::alloc::Global;
 use std::marker::Model;
 
@@ -30,8 +29,8 @@ impl Model for Template {
 
     ghost coded = { members_code };
 
-    ghost use Rattle.hot_parts.specs.Parts.{ArePartsOf};
-    ghost use Rattle.hot_parts.specs.Readings.{entries};
+    ghost use Rattle.hot_tree.specs.Parts.{ArePartsOf};
+    ghost use Rattle.hot_tree.specs.Readings.{entries};
     ghost use Rattle.hot_tree.specs.Template.{IsRight};
 
     ghost view = { λ t. t.fields };

@@ -6,3 +6,6 @@ pub mod Puts
 pub mod Cuts
 pub mod Tables
 pub mod Sortings
+pub mod SortedPlaces
+pub mod SortedOrders
+pub mod Undone

@@ -5,7 +5,7 @@ ghost use Rattle.std.specs.Prelude.{length, slice_get, slice_set, remove, insert
 ghost use Rattle.keyed_table.specs.Rooms.{Roomy};
 
 use crate::rewrite::Rewrite;
-use heat_value::TryCopy;
+use heat_plan::TryCopy;
 use std::alloc::{AllocError, Global};
 use std::marker::Model;
 

@@ -10,7 +10,7 @@ use crate::keyed::Keyed;
 use crate::places::close_up;
 use crate::rewrite::Rewrite;
 use crate::roomed::Roomed;
-use heat_value::TryCopy;
+use heat_plan::TryCopy;
 use std::alloc::{AllocError, Global};
 use std::marker::Model;
 

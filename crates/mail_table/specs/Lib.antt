@@ -1,1 +1,5 @@
 pub mod Mails
+pub mod Mail
+pub mod Holders
+pub mod ByRow
+pub mod Runs

@@ -1,7 +1,6 @@
 //! Letters that wait for an engine, and the jobs that engines have.
 
-use heat_plan::{EngineNo, LetterNo, RowNo, StackName, TravNo};
-use heat_value::{Equals, TryCopy};
+use heat_plan::{EngineNo, Equals, LetterNo, RowNo, StackName, TravNo, TryCopy};
 use std::alloc::AllocError;
 
 /// A letter: somebody is to work at a node of this traversal's graph.

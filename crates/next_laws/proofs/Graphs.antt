@@ -17,7 +17,7 @@ use Rattle.traversal_graph.specs.Candidates.{candidates}
 use Rattle.traversal_graph.specs.Nodes.{IsBuilt, IsSortedCopy, cleanup_nodes, numbers_of, update_nodes}
 use Rattle.row_table.specs.Rows.{row_key}
 use Rattle.row_table.specs.declared.row.Row.{Row}
-use Rattle.step_relation.specs.Commands.{brief_of}
+use Rattle.history_laws.specs.Commands.{brief_of}
 use Rattle.next_laws.proofs.Listings.{rising_one}
 
 -- two lists with one more are equal in both parts

@@ -7,7 +7,7 @@ use Rattle.dep_graph.specs.Lists.{ListsAll}
 use Rattle.row_table.specs.Rows.{row_key}
 use Rattle.row_table.specs.declared.row.Row.{Row}
 use Rattle.core_state.specs.State.{StateData}
-use Rattle.step_relation.specs.Commands.{AreRowsOf, Chooses, IsLeaf, Lays, brief_of, current, fresh, none}
+use Rattle.history_laws.specs.Commands.{AreRowsOf, Chooses, IsLeaf, Lays, brief_of, current, fresh, none}
 use Rattle.history_laws.proofs.tables.Targets.{current_once}
 use Rattle.next_laws.specs.OneTurn.{LayoutIsOne}
 use Rattle.next_laws.proofs.Graphs.{graph_one}

@@ -16,15 +16,15 @@ use Rattle.core_state.specs.declared.entry.Actor.TheVariants.{Engine}
 use Rattle.core_state.specs.declared.entry.Entry.{Entry}
 use Rattle.core_state.specs.declared.entry.Why.{Why}
 use Rattle.core_state.specs.declared.stack.Stack.{Stack}
-use Rattle.step_relation.specs.Asks.{Asks, Calls, Falls, Polls, Refuses, failed_changes, failed_entries}
-use Rattle.step_relation.specs.Begins.{begun_changes, begun_entries, onward_changes, onward_entries}
-use Rattle.step_relation.specs.Cleanups.{purged_changes, purged_entries}
-use Rattle.step_relation.specs.Finishes.{Finishes, Settles, finished_changes, finished_entries, graph_then}
-use Rattle.step_relation.specs.Given.{Given}
-use Rattle.step_relation.specs.Inputs.{AllDone}
-use Rattle.step_relation.specs.Moves.{Move}
-use Rattle.step_relation.specs.Rows.{ready_row}
-use Rattle.step_relation.specs.Writes.{call_entry, complete_mark, mark_complete}
+use Rattle.history_laws.specs.Asks.{Asks, Calls, Falls, Polls, Refuses, failed_changes, failed_entries}
+use Rattle.history_laws.specs.Begins.{begun_changes, begun_entries, onward_changes, onward_entries}
+use Rattle.history_laws.specs.Cleanups.{purged_changes, purged_entries}
+use Rattle.history_laws.specs.Finishes.{Finishes, Settles, finished_changes, finished_entries, graph_then}
+use Rattle.history_laws.specs.Given.{Given}
+use Rattle.history_laws.specs.Inputs.{AllDone}
+use Rattle.history_laws.specs.Moves.{Move}
+use Rattle.history_laws.specs.Rows.{ready_row}
+use Rattle.history_laws.specs.Writes.{call_entry, complete_mark, mark_complete}
 use Rattle.next_laws.proofs.Pairs.{AreOne, clean_fresh, clear_one, drop_take, drops_one, fault_one, free_stolen}
 use Rattle.next_laws.proofs.Pairs.{fresh_again, prepare_one, relay_one, release_one, steals_one, takes_one, thief_one}
 use Rattle.next_laws.proofs.Parts.{IsAsked, Kind, Part, at_ask, at_poll, begins, clears, drops, ends, faults, goes}

@@ -15,15 +15,15 @@ use Rattle.core_state.specs.declared.entry.Entry.{Entry}
 use Rattle.core_state.specs.declared.entry.MailWrite.TheVariants.{Dropped, Ended, Held}
 use Rattle.core_state.specs.declared.stack.Stack.{Stack}
 use Rattle.type_catalog.specs.declared.effect.Effect.{Effect}
-use Rattle.step_relation.specs.Asks.{Falls, fault_of}
-use Rattle.step_relation.specs.Begins.{Begins, left_changes, left_entries}
-use Rattle.step_relation.specs.Cleanups.{Cleans}
-use Rattle.step_relation.specs.Freshness.{IsFresh, IsOverrun, cleans}
-use Rattle.step_relation.specs.Nexts.{TakesNext}
-use Rattle.step_relation.specs.Resends.{Resends}
-use Rattle.step_relation.specs.Takes.{HasNoHolder, IsHolder, IsIdleLetter, Relays, Releases, Takes, relayed_letter}
-use Rattle.step_relation.specs.Takes.{released_changes, released_entries, taken_job}
-use Rattle.step_relation.specs.Writes.{failed_mark, lock, lock_writes, mail_entry, mark_failed, rows_entry}
+use Rattle.history_laws.specs.Asks.{Falls, fault_of}
+use Rattle.history_laws.specs.Begins.{Begins, left_changes, left_entries}
+use Rattle.history_laws.specs.Cleanups.{Cleans}
+use Rattle.history_laws.specs.Freshness.{IsFresh, IsOverrun, cleans}
+use Rattle.history_laws.specs.Nexts.{TakesNext}
+use Rattle.history_laws.specs.Resends.{Resends}
+use Rattle.history_laws.specs.Takes.{HasNoHolder, IsHolder, IsIdleLetter, Relays, Releases, Takes, relayed_letter}
+use Rattle.history_laws.specs.Takes.{released_changes, released_entries, taken_job}
+use Rattle.history_laws.specs.Writes.{failed_mark, lock, lock_writes, mail_entry, mark_failed, rows_entry}
 use Rattle.next_laws.proofs.Parts.{fate_changes, fate_entries, lot_changes, lot_entries}
 use Rattle.next_laws.proofs.Readings.{fresh_one, holder_one, left_one, lowest_one, resends_one}
 use Rattle.next_laws.proofs.Verdicts.{Clears, Created, Decides, Fate, Kept, Left, Lot, Replaced, Resumed, Updated}

@@ -23,24 +23,24 @@ use Rattle.core_state.specs.declared.entry.MailWrite.TheVariants.{Dropped, Ended
 use Rattle.core_state.specs.declared.entry.Why.{Why}
 use Rattle.core_state.specs.declared.stack.Stack.{Stack}
 use Rattle.type_catalog.specs.declared.effect.Effect.{Effect}
-use Rattle.step_relation.specs.Asks.{Asks, Calls, Falls, Polls, Refuses, failed_changes, failed_entries, fault_of}
-use Rattle.step_relation.specs.Begins.{Begins, begun_changes, begun_entries, left_changes, left_entries, onward_changes}
-use Rattle.step_relation.specs.Begins.{onward_entries, replaced_changes, replaced_entries}
-use Rattle.step_relation.specs.Cleanups.{Cleans, purged_changes, purged_entries, retained_changes, retained_entries}
-use Rattle.step_relation.specs.Finishes.{Finishes, Settles, finished_changes, finished_entries}
-use Rattle.step_relation.specs.Given.{Answer, Faulted, Given, Nothing, Prepared}
-use Rattle.step_relation.specs.Moves.{Move, ask_begun, ask_failed, begin_failed, begin_faulted, begin_in_place}
-use Rattle.step_relation.specs.Moves.{begin_init, begin_overrun, begin_replaced, begin_resumed, begin_same}
-use Rattle.step_relation.specs.Moves.{clean_deleted, clean_gone, clean_init, clean_kept, clean_retained, clean_stuck}
-use Rattle.step_relation.specs.Moves.{finish, finish_last, finish_overrun, poll_failed, poll_gone, poll_ready}
-use Rattle.step_relation.specs.Moves.{poll_waits, take_dropped, take_free, take_stolen, takeover_fresh}
-use Rattle.step_relation.specs.Moves.{takeover_overrun}
-use Rattle.step_relation.specs.Nexts.{TakesNext, TakesOver, Works}
-use Rattle.step_relation.specs.Rows.{created_row, deleted_row, ready_row, same_row, updated_row}
-use Rattle.step_relation.specs.Takes.{HasNoHolder, IsHolder, IsIdleLetter, Relays, Releases, Takes, relayed_letter}
-use Rattle.step_relation.specs.Takes.{released_changes, released_entries, taken_job}
-use Rattle.step_relation.specs.Writes.{call_entry, complete_mark, failed_mark, lock, lock_writes, mail_entry}
-use Rattle.step_relation.specs.Writes.{mark_complete, mark_failed, rows_entry}
+use Rattle.history_laws.specs.Asks.{Asks, Calls, Falls, Polls, Refuses, failed_changes, failed_entries, fault_of}
+use Rattle.history_laws.specs.Begins.{Begins, begun_changes, begun_entries, left_changes, left_entries, onward_changes}
+use Rattle.history_laws.specs.Begins.{onward_entries, replaced_changes, replaced_entries}
+use Rattle.history_laws.specs.Cleanups.{Cleans, purged_changes, purged_entries, retained_changes, retained_entries}
+use Rattle.history_laws.specs.Finishes.{Finishes, Settles, finished_changes, finished_entries}
+use Rattle.history_laws.specs.Given.{Answer, Faulted, Given, Nothing, Prepared}
+use Rattle.history_laws.specs.Moves.{Move, ask_begun, ask_failed, begin_failed, begin_faulted, begin_in_place}
+use Rattle.history_laws.specs.Moves.{begin_init, begin_overrun, begin_replaced, begin_resumed, begin_same}
+use Rattle.history_laws.specs.Moves.{clean_deleted, clean_gone, clean_init, clean_kept, clean_retained, clean_stuck}
+use Rattle.history_laws.specs.Moves.{finish, finish_last, finish_overrun, poll_failed, poll_gone, poll_ready}
+use Rattle.history_laws.specs.Moves.{poll_waits, take_dropped, take_free, take_stolen, takeover_fresh}
+use Rattle.history_laws.specs.Moves.{takeover_overrun}
+use Rattle.history_laws.specs.Nexts.{TakesNext, TakesOver, Works}
+use Rattle.history_laws.specs.Rows.{created_row, deleted_row, ready_row, same_row, updated_row}
+use Rattle.history_laws.specs.Takes.{HasNoHolder, IsHolder, IsIdleLetter, Relays, Releases, Takes, relayed_letter}
+use Rattle.history_laws.specs.Takes.{released_changes, released_entries, taken_job}
+use Rattle.history_laws.specs.Writes.{call_entry, complete_mark, failed_mark, lock, lock_writes, mail_entry}
+use Rattle.history_laws.specs.Writes.{mark_complete, mark_failed, rows_entry}
 use Rattle.next_laws.proofs.Verdicts.{Clears, Created, Decides, Deleted, Fate, Kept, Left, Lot, Passed, Purged}
 use Rattle.next_laws.proofs.Verdicts.{Replaced, Resumed, Retained, Stuck, Updated, creates, deletes, gone, keeps, kept}
 use Rattle.next_laws.proofs.Verdicts.{leaves, purges, replaces, resumes, retains, sticks, updates}

@@ -23,23 +23,23 @@ use Rattle.core_state.specs.declared.change.Change.TheVariants.{Send, Stop}
 use Rattle.core_state.specs.declared.entry.Entry.{Entry}
 use Rattle.core_state.specs.declared.numbers.Numbers.{Numbers}
 use Rattle.core_state.specs.declared.stack.Stack.{Stack}
-use Rattle.step_relation.specs.Commands.{Chooses, Lays, Sets, current, first_letters, fresh, laid_changes, none}
-use Rattle.step_relation.specs.Commands.{settles_at_once, stack_set}
-use Rattle.step_relation.specs.Finishes.{given_input, ready_letters}
-use Rattle.step_relation.specs.Given.{Given}
-use Rattle.step_relation.specs.Inputs.{passed_points}
-use Rattle.step_relation.specs.Moves.{Move, ask_begun, ask_failed, begin_failed, begin_faulted, begin_in_place}
-use Rattle.step_relation.specs.Moves.{begin_init, begin_overrun, begin_replaced, begin_resumed, begin_same}
-use Rattle.step_relation.specs.Moves.{clean_deleted, clean_gone, clean_init, clean_kept, clean_retained, clean_stuck}
-use Rattle.step_relation.specs.Moves.{finish, finish_last, finish_overrun, poll_failed, poll_gone, poll_ready}
-use Rattle.step_relation.specs.Moves.{poll_waits, take_dropped, take_free, take_stolen, takeover_fresh}
-use Rattle.step_relation.specs.Moves.{takeover_overrun}
-use Rattle.step_relation.specs.Steps.{Step, close, command, engines_from, enlist, note, past_engines, restart}
-use Rattle.step_relation.specs.Steps.{stop, turn, unstored}
-use Rattle.step_relation.specs.Takes.{relayed_letter, released_changes}
-use Rattle.step_relation.specs.Asks.{failed_changes}
-use Rattle.step_relation.specs.Turns.{IsWorn, Overflows, Turn, engine, key, letter, row, stack, trav}
-use Rattle.step_relation.specs.Writes.{draw_letters, lock, mark_complete, mark_failed, unlock}
+use Rattle.history_laws.specs.Commands.{Chooses, Lays, Sets, current, first_letters, fresh, laid_changes, none}
+use Rattle.history_laws.specs.Commands.{settles_at_once, stack_set}
+use Rattle.history_laws.specs.Finishes.{given_input, ready_letters}
+use Rattle.history_laws.specs.Given.{Given}
+use Rattle.history_laws.specs.Inputs.{passed_points}
+use Rattle.history_laws.specs.Moves.{Move, ask_begun, ask_failed, begin_failed, begin_faulted, begin_in_place}
+use Rattle.history_laws.specs.Moves.{begin_init, begin_overrun, begin_replaced, begin_resumed, begin_same}
+use Rattle.history_laws.specs.Moves.{clean_deleted, clean_gone, clean_init, clean_kept, clean_retained, clean_stuck}
+use Rattle.history_laws.specs.Moves.{finish, finish_last, finish_overrun, poll_failed, poll_gone, poll_ready}
+use Rattle.history_laws.specs.Moves.{poll_waits, take_dropped, take_free, take_stolen, takeover_fresh}
+use Rattle.history_laws.specs.Moves.{takeover_overrun}
+use Rattle.history_laws.specs.Steps.{Step, close, command, engines_from, enlist, note, past_engines, restart}
+use Rattle.history_laws.specs.Steps.{stop, turn, unstored}
+use Rattle.history_laws.specs.Takes.{relayed_letter, released_changes}
+use Rattle.history_laws.specs.Asks.{failed_changes}
+use Rattle.history_laws.specs.Turns.{IsWorn, Overflows, Turn, engine, key, letter, row, stack, trav}
+use Rattle.history_laws.specs.Writes.{draw_letters, lock, mark_complete, mark_failed, unlock}
 use Rattle.history_laws.proofs.tables.Puts.{all_append, all_contains}
 use Rattle.history_laws.proofs.tables.Rows.{row_cut, row_put, row_self}
 use Rattle.next_laws.specs.Range.{DrawsLast, IsInRange, RaisesLast, StepsStayInRange, Wears, WornLayoutWears}
@@ -48,7 +48,7 @@ use Rattle.next_laws.proofs.Listings.{cons_cases, in_head, in_tail, no_member}
 use Rattle.next_laws.proofs.Turns.{ByMove, Whole, by_move, follows, stops}
 use Rattle.core_state.specs.declared.change.Change.TheVariants as change_to
 use Rattle.next_laws.specs.Range as last
-use Rattle.step_relation.specs.Given as like
+use Rattle.history_laws.specs.Given as like
 
 -- what holds of each change
 abbrev AllSmall : List Change → Type 0

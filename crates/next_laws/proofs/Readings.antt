@@ -13,11 +13,11 @@ use Rattle.mail_table.specs.declared.mail.Stage.{Stage}
 use Rattle.core_state.specs.State.{StateData, graph_at, stack_at}
 use Rattle.core_state.specs.declared.graph.Graph.{Graph}
 use Rattle.core_state.specs.declared.stack.Stack.{Stack}
-use Rattle.step_relation.specs.Freshness.{IsFresh, IsMeant, Names}
-use Rattle.step_relation.specs.Nexts.{IsLowest, TakesOver, Works}
-use Rattle.step_relation.specs.Resends.{AwaitsCleanup, AwaitsUpdate, HasGraph, Resends, cleanup, nobody, update}
-use Rattle.step_relation.specs.Takes.{IsHolder}
-use Rattle.step_relation.specs.Targets.{IsTarget}
+use Rattle.history_laws.specs.Freshness.{IsFresh, IsMeant, Names}
+use Rattle.history_laws.specs.Nexts.{IsLowest, TakesOver, Works}
+use Rattle.history_laws.specs.Resends.{AwaitsCleanup, AwaitsUpdate, HasGraph, Resends, cleanup, nobody, update}
+use Rattle.history_laws.specs.Takes.{IsHolder}
+use Rattle.history_laws.specs.Targets.{IsTarget}
 use Rattle.history_laws.proofs.tables.Rows.{same_some}
 use Rattle.history_laws.proofs.tables.Targets.{target_once}
 use Rattle.next_laws.proofs.Listings.{least_one}

@@ -6,11 +6,11 @@ use Rattle.core_state.specs.declared.change.Change.{Change}
 use Rattle.core_state.specs.declared.entry.Actor.TheVariants.{Engine}
 use Rattle.core_state.specs.declared.entry.Entry.{Entry}
 use Rattle.core_state.specs.declared.stack.Stack.{Stack}
-use Rattle.step_relation.specs.Commands.{Lays, laid_changes, laid_entries}
-use Rattle.step_relation.specs.Given.{Given}
-use Rattle.step_relation.specs.Moves.{Move}
-use Rattle.step_relation.specs.Orders.{plan_back, rollback_sets}
-use Rattle.step_relation.specs.Turns.{FollowsFailure, IsDue, IsPlain, Turn, plain, rolls, stays, unfailed}
+use Rattle.history_laws.specs.Commands.{Lays, laid_changes, laid_entries}
+use Rattle.history_laws.specs.Given.{Given}
+use Rattle.history_laws.specs.Moves.{Move}
+use Rattle.history_laws.specs.Orders.{plan_back, rollback_sets}
+use Rattle.history_laws.specs.Turns.{FollowsFailure, IsDue, IsPlain, Turn, plain, rolls, stays, unfailed}
 use Rattle.history_laws.proofs.tables.Rows.{same_some}
 use Rattle.next_laws.specs.OneTurn.{TurnIsOne}
 use Rattle.next_laws.proofs.Layouts.{layout_one}

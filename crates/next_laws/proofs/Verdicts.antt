@@ -9,8 +9,8 @@ use Rattle.row_table.specs.declared.row.Row.{Row}
 use Rattle.core_state.specs.State.{StateData}
 use Rattle.core_state.specs.declared.stack.Stack.{Stack}
 use Rattle.type_catalog.specs.declared.effect.Effect.{Effect}
-use Rattle.step_relation.specs.Begins.{IsSame, IsSoft, MustGo, changed, given_up, overtaken}
-use Rattle.step_relation.specs.Cleanups.{IsKept, IsStuck}
+use Rattle.history_laws.specs.Begins.{IsSame, IsSoft, MustGo, changed, given_up, overtaken}
+use Rattle.history_laws.specs.Cleanups.{IsKept, IsStuck}
 
 -- what becomes of a row at an update node
 pub data Fate : Type 0 where

@@ -7,7 +7,7 @@ use Rattle.core_state.specs.declared.change.Change.TheVariants.{Drop, DropRow, D
 use Rattle.core_state.specs.declared.change.Change.TheVariants.{PutJob, PutPast, PutPoint, PutRow, PutStack, Release}
 use Rattle.core_state.specs.declared.change.Change.TheVariants.{Send, Stop}
 use Rattle.core_state.specs.declared.numbers.Numbers.{Numbers}
-use Rattle.step_relation.specs.Turns.{IsWorn, Overflows, engine, key, letter, row, stack, trav}
+use Rattle.history_laws.specs.Turns.{IsWorn, Overflows, engine, key, letter, row, stack, trav}
 use Rattle.next_laws.proofs.Listings.{cons_cases, in_head, in_tail, no_member}
 use Rattle.core_state.specs.declared.change.Change.TheVariants as change_to
 

@@ -19,14 +19,14 @@ use Rattle.core_state.specs.State.{StateData}
 use Rattle.core_state.specs.declared.entry.Why.{Why}
 use Rattle.core_state.specs.declared.graph.Graph.{Graph}
 use Rattle.core_state.specs.declared.stack.Stack.{Stack}
-use Rattle.step_relation.specs.Asks.{Asks, Calls, Falls, Polls, Refuses, by_code, by_failure, by_quota, creates}
-use Rattle.step_relation.specs.Asks.{deletes, looks, marked, marks, overrun, polls, updates}
-use Rattle.step_relation.specs.Begins.{Begins}
-use Rattle.step_relation.specs.Cleanups.{Cleans}
-use Rattle.step_relation.specs.Finishes.{Finishes}
-use Rattle.step_relation.specs.Freshness.{plan_of}
-use Rattle.step_relation.specs.Inputs.{IsRequired, input_of, passed}
-use Rattle.step_relation.specs.Takes.{HasNoHolder, IsHolder, IsIdleLetter, Takes, done, held, outdated}
+use Rattle.history_laws.specs.Asks.{Asks, Calls, Falls, Polls, Refuses, by_code, by_failure, by_quota, creates}
+use Rattle.history_laws.specs.Asks.{deletes, looks, marked, marks, overrun, polls, updates}
+use Rattle.history_laws.specs.Begins.{Begins}
+use Rattle.history_laws.specs.Cleanups.{Cleans}
+use Rattle.history_laws.specs.Finishes.{Finishes}
+use Rattle.history_laws.specs.Freshness.{plan_of}
+use Rattle.history_laws.specs.Inputs.{IsRequired, input_of, passed}
+use Rattle.history_laws.specs.Takes.{HasNoHolder, IsHolder, IsIdleLetter, Takes, done, held, outdated}
 use Rattle.history_laws.proofs.tables.Rows.{same_some}
 use Rattle.next_laws.proofs.Listings.{listing_one}
 use Rattle.next_laws.proofs.Readings.{fresh_one, holder_one, lowest_one, meant_one, names_one, resends_one, works_one}

@@ -14,11 +14,11 @@ use Rattle.core_state.specs.declared.change.Change.{Change}
 use Rattle.core_state.specs.declared.change.Change.TheVariants.{DropRow, PutJob, PutRow}
 use Rattle.core_state.specs.declared.entry.Entry.{Entry}
 use Rattle.core_state.specs.declared.stack.Stack.{Stack}
-use Rattle.step_relation.specs.Asks.{Calls, Falls, failed_changes}
-use Rattle.step_relation.specs.Given.{Answer, Given, IsLike, answers, same}
-use Rattle.step_relation.specs.Rows.{failed_row}
-use Rattle.step_relation.specs.Turns.{IsWorn, Overflows, Turn, key}
-use Rattle.step_relation.specs.Writes.{draw_letters}
+use Rattle.history_laws.specs.Asks.{Calls, Falls, failed_changes}
+use Rattle.history_laws.specs.Given.{Answer, Given, IsLike, answers, same}
+use Rattle.history_laws.specs.Rows.{failed_row}
+use Rattle.history_laws.specs.Turns.{IsWorn, Overflows, Turn, key}
+use Rattle.history_laws.specs.Writes.{draw_letters}
 use Rattle.next_laws.specs.Worn.{CallIsNotWorn, QuietIsNotWorn}
 use Rattle.next_laws.proofs.Listings.{cons_cases, in_tail}
 use Rattle.next_laws.proofs.Parts.{AtJob, Kind, Part, begins, goes, kind_one, placed, readies, refuses, waits}

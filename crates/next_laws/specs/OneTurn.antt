@@ -4,9 +4,9 @@ use Rattle.heat_plan.specs.declared.item.Item.{Item}
 use Rattle.core_state.specs.State.{StateData}
 use Rattle.core_state.specs.declared.change.Change.{Change}
 use Rattle.core_state.specs.declared.entry.Entry.{Entry}
-use Rattle.step_relation.specs.Commands.{Lays, Sets, laid_changes, laid_entries}
-use Rattle.step_relation.specs.Given.{Given}
-use Rattle.step_relation.specs.Turns.{Turn}
+use Rattle.history_laws.specs.Commands.{Lays, Sets, laid_changes, laid_entries}
+use Rattle.history_laws.specs.Given.{Given}
+use Rattle.history_laws.specs.Turns.{Turn}
 
 -- an engine that is given the same makes the same turn
 abbrev pub TurnIsOne : Type 0

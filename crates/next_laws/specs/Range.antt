@@ -9,20 +9,12 @@ use Rattle.core_state.specs.declared.change.Change.{Change}
 use Rattle.core_state.specs.declared.change.Change.TheVariants.{PutRow}
 use Rattle.core_state.specs.declared.entry.Entry.{Entry}
 use Rattle.core_state.specs.declared.numbers.Numbers.{Numbers}
-use Rattle.step_relation.specs.Commands.{Lays, Sets, laid_changes}
-use Rattle.step_relation.specs.Given.{Given}
-use Rattle.step_relation.specs.Steps.{Step}
-use Rattle.step_relation.specs.Turns.{IsWorn, Turn}
+use Rattle.history_laws.specs.Commands.{Lays, Sets, laid_changes}
+use Rattle.history_laws.specs.Given.{Given}
+use Rattle.history_laws.specs.Steps.{Step}
+use Rattle.history_laws.specs.Turns.{IsWorn, Turn}
+pub use Rattle.history_laws.specs.Images.{IsInRange}
 use Rattle.core_state.specs.declared.change.Change.TheVariants as change_to
-
--- each next number is at most 2^62, and each row's key is below it
-pub record IsInRange (s : StateData) : Type 0 where
-  pub stack : s.next.stack ≤ 2 ^ 62
-  pub trav : s.next.trav ≤ 2 ^ 62
-  pub row : s.next.row ≤ 2 ^ 62
-  pub engine : s.next.engine ≤ 2 ^ 62
-  pub letter : s.next.letter ≤ 2 ^ 62
-  pub keys : (n : ℕ) (r : Row) → row_at s.rows n ≡ Some r → r.key < 2 ^ 62
 
 -- a number is drawn at 2^62: a next one goes from at most that past it
 pub data DrawsLast (s : StateData) (next : Numbers) : Type 0 where

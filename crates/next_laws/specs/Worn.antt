@@ -4,8 +4,8 @@ use Rattle.heat_plan.specs.declared.calls.Answered.{Answered}
 use Rattle.core_state.specs.State.{StateData}
 use Rattle.core_state.specs.declared.change.Change.{Change}
 use Rattle.core_state.specs.declared.entry.Entry.{Entry}
-use Rattle.step_relation.specs.Given.{Answer, Given}
-use Rattle.step_relation.specs.Turns.{IsWorn, Turn, WearsOut}
+use Rattle.history_laws.specs.Given.{Answer, Given}
+use Rattle.history_laws.specs.Turns.{IsWorn, Turn, WearsOut}
 use Rattle.heat_plan.specs.declared.calls.Answered.TheVariants as answer
 
 -- it is given no answer, and its own changes aren't worn

@@ -1,16 +1,21 @@
-//! Runs of the top call as the program makes it, over clouds, sources and sinks in memory: what no script on
-//! standard input can say. There are tests alone here, of `converge_call`; nothing stands on this crate.
+//! Runs of the top call as the program makes it, over sources and sinks in memory; the words that the program is
+//! called with; and the text of histories that no script leads to. There are tests alone here, of `converge_call`,
+//! `report` and `headline_reader`; nothing stands on this crate.
 #![tactic(auto)]
 
 #[cfg(test)]
-mod clouds;
-#[cfg(test)]
 mod fixtures;
 #[cfg(test)]
-mod pairs;
+mod histories;
+#[cfg(test)]
+mod outputs;
+#[cfg(test)]
+mod parts;
 #[cfg(test)]
 mod readings;
 #[cfg(test)]
-mod rollbacks;
+mod says;
 #[cfg(test)]
 mod streams;
+#[cfg(test)]
+mod words;

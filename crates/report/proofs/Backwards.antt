@@ -3,8 +3,8 @@ use Rattle.std.proofs.Common.{◌≡◌, ◌∙◌, ℕ, ◌+◌, ◌≤◌, Lis
 use Rattle.std.specs.Ordering.{nat_cmp}
 use Rattle.std.specs.Cmp.Lexicographic.{slice_cmp}
 use Rattle.std.proofs.lemmas.List.{length_push}
-use Rattle.sorted_list.specs.Lists.{restored}
-use Rattle.sorted_list.specs.Rooms.{Roomy}
+use Rattle.keyed_table.specs.Lists.{restored}
+use Rattle.keyed_table.specs.SortedRooms.{Roomy}
 use Rattle.report.specs.Seen.{SeenData, row_key, stack_key, with_rows, with_stacks}
 use Rattle.report.specs.Undone.{undone, unwound, CanUnwind, HasRoom}
 use Rattle.report.specs.declared.brief.SeenRow.{SeenRow}

@@ -17,7 +17,7 @@ use Rattle.core_state.specs.declared.entry.ShowWhat.TheVariants as show
 use Rattle.core_state.specs.declared.entry.What.{What}
 use Rattle.core_state.specs.declared.entry.What.TheVariants as what
 use Rattle.report.specs.Words.{words, line, stand_word, why_text, path_words}
-use Rattle.sorted_list.specs.Lists.{put}
+use Rattle.keyed_table.specs.Lists.{put}
 use Rattle.report.specs.Seen.{SeenData, stack_key, stack_at, with_stacks, after_writes}
 use Rattle.report.specs.Rows.{writes_text, shown_lines}
 use Rattle.report.specs.Stacks.{begun, plan_seen, after_mark}

@@ -15,12 +15,12 @@ use Rattle.heat_plan.specs.declared.facts.KnownFacts.{KnownFacts}
 use Rattle.heat_plan.specs.declared.phase.Act.{Act}
 use Rattle.heat_plan.specs.declared.phase.Act.TheVariants.{Init, Create, Update, Delete, Rollback}
 use Rattle.heat_plan.specs.declared.plan.Output.{Output}
-use Rattle.hot_eval.specs.Codes.{code_text}
-use Rattle.hot_eval.specs.Outcomes.{Outcome, Gives, Faults}
-use Rattle.hot_eval.specs.Resolutions.{eval}
-use Rattle.hot_eval.specs.Scenes.{SceneData, scene_of}
-use Rattle.hot_eval.specs.declared.code.FaultCode.{FaultCode}
-use Rattle.sorted_list.specs.Lists.{put}
+use Rattle.eval_words.specs.Codes.{code_text}
+use Rattle.eval_words.specs.Outcomes.{Outcome, Gives, Faults}
+use Rattle.eval_words.specs.Resolutions.{eval}
+use Rattle.eval_words.specs.Scenes.{SceneData, scene_of}
+use Rattle.eval_words.specs.declared.code.FaultCode.{FaultCode}
+use Rattle.keyed_table.specs.Lists.{put}
 use Rattle.report.specs.Words.{line}
 use Rattle.report.specs.declared.brief.SeenRow.{SeenRow}
 use Rattle.report.specs.declared.output_line.OutputLine.{OutputLine}

@@ -7,7 +7,7 @@ use Rattle.core_state.specs.declared.stack.Stack.{Stack}
 use Rattle.core_state.specs.declared.entry.RowWrite.{RowWrite}
 use Rattle.core_state.specs.declared.entry.RowWrite.TheVariants.{Set, Purge}
 use Rattle.core_state.specs.State.{StateData}
-use Rattle.sorted_list.specs.Lists.{at, put, cut}
+use Rattle.keyed_table.specs.Lists.{at, put, cut}
 use Rattle.report.specs.declared.brief.SeenRow.{SeenRow}
 use Rattle.report.specs.declared.brief.SeenStack.{SeenStack}
 

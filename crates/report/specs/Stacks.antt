@@ -8,7 +8,7 @@ use Rattle.heat_plan.specs.declared.phase.Act.TheVariants.{Init, Create, Update,
 use Rattle.heat_plan.specs.declared.phase.Status.{Status}
 use Rattle.heat_plan.specs.declared.phase.Status.TheVariants.{Complete, InProgress, Failed}
 use Rattle.core_state.specs.declared.entry.Cause.{Cause}
-use Rattle.sorted_list.specs.Lists.{put, cut}
+use Rattle.keyed_table.specs.Lists.{put, cut}
 use Rattle.report.specs.Seen.{stack_key, stack_at}
 use Rattle.report.specs.declared.brief.SeenStack.{SeenStack}
 

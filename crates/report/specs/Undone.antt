@@ -2,8 +2,8 @@
 use Rattle.std.specs.Prelude.{◌≤◌, ◌+◌, List, [], ◌∷◌, length}
 use Rattle.std.specs.Ordering.{nat_cmp}
 use Rattle.std.specs.Cmp.Lexicographic.{slice_cmp}
-use Rattle.sorted_list.specs.Lists.{restored}
-use Rattle.sorted_list.specs.Rooms.{Roomy}
+use Rattle.keyed_table.specs.Lists.{restored}
+use Rattle.keyed_table.specs.SortedRooms.{Roomy}
 use Rattle.report.specs.Seen.{SeenData, row_key, stack_key, with_rows, with_stacks}
 use Rattle.report.specs.declared.log.Was.{Was}
 use Rattle.report.specs.declared.log.Was.TheVariants.{Row, Stack}

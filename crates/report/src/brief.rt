@@ -5,7 +5,7 @@ ghost use Rattle.report.specs.Seen.{row_seen, stack_seen};
 use core_state::{Row, SharedPlan, Stack};
 use heat_plan::{Act, Facts, ResName, RowNo, StackName, Status, TravNo};
 use heat_value::{Text, TryCopy, copy_option};
-use sorted_list::Ordered;
+use keyed_table::Ordered;
 use std::alloc::AllocError;
 use std::cmp::Ordering;
 

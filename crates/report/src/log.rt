@@ -24,7 +24,7 @@ impl Model for Log {
     ghost use Rattle.std.specs.Coded.{codes};
     ghost use Rattle.heat_value.specs.Code.{data_code, members_code};
     ghost use Rattle.std.specs.Vec.{vec_len, vec_capacity};
-    ghost use Rattle.sorted_list.specs.Rooms.{Roomy};
+    ghost use Rattle.keyed_table.specs.SortedRooms.{Roomy};
     ghost use Rattle.report.specs.declared.log.Was.{Was};
 
     ghost Value = { Roomy Was };

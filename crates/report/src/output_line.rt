@@ -3,14 +3,14 @@ ghost use Rattle.std.specs.Prelude.{◌≡◌, IfOk, string_bytes};
 ghost use Rattle.heat_value.specs.Data.{Data};
 ghost use Rattle.heat_value.specs.Meaning.{data_of};
 ghost use Rattle.hot_eval.specs.Answers.{IsMadeOf};
-ghost use Rattle.hot_eval.specs.Outcomes.{Outcome};
-ghost use Rattle.hot_eval.specs.Scenes.{scene_of};
+ghost use Rattle.eval_words.specs.Outcomes.{Outcome};
+ghost use Rattle.eval_words.specs.Scenes.{scene_of};
 ghost use Rattle.report.specs.Outputs.{output_line, outcome_line, output_path, value_line, fault_line};
 
 use heat_plan::{KnownFacts, Output, Plan};
 use heat_value::{Path, Step, Text, TryCopy, Value};
 use hot_eval::{EvalFault, FaultCode, eval};
-use sorted_list::Ordered;
+use keyed_table::Ordered;
 use std::alloc::{AllocError, Global};
 use std::cmp::Ordering;
 

@@ -1,6 +1,6 @@
 //! The lines of a stack's outputs, by name, with the facts of its current rows.
 ghost use Rattle.std.specs.Prelude.{◌≡◌, ◌++◌, [], IfOk, OnOk, Option, Some, option_map, string_bytes};
-ghost use Rattle.hot_eval.specs.Scenes.{scene_of};
+ghost use Rattle.eval_words.specs.Scenes.{scene_of};
 ghost use Rattle.report.specs.Stacks.{plan_seen};
 ghost use Rattle.report.specs.Outputs.{is_current as the_is_current, named, known_in as the_known_in};
 ghost use Rattle.report.specs.Outputs.{output_lines as the_output_lines, joined as the_joined};
@@ -10,7 +10,7 @@ use crate::brief::{SeenRow, SeenStack};
 use crate::output_line::OutputLine;
 use heat_plan::{Act, KnownFacts, Plan, StackName};
 use heat_value::{Seq, TryCopy};
-use sorted_list::SortedList;
+use keyed_table::SortedList;
 use std::alloc::{AllocError, Global};
 
 /// A line for each output of a stack's plan; none where the stack isn't seen or has no plan.

@@ -2,7 +2,7 @@
 ghost use Rattle.std.specs.Prelude.{◌≡◌, ◌+◌, ◌≤◌, [], OnOk, IfOk, length, option_map};
 ghost use Rattle.std.specs.Ordering.{nat_cmp};
 ghost use Rattle.std.specs.Cmp.Lexicographic.{slice_cmp};
-ghost use Rattle.sorted_list.specs.Lists.{put, cut, restored};
+ghost use Rattle.keyed_table.specs.Lists.{put, cut, restored};
 ghost use Rattle.report.specs.Seen.{row_key, stack_key, row_at, stack_at, rows_seen, stacks_seen, seen_of, with_rows};
 ghost use Rattle.report.specs.Seen.{with_stacks};
 ghost use Rattle.report.specs.Undone.{shown, undone, unwound, CanUnwind, HasRoom};
@@ -11,7 +11,7 @@ use crate::brief::{SeenRow, SeenStack};
 use crate::log::{Log, Was};
 use core_state::{Row, Stack, State};
 use heat_plan::{RowNo, StackName};
-use sorted_list::SortedList;
+use keyed_table::SortedList;
 use std::alloc::{AllocError, Global};
 
 /// All that is seen, rows by their numbers and stacks by their names.

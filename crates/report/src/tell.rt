@@ -2,7 +2,7 @@
 ghost use Rattle.std.specs.Prelude.{◌≡◌, ◌++◌, IfOk, OnOk, string_bytes};
 ghost use Rattle.std.specs.Ordering.{nat_cmp};
 ghost use Rattle.std.specs.Cmp.Lexicographic.{slice_cmp};
-ghost use Rattle.sorted_list.specs.Lists.{put};
+ghost use Rattle.keyed_table.specs.Lists.{put};
 ghost use Rattle.report.specs.Seen.{after_write, after_writes, stack_key, with_stacks};
 ghost use Rattle.report.specs.Rows.{write_text, writes_text};
 ghost use Rattle.report.specs.Stacks.{after_mark};

@@ -6,15 +6,15 @@ use Rattle.heat_disk.specs.Images.{overwritten, Torn, StepsAt, Only}
 use Rattle.heat_disk.specs.Shown.{ShownDisk, IsLawful}
 use Rattle.heat_disk.specs.Calls.{Writes, Syncs}
 use Rattle.heat_disk.proofs.Parts.{part-changed, beside-changed}
-use Rattle.journal_form.specs.Forms.{body}
-use Rattle.journal_form.specs.Images.{ImageData}
+use Rattle.row_journal.specs.Forms.{body}
+use Rattle.row_journal.specs.Images.{ImageData}
 use Rattle.row_journal.specs.Ends.{end_of, with_next, IsSealed, LeavesSealed, LeavesEither}
 use Rattle.row_journal.specs.declared.place.Place.{Place}
 use Rattle.row_journal.specs.Places.{place_of}
 use Rattle.row_journal.specs.Ready.{IsReady, HasRecord}
 use Rattle.row_journal.specs.Unsynced.{IsLastUnsynced, gate_unsynced}
 use Rattle.row_journal.proofs.Cuts.{torn_at, written_at, no_shorter}
-use Rattle.row_journal.proofs.Records.{on_ok, moved}
+use Rattle.row_journal.proofs.Recordings.{on_ok, moved}
 use Rattle.row_journal.proofs.Torn.{IsBehind, next_behind, leaves_either, image_next, closed_next, still_marked}
 use Rattle.row_journal.proofs.Runs.{SoFar, begins, next, synced, durable_beside, written_beside, synced_durable}
 

@@ -6,11 +6,11 @@ use Rattle.std.proofs.lemmas.Bool.{cases_lt}
 use Rattle.heat_disk.specs.declared.half.Half.{Half}
 use Rattle.heat_disk.specs.declared.half.Half.TheVariants.{First, Second}
 use Rattle.heat_disk.specs.Halves.{Pair, part, beside}
-use Rattle.journal_form.specs.declared.headers.Header.{Header}
-use Rattle.journal_form.specs.declared.version.Version.{Version}
-use Rattle.journal_form.specs.declared.version.Version.TheVariants.{One, Two}
-use Rattle.journal_form.specs.Forms.{number, journal_mark, snapshot_mark, body, record_of, spelled, IsEnd, IsSized, AreRecords}
-use Rattle.journal_form.specs.Images.{ImageData, IsBorn, HasHeader, IsPlain, GivesPlain, GivesBorn, Gives, live, IsImage}
+use Rattle.row_journal.specs.declared.headers.Header.{Header}
+use Rattle.row_journal.specs.declared.version.Version.{Version}
+use Rattle.row_journal.specs.declared.version.Version.TheVariants.{One, Two}
+use Rattle.row_journal.specs.Forms.{number, journal_mark, snapshot_mark, body, record_of, spelled, IsEnd, IsSized, AreRecords}
+use Rattle.row_journal.specs.Images.{ImageData, IsBorn, HasHeader, IsPlain, GivesPlain, GivesBorn, Gives, live, IsImage}
 use Rattle.row_journal.specs.Ends.{end_of}
 use Rattle.row_journal.proofs.Cuts.{front_more}
 

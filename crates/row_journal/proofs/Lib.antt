@@ -2,7 +2,7 @@ pub mod Cuts
 pub mod Laid
 pub mod Torn
 pub mod Runs
-pub mod Records
+pub mod Recordings
 pub mod Gates
 pub mod Next
 pub mod Settled
@@ -15,3 +15,5 @@ pub mod Staged
 pub mod Sides
 pub mod Turning
 pub mod Lives
+pub mod Spelled
+pub mod Found

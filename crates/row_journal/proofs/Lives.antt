@@ -3,8 +3,8 @@ use Rattle.std.proofs.Common.{◌≡◌, ◌⊎◌, inl, inr, ◌≤◌, ℕ, Li
 use Rattle.heat_disk.specs.Halves.{Pair}
 use Rattle.heat_disk.specs.Shown.{ShownDisk, IsLawful, IsDurable}
 use Rattle.heat_disk.specs.Calls.{ReadsAlike}
-use Rattle.journal_form.specs.Images.{ImageData}
-use Rattle.journal_form.proofs.Found.{image_same}
+use Rattle.row_journal.specs.Images.{ImageData}
+use Rattle.row_journal.proofs.Found.{image_same}
 use Rattle.row_journal.specs.Ends.{behind, with_next, Leaves, IsSealed, LeavesSealed, LeavesAjar, LeavesEither}
 use Rattle.row_journal.specs.Mends.{Mended}
 use Rattle.row_journal.specs.Openings.{Survives}

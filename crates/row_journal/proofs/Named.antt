@@ -6,10 +6,10 @@ use Rattle.heat_disk.specs.Halves.{Pair, part}
 use Rattle.heat_disk.specs.Images.{Torn, StepsAt}
 use Rattle.heat_disk.specs.Memory.{no_room}
 use Rattle.heat_disk.specs.Shown.{ShownDisk, IsLawful}
-use Rattle.journal_form.specs.declared.version.Version.TheVariants.{Two}
-use Rattle.journal_form.specs.Forms.{journal_mark, body, IsSized}
-use Rattle.journal_form.specs.Images.{ImageData, IsImage}
-use Rattle.journal_form.proofs.Found.{image_same}
+use Rattle.row_journal.specs.declared.version.Version.TheVariants.{Two}
+use Rattle.row_journal.specs.Forms.{journal_mark, body, IsSized}
+use Rattle.row_journal.specs.Images.{ImageData, IsImage}
+use Rattle.row_journal.proofs.Found.{image_same}
 use Rattle.row_journal.specs.Ends.{end_of, behind, with_next, HasNext, IsTidy, Leaves, IsSealed, LeavesSealed, LeavesAjar}
 use Rattle.row_journal.specs.Mends.{other, Mended, Recovering}
 use Rattle.row_journal.specs.Openings.{Survives, SurvivesNamed}
@@ -17,7 +17,7 @@ use Rattle.row_journal.specs.Ready.{IsReady}
 use Rattle.row_journal.specs.Snapshots.{fresh_snapshot, IsStaged, IsStagedSomehow}
 use Rattle.row_journal.specs.Unsynced.{IsUnsynced, IsAtRest, IsLastUnsynced, OpeningLeaves, all_synced, record_unsynced, gate_unsynced, start_unsynced, filling_unsynced, snapshot_unsynced, as_read, without_last, with_behind, turned, turned_back}
 use Rattle.row_journal.proofs.Cuts.{torn_at}
-use Rattle.row_journal.proofs.Records.{record_sealed}
+use Rattle.row_journal.proofs.Recordings.{record_sealed}
 use Rattle.row_journal.proofs.Restart.{short_leaves}
 use Rattle.row_journal.proofs.Settled.{not_short}
 use Rattle.row_journal.proofs.Shut.{unborn_shut}

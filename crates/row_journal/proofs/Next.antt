@@ -1,11 +1,11 @@
 -- The place behind one record more.
 use Rattle.std.proofs.Common.{◌≡◌, ℕ, ◌+◌, List, [], ◌∷◌, ◌++◌, length, take, refl, sym, ◌∙◌, ap, subst, arith, length-append, if◌then◌else◌, ◌==◌, Bool}
 use Rattle.std.proofs.lemmas.Bool.{ne_eqb}
-use Rattle.journal_form.specs.declared.version.Version.{Version}
-use Rattle.journal_form.specs.declared.version.Version.TheVariants.{Two}
-use Rattle.journal_form.specs.Forms.{body, record_of, spelled}
-use Rattle.journal_form.specs.Images.{ImageData}
-use Rattle.journal_form.proofs.Spelled.{spelled-push}
+use Rattle.row_journal.specs.declared.version.Version.{Version}
+use Rattle.row_journal.specs.declared.version.Version.TheVariants.{Two}
+use Rattle.row_journal.specs.Forms.{body, record_of, spelled}
+use Rattle.row_journal.specs.Images.{ImageData}
+use Rattle.row_journal.proofs.Spelled.{spelled-push}
 use Rattle.row_journal.specs.declared.place.Place.{Place}
 use Rattle.row_journal.specs.Ends.{end_of, with_next}
 use Rattle.row_journal.specs.Mends.{other}

@@ -8,10 +8,10 @@ use Rattle.heat_disk.specs.Halves.{Pair, part, changed}
 use Rattle.heat_disk.specs.Images.{overwritten, Only}
 use Rattle.heat_disk.specs.Shown.{ShownDisk, IsLawful}
 use Rattle.heat_disk.specs.Calls.{Writes, Cuts, Syncs}
-use Rattle.journal_form.specs.declared.headers.Header.{Header}
-use Rattle.journal_form.specs.declared.version.Version.TheVariants.{Two}
-use Rattle.journal_form.specs.Forms.{journal_mark, spelled}
-use Rattle.journal_form.specs.Images.{ImageData, HasHeader, IsPlain, Gives, live, IsImage}
+use Rattle.row_journal.specs.declared.headers.Header.{Header}
+use Rattle.row_journal.specs.declared.version.Version.TheVariants.{Two}
+use Rattle.row_journal.specs.Forms.{journal_mark, spelled}
+use Rattle.row_journal.specs.Images.{ImageData, HasHeader, IsPlain, Gives, live, IsImage}
 use Rattle.row_journal.specs.declared.looking.Ending.TheVariants.{Short}
 use Rattle.row_journal.specs.declared.place.Place.{Place}
 use Rattle.row_journal.specs.Ends.{end_of, IsSealed, LeavesSealed}
@@ -20,7 +20,7 @@ use Rattle.row_journal.specs.Places.{place_of}
 use Rattle.row_journal.specs.Ready.{IsReady}
 use Rattle.row_journal.specs.Unsynced.{IsLastUnsynced, start_unsynced}
 use Rattle.row_journal.proofs.Laid.{gives_half}
-use Rattle.row_journal.proofs.Records.{on_ok}
+use Rattle.row_journal.proofs.Recordings.{on_ok}
 use Rattle.row_journal.proofs.Runs.{SoFar, begins, next, synced, pair_same}
 
 -- what an empty journal is

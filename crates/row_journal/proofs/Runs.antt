@@ -6,8 +6,8 @@ use Rattle.heat_disk.specs.Halves.{Pair, part, beside, changed}
 use Rattle.heat_disk.specs.Images.{overwritten, Only}
 use Rattle.heat_disk.specs.Shown.{ShownDisk, Elapses, SameContent, IsLawful, IsDurable, LeavesOnly}
 use Rattle.heat_disk.specs.Calls.{ReadsAlike, Writes, Syncs}
-use Rattle.journal_form.specs.Forms.{journal_mark}
-use Rattle.journal_form.specs.Images.{ImageData, IsImage}
+use Rattle.row_journal.specs.Forms.{journal_mark}
+use Rattle.row_journal.specs.Images.{ImageData, IsImage}
 use Rattle.row_journal.specs.Ends.{behind, IsClosed}
 use Rattle.row_journal.specs.Ready.{IsReady}
 use Rattle.heat_disk.proofs.Moments.{started, goes_on}

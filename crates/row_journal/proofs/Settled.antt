@@ -9,9 +9,9 @@ use Rattle.heat_disk.specs.Images.{overwritten, Torn, StepsAt, Only}
 use Rattle.heat_disk.specs.Shown.{ShownDisk, IsLawful}
 use Rattle.heat_disk.specs.Calls.{Writes, Syncs}
 use Rattle.heat_disk.proofs.Parts.{part-changed, beside-changed}
-use Rattle.journal_form.specs.declared.headers.Header.{Header}
-use Rattle.journal_form.specs.Forms.{journal_mark, body, spelled}
-use Rattle.journal_form.specs.Images.{ImageData, IsPlain, Gives, live, IsImage}
+use Rattle.row_journal.specs.declared.headers.Header.{Header}
+use Rattle.row_journal.specs.Forms.{journal_mark, body, spelled}
+use Rattle.row_journal.specs.Images.{ImageData, IsPlain, Gives, live, IsImage}
 use Rattle.row_journal.specs.declared.place.Place.{Place}
 use Rattle.row_journal.specs.Places.{place_of}
 use Rattle.row_journal.specs.declared.looking.Ending.TheVariants.{Open}
@@ -21,7 +21,7 @@ use Rattle.row_journal.specs.Ready.{IsReady}
 use Rattle.row_journal.specs.Unsynced.{IsLastUnsynced, gate_unsynced}
 use Rattle.row_journal.proofs.Cuts.{torn_at, no_shorter}
 use Rattle.row_journal.proofs.Laid.{gives_half, laid}
-use Rattle.row_journal.proofs.Records.{moved, on_ok}
+use Rattle.row_journal.proofs.Recordings.{moved, on_ok}
 use Rattle.row_journal.proofs.Torn.{IsBehind, shut, tail_is, still_marked, leaves_either}
 use Rattle.row_journal.proofs.Runs.{SoFar, begins, next, synced, durable_beside, written_beside, synced_durable}
 

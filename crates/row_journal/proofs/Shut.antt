@@ -8,8 +8,8 @@ use Rattle.heat_disk.specs.Halves.{Pair, part, beside}
 use Rattle.heat_disk.specs.Images.{Torn}
 use Rattle.heat_disk.specs.Shown.{ShownDisk, IsLawful, IsDurable, LeavesOnly}
 use Rattle.heat_disk.specs.Calls.{ReadsAlike, Writes}
-use Rattle.journal_form.specs.declared.headers.Header.{Header}
-use Rattle.journal_form.specs.Images.{HasHeader}
+use Rattle.row_journal.specs.declared.headers.Header.{Header}
+use Rattle.row_journal.specs.Images.{HasHeader}
 use Rattle.row_journal.specs.Snapshots.{IsUnopened}
 use Rattle.row_journal.proofs.Cuts.{torn_at}
 use Rattle.row_journal.proofs.Runs.{SoFar, begins, next}

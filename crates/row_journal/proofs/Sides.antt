@@ -8,10 +8,10 @@ use Rattle.heat_disk.specs.declared.half.Half.{Half}
 use Rattle.heat_disk.specs.declared.half.Half.TheVariants.{First, Second}
 use Rattle.heat_disk.specs.Halves.{Pair, part, beside}
 use Rattle.heat_disk.specs.Shown.{ShownDisk, IsDurable}
-use Rattle.journal_form.specs.declared.headers.Header.{Header}
-use Rattle.journal_form.specs.declared.version.Version.TheVariants.{Two}
-use Rattle.journal_form.specs.Forms.{number, body, spelled, IsSized, AreRecords}
-use Rattle.journal_form.specs.Images.{ImageData, IsBorn, HasHeader, Gives, live, IsImage}
+use Rattle.row_journal.specs.declared.headers.Header.{Header}
+use Rattle.row_journal.specs.declared.version.Version.TheVariants.{Two}
+use Rattle.row_journal.specs.Forms.{number, body, spelled, IsSized, AreRecords}
+use Rattle.row_journal.specs.Images.{ImageData, IsBorn, HasHeader, Gives, live, IsImage}
 use Rattle.row_journal.specs.Ends.{end_of, behind, IsClosed, IsSealed, LeavesSealed}
 use Rattle.row_journal.specs.Mends.{other}
 use Rattle.row_journal.specs.Ready.{IsReady}

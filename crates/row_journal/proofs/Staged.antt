@@ -10,7 +10,7 @@ use Rattle.heat_disk.specs.Calls.{Writes, Syncs}
 use Rattle.heat_disk.proofs.Parts.{part-changed, beside-changed}
 use Rattle.row_journal.specs.Snapshots.{IsUnopened, HasShut, header_of, IsStaged, IsStagedSomehow, HasStaged, HasFilled}
 use Rattle.row_journal.proofs.Cuts.{torn_at, written_behind}
-use Rattle.row_journal.proofs.Records.{on_ok}
+use Rattle.row_journal.proofs.Recordings.{on_ok}
 use Rattle.row_journal.proofs.Runs.{SoFar, begins, next, synced, durable_beside, written_beside, synced_durable}
 use Rattle.row_journal.proofs.Shut.{unborn_shut, unopened_same}
 

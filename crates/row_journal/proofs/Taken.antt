@@ -4,8 +4,8 @@ use Rattle.heat_disk.specs.Calls.{ReadsAlike}
 use Rattle.heat_disk.specs.Halves.{Pair, part}
 use Rattle.heat_disk.specs.Shown.{ShownDisk, SameContent, IsLawful, IsDurable, LeavesOnly}
 use Rattle.heat_disk.proofs.Moments.{stays_same, joined}
-use Rattle.journal_form.specs.Images.{ImageData, IsImage}
-use Rattle.journal_form.proofs.Found.{image_same}
+use Rattle.row_journal.specs.Images.{ImageData, IsImage}
+use Rattle.row_journal.proofs.Found.{image_same}
 use Rattle.row_journal.specs.declared.looking.Found.{Found}
 use Rattle.row_journal.specs.Ends.{end_of}
 use Rattle.row_journal.specs.Found.{EndsBy, IsFound}

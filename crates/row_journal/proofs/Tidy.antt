@@ -3,11 +3,11 @@ use Rattle.std.proofs.Common.{◌≡◌, ◌≢◌, ◌+◌, ◌≤◌, ◌∷�
 use Rattle.std.proofs.lemmas.List.{length-drop}
 use Rattle.heat_disk.specs.declared.half.Half.{Half}
 use Rattle.heat_disk.specs.Halves.{Pair, part}
-use Rattle.journal_form.specs.declared.version.Version.{Version}
-use Rattle.journal_form.specs.declared.version.Version.TheVariants.{One, Two}
-use Rattle.journal_form.specs.Forms.{body}
-use Rattle.journal_form.specs.Images.{ImageData}
-use Rattle.journal_form.proofs.Spelled.{body-same}
+use Rattle.row_journal.specs.declared.version.Version.{Version}
+use Rattle.row_journal.specs.declared.version.Version.TheVariants.{One, Two}
+use Rattle.row_journal.specs.Forms.{body}
+use Rattle.row_journal.specs.Images.{ImageData}
+use Rattle.row_journal.proofs.Spelled.{body-same}
 use Rattle.row_journal.specs.Ends.{end_of, behind, HasNext, IsTidy, Leaves, IsSealed, LeavesSealed, LeavesAjar}
 
 pub sealed_tidy : (image : ImageData) (c : Pair) → LeavesSealed image c → Leaves image c

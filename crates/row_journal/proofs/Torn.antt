@@ -4,9 +4,9 @@ use Rattle.std.proofs.lemmas.List.{take_at, length-take-le}
 use Rattle.std.proofs.lemmas.List.Elements.{All-nil, All-cons, All-append}
 use Rattle.std.proofs.lemmas.Bool.{cases_eq}
 use Rattle.heat_disk.specs.Halves.{Pair, part, beside}
-use Rattle.journal_form.specs.Forms.{journal_mark, body, record_of, spelled, IsSized}
-use Rattle.journal_form.specs.Images.{ImageData, IsImage}
-use Rattle.journal_form.proofs.Spelled.{spelled-push}
+use Rattle.row_journal.specs.Forms.{journal_mark, body, record_of, spelled, IsSized}
+use Rattle.row_journal.specs.Images.{ImageData, IsImage}
+use Rattle.row_journal.proofs.Spelled.{spelled-push}
 use Rattle.row_journal.specs.Ends.{end_of, behind, with_next, IsClosed, IsSealed, LeavesSealed, LeavesEither}
 use Rattle.row_journal.proofs.Cuts.{behind_more}
 use Rattle.row_journal.proofs.Laid.{laid, relaid}

@@ -4,14 +4,14 @@ use Rattle.heat_disk.specs.declared.half.Half.{Half}
 use Rattle.heat_disk.specs.Halves.{Pair, part}
 use Rattle.heat_disk.specs.Shown.{ShownDisk, IsLawful, LeavesOnly}
 use Rattle.heat_disk.proofs.Moments.{joined}
-use Rattle.journal_form.specs.declared.version.Version.TheVariants.{Two}
-use Rattle.journal_form.specs.Forms.{body, IsSized}
-use Rattle.journal_form.specs.Images.{ImageData}
+use Rattle.row_journal.specs.declared.version.Version.TheVariants.{Two}
+use Rattle.row_journal.specs.Forms.{body, IsSized}
+use Rattle.row_journal.specs.Images.{ImageData}
 use Rattle.row_journal.specs.Mends.{other}
 use Rattle.row_journal.specs.Ready.{IsReady}
 use Rattle.row_journal.specs.Snapshots.{IsUnopened, HasShut, header_of, IsStagedSomehow, HasStaged, HasFilled, fresh_snapshot, LeavesSnapshot}
 use Rattle.row_journal.specs.Unsynced.{IsLastUnsynced, filling_unsynced, snapshot_unsynced}
-use Rattle.row_journal.proofs.Records.{rest_of}
+use Rattle.row_journal.proofs.Recordings.{rest_of}
 use Rattle.row_journal.proofs.Shut.{left_now}
 use Rattle.row_journal.proofs.Sides.{unopened_leaves, ready_still, staged_leaves, snapshot_ready}
 

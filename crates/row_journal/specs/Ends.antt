@@ -2,8 +2,8 @@
 use Rattle.std.specs.Prelude.{◌≡◌, ◌+◌, ◌≤◌, ℕ, List, [], ◌∷◌, ◌++◌, length, drop}
 use Rattle.heat_disk.specs.declared.half.Half.TheVariants.{First}
 use Rattle.heat_disk.specs.Halves.{Pair, part}
-use Rattle.journal_form.specs.Forms.{body, spelled, IsSized}
-use Rattle.journal_form.specs.Images.{ImageData, IsImage}
+use Rattle.row_journal.specs.Forms.{body, spelled, IsSized}
+use Rattle.row_journal.specs.Images.{ImageData, IsImage}
 
 -- the place behind its last record
 abbrev pub end_of : ImageData → ℕ

@@ -3,7 +3,7 @@ use Rattle.std.specs.Prelude.{◌≡◌, ◌<◌, ◌≤◌, ℕ, List, length, 
 use Rattle.heat_disk.specs.declared.half.Half.{Half}
 use Rattle.heat_disk.specs.declared.half.Half.TheVariants.{First}
 use Rattle.heat_disk.specs.Halves.{Pair, part}
-use Rattle.journal_form.specs.Images.{ImageData, IsImage}
+use Rattle.row_journal.specs.Images.{ImageData, IsImage}
 use Rattle.row_journal.specs.declared.looking.Ending.{Ending}
 use Rattle.row_journal.specs.declared.looking.Ending.TheVariants.{Short, Closed, Open}
 use Rattle.row_journal.specs.declared.looking.Found.{Found}

@@ -8,3 +8,6 @@ pub mod Snapshots
 pub mod Unsynced
 pub mod Openings
 pub mod Lives
+pub mod Forms
+pub mod Images
+pub mod ShownImages

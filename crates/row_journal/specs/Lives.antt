@@ -3,7 +3,7 @@ use Rattle.std.specs.Prelude.{◌≡◌, ◌⊎◌, ℕ, Bool, true, false, List
 use Rattle.heat_disk.specs.Halves.{Pair}
 use Rattle.heat_disk.specs.Shown.{ShownDisk, SameContent, IsDurable, LeavesOnly}
 use Rattle.heat_disk.specs.Calls.{ReadsAlike}
-use Rattle.journal_form.specs.Images.{ImageData}
+use Rattle.row_journal.specs.Images.{ImageData}
 use Rattle.row_journal.specs.declared.place.Place.{Place}
 use Rattle.row_journal.specs.Ends.{with_next, Leaves, LeavesEither}
 use Rattle.row_journal.specs.Openings.{HasOpened, Survives}

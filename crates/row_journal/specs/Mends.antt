@@ -5,9 +5,9 @@ use Rattle.heat_disk.specs.declared.half.Half.TheVariants.{First, Second}
 use Rattle.heat_disk.specs.Halves.{Pair, part, changed}
 use Rattle.heat_disk.specs.Images.{overwritten}
 use Rattle.heat_disk.specs.Shown.{ShownDisk, IsDurable}
-use Rattle.journal_form.specs.declared.version.Version.TheVariants.{Two}
-use Rattle.journal_form.specs.Forms.{journal_mark}
-use Rattle.journal_form.specs.Images.{ImageData, IsImage}
+use Rattle.row_journal.specs.declared.version.Version.TheVariants.{Two}
+use Rattle.row_journal.specs.Forms.{journal_mark}
+use Rattle.row_journal.specs.Images.{ImageData, IsImage}
 use Rattle.row_journal.specs.declared.looking.Ending.{Ending}
 use Rattle.row_journal.specs.declared.place.Place.{Place}
 use Rattle.row_journal.specs.Ends.{end_of, behind, with_next, IsClosed, HasNext, LeavesSealed, LeavesAjar}

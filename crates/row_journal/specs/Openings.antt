@@ -2,7 +2,7 @@
 use Rattle.std.specs.Prelude.{◌≡◌, ◌≤◌, List, ℕ}
 use Rattle.heat_disk.specs.Calls.{ReadsAlike}
 use Rattle.heat_disk.specs.Shown.{ShownDisk, LeavesOnly}
-use Rattle.journal_form.specs.Images.{ImageData, IsImage}
+use Rattle.row_journal.specs.Images.{ImageData, IsImage}
 use Rattle.row_journal.specs.declared.place.Place.{Place}
 use Rattle.row_journal.specs.Ends.{IsTidy}
 use Rattle.row_journal.specs.Mends.{HasMended, Recovering}

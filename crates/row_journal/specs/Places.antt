@@ -1,9 +1,9 @@
 -- Where the next record goes, as the image says it.
 use Rattle.std.specs.Prelude.{◌≡◌, ◌<◌, ◌≤◌, ◌+◌, ◌*◌, ◌-◌, ◌^◌, ℕ, length, take}
-use Rattle.journal_form.specs.declared.version.Version.{Version}
-use Rattle.journal_form.specs.declared.version.Version.TheVariants.{One, Two}
-use Rattle.journal_form.specs.Forms.{spelled}
-use Rattle.journal_form.specs.Images.{ImageData}
+use Rattle.row_journal.specs.declared.version.Version.{Version}
+use Rattle.row_journal.specs.declared.version.Version.TheVariants.{One, Two}
+use Rattle.row_journal.specs.Forms.{spelled}
+use Rattle.row_journal.specs.Images.{ImageData}
 use Rattle.row_journal.specs.declared.place.Place.{Place}
 use Rattle.row_journal.specs.Ends.{end_of}
 

@@ -3,8 +3,8 @@ use Rattle.std.specs.Prelude.{◌≡◌, ◌<◌, ◌≤◌, ◌+◌, ◌^◌, �
 use Rattle.heat_disk.specs.declared.half.Half.{Half}
 use Rattle.heat_disk.specs.Halves.{part, beside}
 use Rattle.heat_disk.specs.Shown.{ShownDisk, IsLeft, IsAtLeast, IsDurable}
-use Rattle.journal_form.specs.Forms.{journal_mark}
-use Rattle.journal_form.specs.Images.{ImageData, IsImage}
+use Rattle.row_journal.specs.Forms.{journal_mark}
+use Rattle.row_journal.specs.Images.{ImageData, IsImage}
 use Rattle.row_journal.specs.declared.place.Place.{Place}
 use Rattle.row_journal.specs.Ends.{behind, IsClosed, HasNext}
 use Rattle.row_journal.specs.Places.{place_of}

@@ -3,10 +3,10 @@ use Rattle.std.specs.Prelude.{◌≡◌, ◌≢◌, ◌⊎◌, ◌+◌, ◌<◌,
 use Rattle.heat_disk.specs.declared.half.Half.{Half}
 use Rattle.heat_disk.specs.Halves.{Pair, part, beside}
 use Rattle.heat_disk.specs.Shown.{ShownDisk, IsAtLeast, IsDurable}
-use Rattle.journal_form.specs.declared.headers.Header.{Header}
-use Rattle.journal_form.specs.declared.version.Version.TheVariants.{Two}
-use Rattle.journal_form.specs.Forms.{word, snapshot_mark}
-use Rattle.journal_form.specs.Images.{ImageData, HasHeader}
+use Rattle.row_journal.specs.declared.headers.Header.{Header}
+use Rattle.row_journal.specs.declared.version.Version.TheVariants.{Two}
+use Rattle.row_journal.specs.Forms.{word, snapshot_mark}
+use Rattle.row_journal.specs.Images.{ImageData, HasHeader}
 use Rattle.row_journal.specs.declared.place.Place.{Place}
 use Rattle.row_journal.specs.Ends.{LeavesSealed}
 use Rattle.row_journal.specs.Mends.{other}

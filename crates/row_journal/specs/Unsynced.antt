@@ -5,9 +5,9 @@ use Rattle.heat_disk.specs.declared.half.Half.TheVariants.{First}
 use Rattle.heat_disk.specs.Halves.{Pair, part}
 use Rattle.heat_disk.specs.Images.{Torn, StepsAt}
 use Rattle.heat_disk.specs.Shown.{ShownDisk, IsDurable}
-use Rattle.journal_form.specs.declared.version.Version.TheVariants.{Two}
-use Rattle.journal_form.specs.Forms.{journal_mark, body, IsSized}
-use Rattle.journal_form.specs.Images.{ImageData, IsImage}
+use Rattle.row_journal.specs.declared.version.Version.TheVariants.{Two}
+use Rattle.row_journal.specs.Forms.{journal_mark, body, IsSized}
+use Rattle.row_journal.specs.Images.{ImageData, IsImage}
 use Rattle.row_journal.specs.Ends.{end_of, behind, with_next, IsClosed, HasNext, Leaves}
 use Rattle.row_journal.specs.Mends.{other}
 use Rattle.row_journal.specs.Snapshots.{fresh_snapshot, IsUnopened, IsStagedSomehow}

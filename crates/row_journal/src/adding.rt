@@ -4,8 +4,8 @@ ghost use Rattle.std.specs.Prelude.{◌≡◌, ◌+◌, ◌<◌, ◌≤◌, ◌^
 ghost use Rattle.heat_disk.specs.Halves.{part};
 ghost use Rattle.heat_disk.specs.Shown.{IsLeft, IsAtLeast, IsDurable, LeavesOnly};
 ghost use Rattle.heat_disk.specs.Causes.{HasCause};
-ghost use Rattle.journal_form.specs.Forms.{body, IsSized};
-ghost use Rattle.journal_form.specs.Images.{ImageData};
+ghost use Rattle.row_journal.specs.Forms.{body, IsSized};
+ghost use Rattle.row_journal.specs.Images.{ImageData};
 ghost use Rattle.row_journal.specs.Ends.{with_next, LeavesSealed, LeavesEither};
 ghost use Rattle.row_journal.specs.Places.{place_of};
 ghost use Rattle.row_journal.specs.Ready.{IsReady, HasRecord, StandsAt};

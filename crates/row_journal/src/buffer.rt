@@ -1,7 +1,7 @@
 //! The bytes of a record, made in room that was taken before.
 ghost use Rattle.std.specs.Prelude.{◌≡◌, ◌+◌, ◌≤◌, ◌<◌, ◌^◌, ◌++◌, [], ◌∷◌, length, OnOk};
-ghost use Rattle.journal_form.specs.declared.version.Version.TheVariants.{Two};
-ghost use Rattle.journal_form.specs.Forms.{body};
+ghost use Rattle.row_journal.specs.declared.version.Version.TheVariants.{Two};
+ghost use Rattle.row_journal.specs.Forms.{body};
 ghost use Rattle.row_journal.specs.Shown.{BufferData};
 
 use std::alloc::{AllocError, Global};

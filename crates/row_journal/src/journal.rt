@@ -4,8 +4,8 @@ ghost use Rattle.heat_disk.specs.Shown.{SameContent, LeavesOnly};
 ghost use Rattle.heat_disk.specs.Calls.{ReadsAlike};
 ghost use Rattle.heat_disk.specs.Causes.{HasCause};
 ghost use Rattle.heat_value.specs.Counts.{Rose};
-ghost use Rattle.journal_form.specs.declared.version.Version.TheVariants.{Two};
-ghost use Rattle.journal_form.specs.Images.{ImageData, IsImage};
+ghost use Rattle.row_journal.specs.declared.version.Version.TheVariants.{Two};
+ghost use Rattle.row_journal.specs.Images.{ImageData, IsImage};
 ghost use Rattle.row_journal.specs.Mends.{other};
 ghost use Rattle.row_journal.specs.Openings.{HasOpened, Survives, SurvivesNamed, StaysUnsynced, IsForeign, GoesOn};
 ghost use Rattle.row_journal.specs.Shown.{JournalData};
@@ -15,6 +15,7 @@ ghost use Rattle.row_journal.specs.Places.{place_of, digit, IsLong};
 ghost use Rattle.row_journal.specs.Ready.{IsReady, StandsAt, HasReserved, KeepsRoom};
 ghost use Rattle.row_journal.specs.Unsynced.{IsLastUnsynced};
 
+use crate::Version;
 use crate::adding::add_record;
 use crate::buffer::Buffer;
 use crate::fault::ReadFault;
@@ -25,7 +26,6 @@ use crate::reading::find;
 use crate::snapshots::write_snapshot;
 use crate::taking::take_up;
 use heat_disk::{Disk, DiskFailed};
-use journal_form::Version;
 use std::alloc::{AllocError, Global};
 use std::marker::Model;
 

@@ -1,6 +1,6 @@
 //! What holds of a journal through any run of its calls and of crashes.
 ghost use Rattle.std.specs.Prelude.{IsTrue};
-ghost use Rattle.journal_form.specs.Images.{ImageData};
+ghost use Rattle.row_journal.specs.Images.{ImageData};
 ghost use Rattle.row_journal.specs.Lives.{Known, Life, HasSurvived};
 
 use heat_disk::Disk;

@@ -1,15 +1,15 @@
 //! What the bytes of both halves stand for, and how they end.
 ghost use Rattle.std.specs.Prelude.{◌≡◌, ◌<◌, ◌+◌, ◌^◌, IfOk, IfSome, None, length, take};
 ghost use Rattle.heat_disk.specs.Halves.{part};
-ghost use Rattle.journal_form.specs.Images.{ImageData, IsImage};
-ghost use Rattle.journal_form.specs.Shown.{image_of};
-ghost use Rattle.journal_form.specs.Forms.{spelled};
+ghost use Rattle.row_journal.specs.Images.{ImageData, IsImage};
+ghost use Rattle.row_journal.specs.ShownImages.{image_of};
+ghost use Rattle.row_journal.specs.Forms.{spelled};
 ghost use Rattle.row_journal.specs.Places.{place_of};
 ghost use Rattle.row_journal.specs.Found.{IsFound, EndsBy};
 
 use crate::place::Place;
+use crate::{Image, Payload, Version, read_image};
 use heat_disk::Half;
-use journal_form::{Image, Payload, Version, read_image};
 use std::alloc::{AllocError, Global};
 
 /// How the live half ends.

@@ -5,7 +5,7 @@ ghost use Rattle.heat_disk.specs.Causes.{HasCause};
 ghost use Rattle.heat_disk.specs.Calls.{ReadsAlike};
 ghost use Rattle.heat_disk.specs.Halves.{part};
 ghost use Rattle.heat_disk.specs.Shown.{HasRoom, IsLeft, IsAtLeast, IsDurable, LeavesOnly};
-ghost use Rattle.journal_form.specs.Images.{ImageData};
+ghost use Rattle.row_journal.specs.Images.{ImageData};
 ghost use Rattle.row_journal.specs.Ends.{IsTidy};
 ghost use Rattle.row_journal.specs.Mends.{other, IsSettled, SettlesAt, HasMended, Mended};
 ghost use Rattle.row_journal.specs.Places.{place_of};

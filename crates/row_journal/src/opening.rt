@@ -1,9 +1,9 @@
 //! What an opening of a journal answers, and a look at one.
 ghost use Rattle.std.specs.Prelude.{◌≡◌};
 
+use crate::Payload;
 use crate::journal::Journal;
 use heat_disk::Disk;
-use journal_form::Payload;
 
 /// What became of a disk.
 #[derive(Drop)]

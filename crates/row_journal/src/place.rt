@@ -1,14 +1,14 @@
 //! Where the next record goes.
 ghost use Rattle.std.specs.Prelude.{◌≡◌, ◌↔◌, ◌+◌, ◌<◌, ◌-◌, ◌^◌, ◌==◌, if◌then◌else◌, List, ℕ, length, IsTrue};
-ghost use Rattle.journal_form.specs.declared.version.Version.TheVariants.{Two};
-ghost use Rattle.journal_form.specs.Images.{ImageData};
+ghost use Rattle.row_journal.specs.declared.version.Version.TheVariants.{Two};
+ghost use Rattle.row_journal.specs.Images.{ImageData};
 ghost use Rattle.row_journal.specs.Ends.{with_next};
 ghost use Rattle.row_journal.specs.Places.{place_of, IsLong};
 ghost use Rattle.row_journal.specs.Snapshots.{fresh_snapshot};
 
+use crate::Version;
 use crate::mending::other;
 use heat_disk::Half;
-use journal_form::Version;
 
 /// What a journal keeps of its image.
 #[derive(Clone, Copy, Debug, PartialEq, Eq)]

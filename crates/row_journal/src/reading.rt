@@ -3,7 +3,7 @@ ghost use Rattle.std.specs.Prelude.{◌≡◌, ◌≤◌, IsTrue, IfOk, IsErrOf}
 ghost use Rattle.heat_value.specs.Counts.{Rose};
 ghost use Rattle.heat_disk.specs.Calls.{ReadsAlike};
 ghost use Rattle.heat_disk.specs.Halves.{part};
-ghost use Rattle.journal_form.specs.Images.{ImageData, IsImage};
+ghost use Rattle.row_journal.specs.Images.{ImageData, IsImage};
 ghost use Rattle.row_journal.specs.Found.{IsFound};
 
 use crate::fault::ReadFault;

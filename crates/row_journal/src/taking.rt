@@ -5,7 +5,7 @@ ghost use Rattle.heat_value.specs.Counts.{Rose};
 ghost use Rattle.heat_disk.specs.Calls.{ReadsAlike};
 ghost use Rattle.heat_disk.specs.Halves.{part};
 ghost use Rattle.heat_disk.specs.Shown.{HasRoom, IsAtLeast, SameContent};
-ghost use Rattle.journal_form.specs.Images.{ImageData, IsImage};
+ghost use Rattle.row_journal.specs.Images.{ImageData, IsImage};
 ghost use Rattle.row_journal.specs.Mends.{other};
 ghost use Rattle.row_journal.specs.Openings.{HasOpened, Survives, StaysUnsynced};
 

@@ -2,9 +2,9 @@
 ghost use Rattle.std.specs.Prelude.{◌≡◌, ◌↔◌, IsTrue, IfOk};
 
 use heat_plan::{
-    Act, EngineNo, Facts, Kind, Policy, Properties, ResName, RowNo, StackName, Status, TravNo,
+    Act, EngineNo, Equals, Facts, Kind, Policy, Properties, ResName, RowNo, Seq, StackName, Status,
+    TravNo, TryCopy, copy_option,
 };
-use heat_value::{Equals, Seq, TryCopy, copy_option};
 use std::alloc::AllocError;
 
 /// One resource under one number: what was last done to it and how far that is, its properties and

@@ -4,10 +4,10 @@ use heat_plan::{Plan, StackName, StackNo};
 use heat_value::{TryCopy, Value};
 use hot_catalog::Catalog;
 use hot_params::Ids;
-use hot_registry::Registry;
 use script_lines::Body;
 use std::alloc::{AllocError, Global};
 use template_plans::{PlanFault, plan_of};
+use type_catalog::Registry;
 
 // A box, of which `link` and `size` change in place.
 const KINDS: &[u8] = b"{\"Test::Box\":{\"attributes\":[\"addr\",\"link\",\"size\"],\"properties\":{\

@@ -11,12 +11,12 @@ use check_steps::{Prepared, finish, prepare_now, take};
 use core_state::{Job, Made, Row, Stage, State};
 use heat_plan::{Answered, EngineNo, Refusal};
 use heat_value::{Path, Text};
-use hot_registry::Registry;
 use std::alloc::{AllocError, Global};
 use step_ends::{asked, begin_overrun, polled};
 use step_reads::{Task, freshness, next_of, point_of};
 use takeover_steps::takeover;
 use traversal_graph::Node;
+use type_catalog::Registry;
 
 /// The engine's next step, where it has one to which the reply fits.
 pub fn turn(alloc: Global, s: &State, e: EngineNo, reply: Reply) -> Result<Option<Made>, Refusal> {

@@ -1,6 +1,5 @@
 //! What a few changes leave of a state, and forty calls of each table in both of its forms. There are tests
-//! alone here, of `core_state`, `indexed_rows`, `indexed_mail` and `indexed_points`; nothing stands on this
-//! crate.
+//! alone here, of `core_state`, `row_table`, `mail_table` and `sync_points`; nothing stands on this crate.
 #![tactic(auto)]
 
 #[cfg(test)]

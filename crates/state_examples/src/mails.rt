@@ -1,8 +1,7 @@
 //! Forty calls of the mail, in both of its forms: what they answer.
 use crate::parts::{add, engine_no, letter_no, row_no, same, stack_name, trav_no};
 use heat_plan::WORN;
-use indexed_mail::{ListMails, MailAnswer, MailOp, MailTable, Mails, run_mails};
-use mail_table::{Job, Letter, Stage};
+use mail_table::{Job, Letter, ListMails, MailAnswer, MailOp, MailTable, Mails, Stage, run_mails};
 use std::alloc::{AllocError, Global};
 
 // A call, with numbers of letters and engines, and with stacks by their letters. A job is of an engine, at a

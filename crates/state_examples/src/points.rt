@@ -1,9 +1,10 @@
 //! Forty calls of the points of a graph, in both of their forms: what they answer.
 use crate::parts::{add, res_name, row_no, same, stack_name};
 use heat_value::Seq;
-use indexed_points::{ListPoints, PointAnswer, PointOp, Points, SyncPoints, run_points};
 use std::alloc::{AllocError, Global};
-use sync_points::{Input, SharedInput};
+use sync_points::{
+    Input, ListPoints, PointAnswer, PointOp, Points, SharedInput, SyncPoints, run_points,
+};
 
 // A call. An input comes from a node to a node, and has a row; what is set are inputs from these nodes,
 // and whether the node is done.

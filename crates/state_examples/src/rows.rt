@@ -2,8 +2,7 @@
 use crate::parts::{add, engine_no, res_name, row_no, same, stack_name, trav_no};
 use heat_plan::{Act, Policy, Properties, RowNo, Status};
 use heat_value::Seq;
-use indexed_rows::{ListRows, RowAnswer, RowOp, RowTable, Rows, run_rows};
-use row_table::Row;
+use row_table::{ListRows, Row, RowAnswer, RowOp, RowTable, Rows, run_rows};
 use sample_plans::boxes;
 use std::alloc::{AllocError, Global};
 

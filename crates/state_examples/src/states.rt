@@ -1,7 +1,7 @@
 //! What a few changes leave of a state.
 use crate::parts::{engine_no, letter_no, res_name, row_no, stack_name, trav_no};
 use core_state::{
-    Batch, Change, Job, Letter, Next, Numbers, Point, Stack, Stage, State, ready_all,
+    Batch, Change, Job, Letter, Next, Numbers, Point, Ready, Stack, Stage, State, ready_all,
 };
 use heat_plan::{Act, StackName, StackNo, Status};
 use heat_value::Seq;
@@ -182,6 +182,26 @@ fn is_a_point_put(alloc: Global, state: &mut State) -> Result<bool, AllocError> 
     Ok(is_done(state, &stack_name(alloc, b's')?))
 }
 
+// Whether the state equals its copy, until one more letter waits.
+fn is_told_apart(alloc: Global, state: &mut State) -> Result<bool, AllocError> {
+    put_stack(alloc, state, b's', 1)?;
+    let before = state.copy()?;
+    if !state.equals(&before) {
+        return Ok(false);
+    }
+    send(alloc, state, 1)?;
+    Ok(!state.equals(&before))
+}
+
+// Whether the state's one graph, and no past, are told, and a change with its memory tells the change.
+fn are_lists_told(alloc: Global, state: &mut State) -> Result<bool, AllocError> {
+    put_stack(alloc, state, b's', 1)?;
+    put_graph(alloc, state)?;
+    let made = Ready::new(alloc, Change::Enlist(engine_no(1)?))?;
+    let told = matches!(made.change(), Change::Enlist(_));
+    Ok(told && state.graphs().len() == 1 && state.pasts().is_empty())
+}
+
 // What is to hold of a state that holds nothing at first.
 #[derive(Clone, Copy)]
 enum What {
@@ -190,6 +210,8 @@ enum What {
     AJobIsHeld,
     IsOpened,
     APointIsPut,
+    IsToldApart,
+    ListsAreTold,
 }
 
 fn holds_in(alloc: Global, state: &mut State, what: What) -> Result<bool, AllocError> {
@@ -199,6 +221,8 @@ fn holds_in(alloc: Global, state: &mut State, what: What) -> Result<bool, AllocE
         What::AJobIsHeld => is_a_job_held(alloc, state),
         What::IsOpened => is_opened(alloc, state),
         What::APointIsPut => is_a_point_put(alloc, state),
+        What::IsToldApart => is_told_apart(alloc, state),
+        What::ListsAreTold => are_lists_told(alloc, state),
     }
 }
 
@@ -216,6 +240,8 @@ const CASES: &[(&str, What)] = &[
     ("a job is held until it ends", What::AJobIsHeld),
     ("changes are made in order", What::IsOpened),
     ("a point is put into its graph", What::APointIsPut),
+    ("a state equals its copy alone", What::IsToldApart),
+    ("graphs, pasts and a change are told", What::ListsAreTold),
 ];
 
 #[test]

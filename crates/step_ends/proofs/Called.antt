@@ -27,8 +27,8 @@ use Rattle.step_relation.specs.Moves.{ask_begun, poll_gone, poll_ready, poll_wai
 use Rattle.step_relation.specs.Nexts.{Works}
 use Rattle.step_relation.specs.Turns.{IsWorn, plain, unfailed}
 use Rattle.step_relation.specs.Writes.{call_entry}
-use Rattle.step_parts.specs.Turns.{IsTurn, IsTurnRefusal}
-use Rattle.step_parts.specs.Turns.IsTurnRefusal.{memory as turn_memory, worn as turn_worn}
+use Rattle.command_steps.specs.Turns.{IsTurn, IsTurnRefusal}
+use Rattle.command_steps.specs.Turns.IsTurnRefusal.{memory as turn_memory, worn as turn_worn}
 use Rattle.next_laws.proofs.Worn.{call_not_worn}
 use Rattle.history_laws.proofs.tables.Rows.{same_some}
 use Rattle.step_ends.specs.Answers.{AnswersAsk, AnswersPoll, CallLasts, IsAsking, IsBegun, IsCall, IsCallRefusal, IsFailing, IsReason, IsTold, of_code, of_failure, of_quota, waits, readies, goes}

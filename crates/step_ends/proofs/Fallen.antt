@@ -20,7 +20,7 @@ use Rattle.step_relation.specs.Asks.{Falls, failed_changes, failed_entries, mark
 use Rattle.step_relation.specs.Freshness.{IsOverrun}
 use Rattle.step_relation.specs.Rows.{failed_row}
 use Rattle.step_relation.specs.Turns.{IsDue, IsWorn, stays, unfailed}
-use Rattle.step_reads.specs.Work.{IsFreshOf, fresh_of}
+use Rattle.command_steps.specs.Work.{IsFreshOf, fresh_of}
 use Rattle.history_laws.proofs.tables.Rows.{stack-key}
 use Rattle.step_ends.specs.Falls.{IsEnded, IsFallen, OrWorn, plain, rolls}
 use Rattle.step_ends.specs.Falls.OrWorn.{memory as fall_memory, worn as fall_worn}

@@ -21,8 +21,8 @@ use Rattle.step_relation.specs.Rows.{unlocked}
 use Rattle.step_relation.specs.Takes.{Releases, released_changes, released_entries}
 use Rattle.step_relation.specs.Turns.{IsDue, IsWorn, Turn, key, plain, unfailed}
 use Rattle.step_relation.specs.Writes.{draw_letters}
-use Rattle.step_parts.specs.Rooms.{MayRise}
-use Rattle.step_parts.specs.Turns.{IsTurn, IsTurnRefusal, memory as turn_memory, worn as turn_worn}
+use Rattle.command_steps.specs.Rooms.{MayRise}
+use Rattle.command_steps.specs.Turns.{IsTurn, IsTurnRefusal, memory as turn_memory, worn as turn_worn}
 use Rattle.command_steps.specs.Answers.{OrMemory, WearsOutBehind}
 use Rattle.next_laws.proofs.Worn.{quiet_not_worn}
 use Rattle.history_laws.proofs.tables.Puts.{contains_head}

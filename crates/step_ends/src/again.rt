@@ -2,11 +2,10 @@
 ghost use Rattle.std.specs.Prelude.{◌≤◌, ◌^◌, IfErr, IfOk};
 ghost use Rattle.step_ends.specs.Releases.{AreAgain, IsAgainRefusal, IsNextLetter};
 
+use command_steps::{letter_to, one, resent};
 use core_state::{Batch, Letter, State};
 use heat_plan::{LetterNo, Refusal, RowNo, StackName};
 use std::alloc::Global;
-use step_parts::{letter_to, one};
-use step_reads::resent;
 
 /// The next letter's number; none where it is worn out.
 pub fn next_letter(s: &State) -> Option<LetterNo>

@@ -4,16 +4,15 @@ ghost use Rattle.mail_table.specs.declared.mail.Stage.TheVariants.{Asking, Polli
 ghost use Rattle.step_relation.specs.Asks.{Calls};
 ghost use Rattle.step_relation.specs.Begins.{onward_changes, onward_entries};
 ghost use Rattle.step_relation.specs.Given.{Answer};
-ghost use Rattle.step_parts.specs.Turns.{IsTurn, IsTurnRefusal};
+ghost use Rattle.command_steps.specs.Turns.{IsTurn, IsTurnRefusal};
 ghost use Rattle.step_ends.specs.Answers.{AnswersAsk, CallLasts, IsAsking, IsBegun, IsCall, IsCallRefusal, IsFailing};
 
 use crate::calls::{asked_for, reason_of};
 use crate::falling::{Failure, fallen};
+use command_steps::{call_entry, job_at, onward_changes, onward_entries, row_at, with_first};
 use core_state::{Job, Made, Row, Stage, State};
 use heat_plan::{Answered, EngineNo, Refusal};
 use std::alloc::{AllocError, Global};
-use step_parts::{call_entry, onward_changes, onward_entries, with_first};
-use step_reads::{job_at, row_at};
 
 /// What follows from the answer to the engine's ask; refuses `Worn` under every answer alike, so that
 /// it can be told before anybody is asked.

@@ -3,11 +3,11 @@ ghost use Rattle.std.specs.Prelude.{IfOk};
 ghost use Rattle.step_relation.specs.Asks.{Asks, Polls};
 ghost use Rattle.step_ends.specs.Answers.{IsAsking, IsFailing, IsReason};
 
+use command_steps::final_props;
 use core_state::{Row, Why};
 use heat_plan::{Act, Answered, Request};
 use heat_value::TryCopy;
 use std::alloc::AllocError;
-use step_parts::final_props;
 
 /// What is asked for a row, by its act.
 pub fn asked_for(row: &Row) -> Result<Request, AllocError>

@@ -1,15 +1,15 @@
 //! The changes and entries of a failure, but for the rollback that may follow.
 ghost use Rattle.std.specs.Prelude.{◌≡◌, ◌≤◌, ◌+◌, ◌^◌, IfOk, length, option_map};
 ghost use Rattle.step_relation.specs.Asks.{failed_changes, failed_entries};
-ghost use Rattle.step_parts.specs.Rooms.{MayRise};
+ghost use Rattle.command_steps.specs.Rooms.{MayRise};
 
-use core_state::{Actor, Batch, Change, Entry, Letter, Row, RowWrite, Stack, State, Why};
-use heat_plan::EngineNo;
-use std::alloc::{AllocError, Global};
-use step_parts::{
+use command_steps::{
     cause_at, draw_letters, ended_and_sent, failed_mark, failed_row, mail_entry, mark_failed,
     rows_entry, sends, seq_of_one, two, with_last,
 };
+use core_state::{Actor, Batch, Change, Entry, Letter, Row, RowWrite, Stack, State, Why};
+use heat_plan::EngineNo;
+use std::alloc::{AllocError, Global};
 
 /// The row is failed and unlocked, the job ends, the letters are sent, and the stack is marked, if it
 /// is to be.

@@ -7,17 +7,16 @@ ghost use Rattle.row_table.specs.Rows.{row_at};
 ghost use Rattle.core_state.specs.State.{stack_at};
 ghost use Rattle.step_relation.specs.Asks.{failed_changes, failed_entries};
 ghost use Rattle.step_relation.specs.Turns.{IsWorn};
-ghost use Rattle.step_parts.specs.Rooms.{MayRise};
+ghost use Rattle.command_steps.specs.Rooms.{MayRise};
 ghost use Rattle.step_ends.specs.Falls.{IsEnded, IsFallen, OrWorn};
 
 use crate::again::{letters_again, next_letter};
 use crate::failing::{failed_changes, failed_entries};
 use crate::rolling::rolled_behind;
+use command_steps::{freshness, joined, made_within, may_rise, with_first};
 use core_state::{Batch, Entry, Job, Letter, Made, Row, Stack, State, Why};
 use heat_plan::{EngineNo, Refusal, Status};
 use std::alloc::Global;
-use step_parts::{joined, made_within, may_rise, with_first};
-use step_reads::freshness;
 
 /// The call that failed, and why a traversal fails by it.
 #[derive(Debug, Drop)]

@@ -4,14 +4,14 @@ ghost use Rattle.mail_table.specs.declared.mail.Stage.TheVariants.{Ending, Taken
 ghost use Rattle.step_relation.specs.Freshness.{IsOverrun};
 ghost use Rattle.step_relation.specs.Given.{Nothing};
 ghost use Rattle.step_relation.specs.Nexts.{TakesOver, Works};
-ghost use Rattle.step_parts.specs.Turns.{IsTurn, IsTurnRefusal};
+ghost use Rattle.command_steps.specs.Turns.{IsTurn, IsTurnRefusal};
 ghost use Rattle.step_ends.specs.Releases.{AreAgain, IsRelease, IsReleaseRefusal};
 
 use crate::again::{letters_again, next_letter};
+use command_steps::{made_within, may_all_rise, released_changes, released_entries};
 use core_state::{Job, Letter, Made, State};
 use heat_plan::{EngineNo, Refusal};
 use std::alloc::Global;
-use step_parts::{made_within, may_all_rise, released_changes, released_entries};
 
 /// An engine's job that was to begin.
 pub fn begin_overrun(alloc: Global, s: &State, e: EngineNo, job: &Job) -> Result<Made, Refusal>

@@ -6,19 +6,18 @@ ghost use Rattle.step_relation.specs.Begins.{begun_changes, begun_entries};
 ghost use Rattle.step_relation.specs.Cleanups.{purged_changes, purged_entries};
 ghost use Rattle.step_relation.specs.Given.{Answer};
 ghost use Rattle.step_relation.specs.Rows.{ready_row};
-ghost use Rattle.step_parts.specs.Turns.{IsTurn, IsTurnRefusal};
+ghost use Rattle.command_steps.specs.Turns.{IsTurn, IsTurnRefusal};
 ghost use Rattle.step_ends.specs.Answers.{AnswersPoll, CallLasts, IsCall, IsCallRefusal, IsFailing, IsTold};
 
 use crate::calls::{polled_by, reason_of};
 use crate::falling::{Failure, fallen};
+use command_steps::{
+    begun_changes, begun_entries, call_entry, job_at, one, purged_changes, purged_entries,
+    ready_row, row_at, with_last,
+};
 use core_state::{Batch, Change, Entry, Job, Made, Row, Stage, State};
 use heat_plan::{Answered, EngineNo, Facts, Refusal};
 use std::alloc::{AllocError, Global};
-use step_parts::{
-    begun_changes, begun_entries, call_entry, one, purged_changes, purged_entries, ready_row,
-    with_last,
-};
-use step_reads::{job_at, row_at};
 
 /// What follows from the answer to the engine's poll; refuses `Worn` under every answer alike, so that it
 /// can be told before anybody is asked.

@@ -1,39 +1,21 @@
-//! Each line of the steps' tables once: a state, the step that is next in it, and what that changes and
-//! tells; and what reads of a state give. There are tests alone here. A state is made by the steps that lead
-//! to it.
+//! Steps that no script of the program leads to: at numbers and keys that are worn out, and restarts; and
+//! runs whose steps are asked for once more where memory was wanted. There are tests alone here; all other
+//! lines of the steps' tables are scenarios in `examples/`. A state is made by the steps that lead to it.
 #![tactic(auto)]
 
 #[cfg(test)]
-mod answers;
+mod asks;
 #[cfg(test)]
 mod cases;
-#[cfg(test)]
-mod cleanup_nodes;
-#[cfg(test)]
-mod commands;
-#[cfg(test)]
-mod commands_made;
-#[cfg(test)]
-mod ends;
-#[cfg(test)]
-mod entries;
 #[cfg(test)]
 mod halt;
 #[cfg(test)]
 mod lines;
 #[cfg(test)]
-mod parts;
+mod runs;
 #[cfg(test)]
-mod puts;
+mod told;
 #[cfg(test)]
-mod reads;
+mod wear;
 #[cfg(test)]
-mod scripts;
-#[cfg(test)]
-mod stops;
-#[cfg(test)]
-mod takes;
-#[cfg(test)]
-mod update_nodes;
-#[cfg(test)]
-mod worn_keys;
+mod worn;

@@ -4,7 +4,7 @@ use Rattle.std.specs.Prelude.{IfSome, Option, option_map}
 use Rattle.row_table.specs.Chains.{IsCurrent}
 use Rattle.row_table.specs.Rows.{row_at}
 use Rattle.row_table.specs.declared.row.Row.{Row}
-use Rattle.indexed_rows.specs.Found as indexed
+use Rattle.row_table.specs.Found as indexed
 use Rattle.step_relation.specs.Targets.{HasNoCurrent, IsCurrentOf}
 use Rattle.step_reads.proofs.Tables.{row-key, row-self}
 

@@ -5,7 +5,7 @@ use Rattle.heat_plan.specs.Tables.{at}
 use Rattle.mail_table.specs.Mails.{job_key, letter_at}
 use Rattle.mail_table.specs.declared.mail.Job.{Job}
 use Rattle.mail_table.specs.declared.mail.Letter.{Letter}
-use Rattle.indexed_mail.specs.Holders.{IsFirst}
+use Rattle.mail_table.specs.Holders.{IsFirst}
 use Rattle.core_state.specs.State.{StateData}
 use Rattle.step_relation.specs.Nexts.{IsLowest}
 use Rattle.step_reads.specs.Tasks.{HasNoLetter, HasNoneLeft, IsLowestLeft}

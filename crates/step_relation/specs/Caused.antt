@@ -18,7 +18,7 @@ use Rattle.core_state.specs.declared.entry.Entry.{Entry}
 use Rattle.core_state.specs.declared.entry.MailWrite.{MailWrite}
 use Rattle.core_state.specs.declared.entry.RowWrite.{RowWrite}
 use Rattle.core_state.specs.declared.entry.Why.{Why}
-use Rattle.hot_resolve.specs.Resolve.{Fault, resolve}
+use Rattle.eval_words.specs.Resolve.{Fault, resolve}
 use Rattle.step_relation.specs.Freshness.{plan_of}
 use Rattle.step_relation.specs.Writes.{entry_of, mail_entry, rows_entry}
 use Rattle.step_relation.specs.Could.{could_of}

@@ -7,7 +7,7 @@ use Rattle.heat_plan.specs.declared.item.Item.{Item}
 use Rattle.heat_plan.specs.declared.token.Token.{Token}
 use Rattle.provider.specs.Table.{Living}
 use Rattle.core_state.specs.declared.entry.Entry.{Entry}
-use Rattle.hot_resolve.specs.Resolve.{Props, resolve}
+use Rattle.eval_words.specs.Resolve.{Props, resolve}
 use Rattle.step_relation.specs.Could.{could_of}
 use Rattle.step_relation.specs.Opening.{Opening}
 use Rattle.step_relation.specs.Stored.{released}

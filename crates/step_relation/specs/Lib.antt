@@ -30,6 +30,7 @@ pub mod Caused
 pub mod Last
 pub mod Numbered
 pub mod Linked
+pub mod Images
 pub mod GraphFits
 pub mod RowsFit
 pub mod MailFits
@@ -42,3 +43,8 @@ pub mod Sound
 pub mod Groups
 pub mod Headline
 pub mod Laws
+pub use Rattle.core_state.specs.Applies
+pub use Rattle.core_state.specs.Changes
+pub use Rattle.core_state.specs.Graphs
+pub use Rattle.core_state.specs.Reads
+pub use Rattle.core_state.specs.State

@@ -11,7 +11,7 @@ use Rattle.core_state.specs.State.{StateData, past_at, stack_at}
 use Rattle.core_state.specs.declared.graph.Graph.{Graph}
 use Rattle.core_state.specs.declared.past.Past.{Past}
 use Rattle.core_state.specs.declared.stack.Stack.{Stack}
-use Rattle.hot_resolve.specs.Resolve.{Fault}
+use Rattle.eval_words.specs.Resolve.{Fault}
 use Rattle.step_relation.specs.Freshness.{plan_of}
 use Rattle.step_relation.specs.Inputs.{AllDone}
 use Rattle.step_relation.specs.Resends.{IsOpen}

@@ -12,7 +12,7 @@ use Rattle.core_state.specs.Reads.{IsDone, IsReady, item_at}
 use Rattle.core_state.specs.State.{StateData}
 use Rattle.core_state.specs.declared.graph.Graph.{Graph}
 use Rattle.core_state.specs.declared.stack.Stack.{Stack}
-use Rattle.hot_resolve.specs.Resolve.{Props, Resolved, resolve}
+use Rattle.eval_words.specs.Resolve.{Props, Resolved, resolve}
 use Rattle.step_relation.specs.Freshness.{plan_of}
 use Rattle.step_relation.specs.Inputs.{AreKnown}
 use Rattle.step_relation.specs.GraphFits.{Aims, Sweeps}

@@ -8,7 +8,7 @@ use Rattle.core_state.specs.Changes.{applied}
 use Rattle.core_state.specs.State.{StateData}
 use Rattle.core_state.specs.declared.change.Change.{Change}
 use Rattle.core_state.specs.declared.entry.Entry.{Entry}
-use Rattle.hot_resolve.specs.Resolve.{Fault, Props, Resolved, resolve}
+use Rattle.eval_words.specs.Resolve.{Fault, Props, Resolved, resolve}
 use Rattle.type_catalog.specs.Changes.{ChangeOf}
 use Rattle.type_catalog.specs.declared.effect.Effect.{Effect}
 use Rattle.step_relation.specs.Begins.{Begins}

@@ -1,8 +1,7 @@
 //! What the nodes of a graph were given by those before them.
 
 use crate::SharedInput;
-use heat_plan::{Facts, ResName, RowNo, StackName};
-use heat_value::{Equals, Seq, TryCopy, copy_option};
+use heat_plan::{Equals, Facts, ResName, RowNo, Seq, StackName, TryCopy, copy_option};
 use std::alloc::AllocError;
 
 /// What the node at the place `from` gave: the name and the facts are those of an update node.

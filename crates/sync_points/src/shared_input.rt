@@ -2,7 +2,7 @@
 ghost use Rattle.std.specs.Prelude.{◌≡◌, IfOk};
 
 use crate::Input;
-use heat_value::{Equals, TryCopy};
+use heat_plan::{Equals, TryCopy};
 use std::alloc::{AllocError, Global};
 use std::marker::Model;
 use std::sync::Arc;
@@ -16,7 +16,7 @@ pub struct SharedInput {
 
 impl Model for SharedInput {
     ghost use Rattle.std.specs.Coded.{codes};
-    ghost use Rattle.heat_value.specs.Code.{data_code, members_code};
+    ghost use Rattle.heat_plan.specs.Code.{data_code, members_code};
     ghost use Rattle.sync_points.specs.declared.point.Input.{Input};
 
     ghost Value = { Input };

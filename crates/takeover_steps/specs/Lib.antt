@@ -1,2 +1,4 @@
 pub mod Engines
 pub mod Relays
+pub use Rattle.step_ends.specs.Answers
+pub use Rattle.step_ends.specs.Lost

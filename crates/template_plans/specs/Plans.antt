@@ -13,8 +13,8 @@ use Rattle.hot_params.specs.Bound.{IsBoundTo, IsFaultOf}
 use Rattle.hot_params.specs.declared.fault.ParamFault.TheVariants.{Wrong}
 use Rattle.hot_params.specs.declared.fault.ParamFlaw.{ParamFlaw}
 use Rattle.hot_params.specs.declared.ids.Ids.{Ids}
-use Rattle.hot_registry.specs.declared.custom.NamedTest.{NamedTest}
-use Rattle.hot_registry.specs.declared.kind.KindDef.{KindDef}
+use Rattle.type_catalog.specs.declared.custom.NamedTest.{NamedTest}
+use Rattle.type_catalog.specs.declared.kind.KindDef.{KindDef}
 use Rattle.hot_tree.specs.Template.{IsTemplateOf}
 use Rattle.hot_tree.specs.Whole.{template_flaw}
 use Rattle.script_lines.specs.Requested.{BodyData}

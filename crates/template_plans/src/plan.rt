@@ -7,10 +7,10 @@ use heat_plan::Plan;
 use hot_admit::admit;
 use hot_catalog::Catalog;
 use hot_params::{Ids, bind};
-use hot_registry::Registry;
 use hot_tree::Template;
 use script_lines::Body;
 use std::alloc::Global;
+use type_catalog::Registry;
 
 /// The plan of a body for this stack, where these kinds stand and the registry's tests are asked; or the
 /// first fault: of the template by itself, else of its parameters, else of what it says.

@@ -1,1 +1,4 @@
 pub mod ChangeLemmas
+pub mod Listed
+pub mod Softs
+pub mod Untruncated

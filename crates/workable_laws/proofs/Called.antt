@@ -32,7 +32,7 @@ use Rattle.history_laws.proofs.tells.Silence.{AreUncalling}
 use Rattle.history_laws.proofs.agrees.Called.{after_create_begun, after_delete_begun, after_gone, after_poll, after_update}
 use Rattle.history_laws.proofs.agrees.Called.{after_update_begun, among_after, could_else, could_here}
 use Rattle.history_laws.proofs.agrees.Ends.{failed_end}
-use Rattle.work_laws.specs.Found.{IsAskedAt, asks, polls}
+use Rattle.next_laws.specs.Found.{IsAskedAt, asks, polls}
 use Rattle.workable_laws.specs.Workable.{IsCalled, IsCalledAct, MayPoll, MustLive, Workable, ready, updating}
 use Rattle.workable_laws.proofs.Drawing.{AllFit, draw_fits, past_drawn, sends_fit}
 use Rattle.workable_laws.proofs.Ends.{letters_under, row_up}

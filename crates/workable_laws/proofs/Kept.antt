@@ -15,7 +15,7 @@ use Rattle.step_relation.specs.Could.{could_of}
 use Rattle.step_relation.specs.Opening.{Opening}
 use Rattle.step_relation.specs.MailFits.{IsUnderWay}
 use Rattle.history_laws.proofs.tables.Rows.{row-key, same_or_not}
-use Rattle.turn_laws.proofs.Decide.{below_or_not}
+use Rattle.next_laws.proofs.Decide.{below_or_not}
 use Rattle.step_relation.specs.Numbered.{EachOnce}
 use Rattle.workable_laws.specs.Workable.{CloudFits, Drawn, IsCalled, JobsStand, MayPoll, MustLive, RowStands}
 

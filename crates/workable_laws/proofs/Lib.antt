@@ -12,6 +12,7 @@ pub mod Within
 pub mod Laid
 pub mod Applying
 pub mod Applied
+pub mod Keepable
 pub mod Stepped
 pub mod Openings
 pub mod Admissions

@@ -33,7 +33,7 @@ use Rattle.step_relation.specs.Writes.{failed_mark, lock_writes, mail_entry, row
 use Rattle.step_relation.specs.Opening.{Opening}
 use Rattle.history_laws.proofs.tells.Silence.{AreUncalling}
 use Rattle.next_laws.proofs.Listings.{cons_cases, no_member}
-use Rattle.work_laws.specs.Found.{asks, polls}
+use Rattle.next_laws.specs.Found.{asks, polls}
 use Rattle.workable_laws.specs.Workable.{IsCalledAct, Workable, creates, deletes, ready, updates}
 use Rattle.workable_laws.proofs.Begun.{asked_workable, just_left, left_workable, passed_workable, purged_workable}
 use Rattle.workable_laws.proofs.Begun.{replaced_workable, resumed_workable, retained_workable, same_workable}

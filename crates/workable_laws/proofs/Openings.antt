@@ -32,14 +32,14 @@ use Rattle.step_relation.specs.MailFits.{IsUnderWay, asks, polls}
 use Rattle.history_laws.proofs.tables.Facts.{graph_here}
 use Rattle.history_laws.proofs.tables.Rows.{job-key, letter-key, row-key, same_some}
 use Rattle.history_laws.proofs.agrees.Called.{only}
-use Rattle.work_laws.proofs.Below.{All-among}
-use Rattle.turn_laws.specs.HasTurn.{IsAskable}
+use Rattle.next_laws.proofs.WorkBelow.{All-among}
+use Rattle.next_laws.specs.HasTurn.{IsAskable}
 use Rattle.history_laws.proofs.edges.Members.{contains_at}
 use Rattle.workable_laws.specs.Laws.{AdmittedIsWorkable, SoundIsWorkable, WorkableHasWork, WorkableMayAsk}
 use Rattle.workable_laws.specs.Workable.{AreWhole, Drawn, IsCalled, IsCalledAct, IsWhole, MustLive, creates, deletes}
 use Rattle.workable_laws.specs.Workable.{ready, updates, updating}
 use Rattle.step_relation.specs.Asks as call
-use Rattle.work_laws.specs.Found as found_at
+use Rattle.next_laws.specs.Found as found_at
 
 -- numbers
 drawn_of : (s : StateData) → Links s → ((t : Token) → Contains s.released t → t.row < s.next.row) → Drawn s

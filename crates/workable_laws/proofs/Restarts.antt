@@ -19,7 +19,7 @@ use Rattle.step_relation.specs.Opening.{Opening}
 use Rattle.history_laws.proofs.links.Engines.{links_restarted}
 use Rattle.history_laws.proofs.tables.Rows.{job-key}
 use Rattle.history_laws.proofs.agrees.Called.{filtered, only}
-use Rattle.work_laws.proofs.Below.{quiet_restart}
+use Rattle.next_laws.proofs.WorkBelow.{quiet_restart}
 use Rattle.next_laws.proofs.Listings.{cons_cases, no_member}
 use Rattle.workable_laws.specs.Admitted.{FindsNothing, IsAdmitted, IsRead, IsStill, IsTied}
 use Rattle.workable_laws.specs.Admitted.{restarted}

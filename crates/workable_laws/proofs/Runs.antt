@@ -13,10 +13,10 @@ use Rattle.step_relation.specs.Opening.{Opening}
 use Rattle.next_laws.proofs.Turns.{turn_one}
 use Rattle.next_laws.proofs.Wearing.{worn_or_not}
 use Rattle.next_laws.proofs.Worn.{call_not_worn, quiet_not_worn}
-use Rattle.turn_laws.proofs.Kinship.{suits_is_one_kind}
-use Rattle.turn_laws.proofs.Nexts.{next_exists}
-use Rattle.turn_laws.proofs.Turning.{turn_exists}
-use Rattle.turn_laws.specs.Suits.{Suits, asks, failed, polls}
+use Rattle.next_laws.proofs.Kinship.{suits_is_one_kind}
+use Rattle.next_laws.proofs.Nexts.{next_exists}
+use Rattle.next_laws.proofs.Turning.{turn_exists}
+use Rattle.next_laws.specs.Suits.{Suits, asks, failed, polls}
 use Rattle.workable_laws.specs.Admitted.{restarted}
 use Rattle.workable_laws.specs.Laws.{RunsHaveNext, RunsStayWorkable, WorkableHasNext}
 use Rattle.workable_laws.specs.Workable.{Workable}

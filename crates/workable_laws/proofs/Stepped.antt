@@ -26,7 +26,7 @@ use Rattle.history_laws.proofs.tables.Frame.{applied-append}
 use Rattle.history_laws.proofs.tells.Silence.{IsUncalling}
 use Rattle.history_laws.proofs.agrees.Called.{filtered, only}
 use Rattle.next_laws.proofs.Turns.{ByMove, Whole, by_move, follows, stops}
-use Rattle.work_laws.specs.Found.{asks, polls}
+use Rattle.next_laws.specs.Found.{asks, polls}
 use Rattle.workable_laws.specs.Laws.{StepsKeepWorkable}
 use Rattle.workable_laws.specs.Workable.{Workable}
 use Rattle.workable_laws.proofs.Applied.{enlist_apply, restart_apply}

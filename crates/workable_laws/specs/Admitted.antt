@@ -1,6 +1,6 @@
 -- An image that a book is opened with: tied up in itself, and not at odds with the cloud's list.
-use Rattle.std.specs.Prelude.{Contains, IsSome, None, Some, unwrap_or, ℕ, ◌<◌, ◌≡◌, ◌≢◌, ◌⊎◌}
-use Rattle.heat_plan.specs.declared.phase.Act.TheVariants.{Create, Init, Rollback, Update}
+use Rattle.std.specs.Prelude.{Contains, IsSome, None, Some, unwrap_or, ℕ, ◌≡◌, ◌≢◌, ◌⊎◌}
+use Rattle.heat_plan.specs.declared.phase.Act.TheVariants.{Create, Init, Update}
 use Rattle.heat_plan.specs.declared.phase.Status.TheVariants.{Complete, InProgress}
 use Rattle.heat_plan.specs.declared.token.Token.{Token}
 use Rattle.provider.specs.Table.{TokenState}
@@ -13,20 +13,7 @@ use Rattle.step_relation.specs.Rows.{token_of}
 use Rattle.step_relation.specs.Steps.{restart_changes}
 use Rattle.step_relation.specs.Opening.{Opening, first_of}
 use Rattle.step_relation.specs.Agrees.{IsAliveAs, IsReadyAs}
-use Rattle.step_relation.specs.Linked.{Links}
-use Rattle.workable_laws.specs.Workable.{AreWhole}
-
--- what any image has: whole graphs, and no row whose act is a rollback
-pub record IsRead (s : StateData) : Type 0 where
-  pub graphs : AreWhole s
-  pub acts : (n : ℕ) (r : Row) → row_at s.rows n ≡ Some r → r.act ≢ Rollback
-
--- what is asked of the image alone
-pub record IsTied (s : StateData) : Type 0 where
-  pub links : Links s
-  pub targets : (n : ℕ) (r : Row) → row_at s.rows n ≡ Some r → r.act ≡ Update → r.status ≡ InProgress → IsSome r.target
-  pub released : (t : Token) (r : Row) → Contains s.released t → row_at s.rows t.row ≡ Some r → token_of r ≢ t
-  pub below : (t : Token) → Contains s.released t → t.row < s.next.row
+pub use Rattle.step_relation.specs.Images.{IsRead, IsTied}
 
 -- no live engine has a job
 abbrev pub IsStill : StateData → Type 0

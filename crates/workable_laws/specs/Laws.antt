@@ -18,12 +18,13 @@ use Rattle.step_relation.specs.Steps.{Step}
 use Rattle.step_relation.specs.Turns.{Turn, WearsOut}
 use Rattle.step_relation.specs.Could.{could_of}
 use Rattle.step_relation.specs.Opening.{Opening}
+use Rattle.step_relation.specs.Images.{AreKeepable}
 use Rattle.step_relation.specs.Headline.{MayBeAsked}
 use Rattle.step_relation.specs.Sound.{Sound}
-use Rattle.turn_laws.specs.Fits.{IsKin}
-use Rattle.turn_laws.specs.HasTurn.{HasWork, StepsOrIsIdle}
-use Rattle.turn_laws.specs.Suits.{Suits}
-use Rattle.work_laws.specs.Found.{IsAskedAt}
+use Rattle.next_laws.specs.Fits.{IsKin}
+use Rattle.next_laws.specs.HasTurn.{HasWork, StepsOrIsIdle}
+use Rattle.next_laws.specs.Suits.{Suits}
+use Rattle.next_laws.specs.Found.{IsAskedAt}
 use Rattle.workable_laws.specs.Admitted.{IsAdmitted, IsStill, restarted}
 use Rattle.workable_laws.specs.Workable.{Workable}
 
@@ -54,6 +55,11 @@ StepsKeepWorkable = (o : Opening) (h : List Entry) (s : StateData) (cs : List Ch
 abbrev pub StepsApply : Type 0
 StepsApply = (o : Opening) (h : List Entry) (s : StateData) (cs : List Change) (es : List Entry) → Workable o h s
     → Step s cs es → AllApply cs s
+
+-- and a record may hold them
+abbrev pub StepsAreKeepable : Type 0
+StepsAreKeepable = (o : Opening) (h : List Entry) (s : StateData) (cs : List Change) (es : List Entry) → Workable o h s
+    → Step s cs es → AreKeepable cs
 
 -- a live engine has what its next step needs
 abbrev pub WorkableHasWork : Type 0

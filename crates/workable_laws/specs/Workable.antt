@@ -5,17 +5,14 @@ use Rattle.heat_plan.specs.declared.phase.Act.TheVariants.{Create, Delete, Init,
 use Rattle.heat_plan.specs.declared.phase.Status.TheVariants.{Complete, InProgress}
 use Rattle.heat_plan.specs.declared.token.Token.{Token}
 use Rattle.provider.specs.Table.{TokenState}
-use Rattle.traversal_graph.specs.declared.shape.Node.{Node}
 use Rattle.traversal_graph.specs.declared.shape.Node.TheVariants.{C}
 use Rattle.row_table.specs.Rows.{row_at}
 use Rattle.row_table.specs.declared.row.Row.{Row}
-use Rattle.sync_points.specs.declared.point.Point.{Point}
 use Rattle.mail_table.specs.Mails.{job_at, letter_at}
 use Rattle.mail_table.specs.declared.mail.Job.{Job}
 use Rattle.mail_table.specs.declared.mail.Letter.{Letter}
 use Rattle.mail_table.specs.declared.mail.Stage.TheVariants.{Polling}
-use Rattle.core_state.specs.Applies.{IsWithin}
-use Rattle.core_state.specs.State.{StateData, graph_at, stack_at}
+use Rattle.core_state.specs.State.{StateData, graph_at}
 use Rattle.core_state.specs.declared.entry.Entry.{Entry}
 use Rattle.core_state.specs.declared.graph.Graph.{Graph}
 use Rattle.step_relation.specs.Rows.{token_of}
@@ -24,6 +21,7 @@ use Rattle.step_relation.specs.Opening.{Opening}
 use Rattle.step_relation.specs.Agrees.{IsGoing}
 use Rattle.step_relation.specs.MailFits.{IsUnderWay}
 use Rattle.step_relation.specs.Numbered.{EachOnce}
+pub use Rattle.step_relation.specs.Images.{AreWhole, IsWhole}
 
 -- the numbers that are drawn, and never again: those of rows, of jobs' and clean-up nodes' rows, of letters and engines
 pub record Drawn (s : StateData) : Type 0 where
@@ -36,17 +34,6 @@ pub record Drawn (s : StateData) : Type 0 where
   pub letters : (n : ℕ) (l : Letter) → letter_at s.letters n ≡ Some l → n < s.next.letter
   pub live : (e : ℕ) → Contains s.live e → e < s.next.engine
   pub released : (t : Token) → Contains s.released t → t.row < s.next.row
-
--- each node has its point, and each edge goes from a node to a node
-pub record IsWhole (g : Graph) : Type 0 where
-  pub points : (i : ℕ) (node : Node) → slice_get g.graph.nodes i ≡ Some node
-      → (p : Point) × (slice_get g.points i ≡ Some p)
-  pub ends : IsWithin g.graph
-
--- so is the graph of each stack
-abbrev pub AreWhole : StateData → Type 0
-AreWhole s = (name : List ℕ) (g : Graph) → IsSome (stack_at s.stacks name) → graph_at s.graphs name ≡ Some g
-    → IsWhole g
 
 -- what a row is when something is asked for it
 pub data IsCalledAct : Act → Type 0 where

@@ -5,7 +5,7 @@
 
 ghost use Rattle.workable_laws.specs.Laws.{AdmittedIsWorkable, RestartedIsWorkable, RunsHaveNext};
 ghost use Rattle.workable_laws.specs.Laws.{RunsStayWorkable, SoundIsAdmitted, SoundIsWorkable};
-ghost use Rattle.workable_laws.specs.Laws.{StepsApply, StepsKeepWorkable, WorkableHasNext};
+ghost use Rattle.workable_laws.specs.Laws.{StepsApply, StepsAreKeepable, StepsKeepWorkable, WorkableHasNext};
 ghost use Rattle.workable_laws.specs.Laws.{WorkableHasWork, WorkableMayAsk};
 
 /// An admitted image, tied up in itself and not at odds with the cloud's list, is workable where no live
@@ -26,9 +26,11 @@ pub fn steps_keep_workable()
     ensures { StepsKeepWorkable }
 {}
 
-/// Each change of a step from a workable state may be made where it stands: none is Bad.
+/// Each change of a step from a workable state may be made where it stands: none is Bad. A record may hold
+/// them: no row that is written is at a rollback, or has a key of 2^62.
 pub fn steps_apply()
-    ensures { StepsApply }
+    ensures apply { StepsApply }
+    ensures keepable { StepsAreKeepable }
 {}
 
 /// In a workable state a live engine has what its next step needs, asks of the cloud only what may be

@@ -5,7 +5,7 @@ use Rattle.heat_plan.specs.Plans.{names_of}
 use Rattle.heat_plan.specs.declared.phase.Act.{Act}
 use Rattle.heat_plan.specs.declared.phase.Act.TheVariants.{Create, Delete, Init, Rollback, Update}
 use Rattle.heat_plan.specs.declared.phase.Status.TheVariants.{Complete}
-use Rattle.hot_resolve.specs.Resolve.{Props}
+use Rattle.eval_words.specs.Resolve.{Props}
 use Rattle.traversal_graph.specs.declared.shape.Node.{Node}
 use Rattle.traversal_graph.specs.declared.shape.Node.TheVariants.{C, U}
 use Rattle.traversal_graph.specs.declared.shape.TravGraph.{TravGraph}

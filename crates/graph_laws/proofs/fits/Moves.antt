@@ -4,7 +4,7 @@ use Rattle.std.specs.Prelude.{unwrap_or}
 use Rattle.heat_value.specs.Data.{Members}
 use Rattle.heat_plan.specs.declared.phase.Act.TheVariants.{Delete}
 use Rattle.heat_plan.specs.declared.phase.Status.TheVariants.{Complete, InProgress}
-use Rattle.hot_resolve.specs.Resolve.{Props, resolve}
+use Rattle.eval_words.specs.Resolve.{Props, resolve}
 use Rattle.traversal_graph.specs.declared.shape.Node.{Node}
 use Rattle.traversal_graph.specs.declared.shape.Node.TheVariants.{C, U}
 use Rattle.row_table.specs.Chains.{IsCurrent}

@@ -3,7 +3,7 @@ use Rattle.std.proofs.Common.{◌≡◌, ◌≢◌, inl, inr, ℕ, List, Some, r
 use Rattle.std.specs.Prelude.{Contains, unwrap_or}
 use Rattle.heat_plan.specs.Plans.{names_of}
 use Rattle.heat_plan.specs.declared.phase.Act.TheVariants.{Init}
-use Rattle.hot_resolve.specs.Resolve.{Props}
+use Rattle.eval_words.specs.Resolve.{Props}
 use Rattle.traversal_graph.specs.declared.shape.Node.TheVariants.{C, U}
 use Rattle.row_table.specs.Chains.{IsCurrent}
 use Rattle.row_table.specs.Rows.{cut_row, put_row, row_at}

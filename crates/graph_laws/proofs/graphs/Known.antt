@@ -15,7 +15,7 @@ use Rattle.core_state.specs.Reads.{item_at}
 use Rattle.core_state.specs.State.{StateData, graph_at, stack_at}
 use Rattle.core_state.specs.declared.graph.Graph.{Graph}
 use Rattle.core_state.specs.declared.stack.Stack.{Stack}
-use Rattle.hot_resolve.specs.Resolve.{Props, Resolved, resolve}
+use Rattle.eval_words.specs.Resolve.{Props, Resolved, resolve}
 use Rattle.type_catalog.specs.declared.effect.Effect.{Effect}
 use Rattle.step_relation.specs.Begins.{Begins, MustGo, changed, given_up, overtaken}
 use Rattle.step_relation.specs.Freshness.{plan_of}

@@ -4,7 +4,7 @@ use Rattle.heat_value.specs.declared.path.Step.{Step}
 use Rattle.heat_plan.specs.declared.phase.Act.{Act}
 use Rattle.heat_plan.specs.declared.phase.Act.TheVariants.{Delete}
 use Rattle.heat_plan.specs.declared.phase.Status.TheVariants.{Failed, InProgress}
-use Rattle.hot_resolve.specs.Resolve.{Fault}
+use Rattle.eval_words.specs.Resolve.{Fault}
 use Rattle.traversal_graph.specs.declared.shape.Node.{Node}
 use Rattle.traversal_graph.specs.declared.shape.Node.TheVariants.{C, U}
 use Rattle.row_table.specs.Rows.{row_at}

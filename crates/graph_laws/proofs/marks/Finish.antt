@@ -11,7 +11,7 @@ use Rattle.heat_plan.specs.declared.phase.Act.TheVariants.{Create, Delete, Init,
 use Rattle.heat_plan.specs.declared.phase.Status.{Status}
 use Rattle.heat_plan.specs.declared.phase.Status.TheVariants.{Complete, Failed, InProgress}
 use Rattle.heat_plan.specs.declared.item.Item.{Item}
-use Rattle.hot_resolve.specs.Resolve.{Fault, Props, Resolved, resolve}
+use Rattle.eval_words.specs.Resolve.{Fault, Props, Resolved, resolve}
 use Rattle.traversal_graph.specs.declared.shape.Node.{Node}
 use Rattle.traversal_graph.specs.declared.shape.Node.TheVariants.{C, U}
 use Rattle.traversal_graph.specs.declared.shape.TravGraph.{TravGraph}

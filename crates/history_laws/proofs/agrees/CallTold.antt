@@ -12,9 +12,9 @@ use Rattle.row_table.specs.declared.row.Row.{Row}
 use Rattle.mail_table.specs.Mails.{job_at}
 use Rattle.mail_table.specs.declared.mail.Job.{Job}
 use Rattle.mail_table.specs.declared.mail.Stage.TheVariants.{Polling}
-use Rattle.core_state.specs.State.{StateData}
-use Rattle.core_state.specs.declared.entry.Actor.TheVariants.{Engine}
-use Rattle.core_state.specs.declared.entry.Entry.{Entry}
+use Rattle.step_relation.specs.State.{StateData}
+use Rattle.step_relation.specs.declared.Actor.TheVariants.{Engine}
+use Rattle.step_relation.specs.declared.Entry.{Entry}
 use Rattle.step_relation.specs.Rows.{token_of}
 use Rattle.step_relation.specs.Writes.{call_entry}
 use Rattle.step_relation.specs.Could.{could_of}

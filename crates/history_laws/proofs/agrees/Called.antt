@@ -10,8 +10,8 @@ use Rattle.heat_plan.specs.declared.facts.Facts.{Facts}
 use Rattle.heat_plan.specs.declared.token.Token.{Token}
 use Rattle.provider.proofs.Sames.{same_token-other, same_token-same}
 use Rattle.provider.specs.Table.{Living, TokenState, after, after_each, begun, going, once, same_state, told, updated}
-use Rattle.core_state.specs.declared.entry.Actor.{Actor}
-use Rattle.core_state.specs.declared.entry.Entry.{Entry}
+use Rattle.step_relation.specs.declared.Actor.{Actor}
+use Rattle.step_relation.specs.declared.Entry.{Entry}
 use Rattle.step_relation.specs.Writes.{entry_of}
 use Rattle.step_relation.specs.Could.{could_by, could_of}
 use Rattle.step_relation.specs.Opening.{Opening}
@@ -20,7 +20,7 @@ use Rattle.history_laws.proofs.tells.Appends.{could-append}
 use Rattle.history_laws.proofs.tells.Silence.{AreUncalling, could_on-silent}
 use Rattle.heat_plan.specs.declared.calls.Answered.TheVariants as answer
 use Rattle.heat_plan.specs.declared.calls.Request.TheVariants as request
-use Rattle.core_state.specs.declared.entry.What.TheVariants as what
+use Rattle.step_relation.specs.declared.What.TheVariants as what
 use Rattle.provider.proofs.Lists.{here, there, cases}
 
 pub only : {A : Type 0} (y x : A) → Contains (y ∷ []) x → x ≡ y

@@ -11,9 +11,9 @@ use Rattle.row_table.specs.declared.row.Row.{Row}
 use Rattle.mail_table.specs.Mails.{job_at}
 use Rattle.mail_table.specs.declared.mail.Job.{Job}
 use Rattle.mail_table.specs.declared.mail.Stage.TheVariants.{Polling}
-use Rattle.core_state.specs.State.{StateData}
-use Rattle.core_state.specs.declared.entry.Entry.{Entry}
-use Rattle.core_state.specs.declared.entry.What.{What}
+use Rattle.step_relation.specs.State.{StateData}
+use Rattle.step_relation.specs.declared.Entry.{Entry}
+use Rattle.step_relation.specs.declared.What.{What}
 use Rattle.step_relation.specs.Rows.{token_of}
 use Rattle.step_relation.specs.Could.{could_of}
 use Rattle.step_relation.specs.Opening.{Opening}
@@ -25,7 +25,7 @@ use Rattle.step_relation.specs.Tells.{IsCallFor, ReleasedFits}
 use Rattle.history_laws.proofs.tells.Appends.{released-append, released_on}
 use Rattle.history_laws.proofs.tells.Silence.{AreUncalling, IsUncalling}
 use Rattle.history_laws.proofs.agrees.Going.{CameFrom, IsUnretained, RowsGo, born_new, came_from}
-use Rattle.core_state.specs.declared.entry.What.TheVariants as what
+use Rattle.step_relation.specs.declared.What.TheVariants as what
 use Rattle.provider.proofs.Lists.{cases}
 
 -- a job that polls was polling at its row, or asked for what may be alive now

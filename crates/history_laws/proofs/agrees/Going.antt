@@ -9,7 +9,7 @@ use Rattle.heat_plan.specs.declared.token.Token.{Token}
 use Rattle.provider.specs.Table.{TokenState}
 use Rattle.row_table.specs.Rows.{cut_row, put_row, row_at}
 use Rattle.row_table.specs.declared.row.Row.{Row}
-use Rattle.core_state.specs.declared.entry.Entry.{Entry}
+use Rattle.step_relation.specs.declared.Entry.{Entry}
 use Rattle.step_relation.specs.Rows.{token_of}
 use Rattle.step_relation.specs.Could.{could_of}
 use Rattle.step_relation.specs.Opening.{Opening}

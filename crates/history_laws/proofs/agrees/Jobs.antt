@@ -7,8 +7,8 @@ use Rattle.row_table.specs.declared.row.Row.{Row}
 use Rattle.mail_table.specs.Mails.{cut_job, job_at, put_job}
 use Rattle.mail_table.specs.declared.mail.Job.{Job}
 use Rattle.mail_table.specs.declared.mail.Stage.TheVariants.{Polling}
-use Rattle.core_state.specs.State.{StateData}
-use Rattle.core_state.specs.declared.entry.Entry.{Entry}
+use Rattle.step_relation.specs.State.{StateData}
+use Rattle.step_relation.specs.declared.Entry.{Entry}
 use Rattle.step_relation.specs.Rows.{locked}
 use Rattle.step_relation.specs.Takes.{HasNoHolder}
 use Rattle.step_relation.specs.Opening.{Opening}

@@ -13,17 +13,17 @@ use Rattle.row_table.specs.Rows.{put_row, row_at}
 use Rattle.row_table.specs.declared.row.Row.{Row}
 use Rattle.mail_table.specs.Mails.{job_at}
 use Rattle.mail_table.specs.declared.mail.Job.{Job}
-use Rattle.core_state.specs.Changes.{applied, fresh_graph}
-use Rattle.core_state.specs.State.{StateData, put_graph, put_past, put_stack}
-use Rattle.core_state.specs.declared.change.Change.{Change}
-use Rattle.core_state.specs.declared.change.Change.TheVariants.{PutGraph, Send}
-use Rattle.core_state.specs.declared.entry.Actor.{Actor}
-use Rattle.core_state.specs.declared.entry.Entry.{Entry}
-use Rattle.core_state.specs.declared.entry.MailWrite.{MailWrite}
-use Rattle.core_state.specs.declared.entry.MailWrite.TheVariants.{Sent}
-use Rattle.core_state.specs.declared.entry.RowWrite.{RowWrite}
-use Rattle.core_state.specs.declared.entry.RowWrite.TheVariants.{Set}
-use Rattle.core_state.specs.declared.numbers.Numbers.{Numbers}
+use Rattle.step_relation.specs.Changes.{applied, fresh_graph}
+use Rattle.step_relation.specs.State.{StateData, put_graph, put_past, put_stack}
+use Rattle.step_relation.specs.declared.Change.{Change}
+use Rattle.step_relation.specs.declared.Change.TheVariants.{PutGraph, Send}
+use Rattle.step_relation.specs.declared.Actor.{Actor}
+use Rattle.step_relation.specs.declared.Entry.{Entry}
+use Rattle.step_relation.specs.declared.MailWrite.{MailWrite}
+use Rattle.step_relation.specs.declared.MailWrite.TheVariants.{Sent}
+use Rattle.step_relation.specs.declared.RowWrite.{RowWrite}
+use Rattle.step_relation.specs.declared.RowWrite.TheVariants.{Set}
+use Rattle.step_relation.specs.declared.Numbers.{Numbers}
 use Rattle.step_relation.specs.Commands.{Chooses, Lays, Sets, current, first_letters, fresh, laid_changes, laid_entries}
 use Rattle.step_relation.specs.Commands.{none, past_command, settled_mark, settles_at_once, stack_set}
 use Rattle.step_relation.specs.Rows.{new_row, token_of}

@@ -9,16 +9,16 @@ use Rattle.heat_plan.specs.declared.phase.Act.TheVariants.{Create, Delete, Init,
 use Rattle.heat_plan.specs.declared.phase.Status.{Status}
 use Rattle.heat_plan.specs.declared.phase.Status.TheVariants.{Complete, Failed, InProgress}
 use Rattle.traversal_graph.specs.declared.shape.Node.{Node}
-use Rattle.core_state.specs.Changes.{applied}
-use Rattle.core_state.specs.State.{StateData, past_at, put_past, stack_at}
-use Rattle.core_state.specs.declared.change.Change.{Change}
-use Rattle.core_state.specs.declared.entry.Actor.{Actor}
-use Rattle.core_state.specs.declared.entry.Actor.TheVariants.{Engine, Main}
-use Rattle.core_state.specs.declared.entry.Entry.{Entry}
-use Rattle.core_state.specs.declared.entry.MailWrite.TheVariants.{Sent}
-use Rattle.core_state.specs.declared.entry.RowWrite.TheVariants.{Set}
-use Rattle.core_state.specs.declared.past.Past.{Past}
-use Rattle.core_state.specs.declared.stack.Stack.{Stack}
+use Rattle.step_relation.specs.Changes.{applied}
+use Rattle.step_relation.specs.State.{StateData, past_at, put_past, stack_at}
+use Rattle.step_relation.specs.declared.Change.{Change}
+use Rattle.step_relation.specs.declared.Actor.{Actor}
+use Rattle.step_relation.specs.declared.Actor.TheVariants.{Engine, Main}
+use Rattle.step_relation.specs.declared.Entry.{Entry}
+use Rattle.step_relation.specs.declared.MailWrite.TheVariants.{Sent}
+use Rattle.step_relation.specs.declared.RowWrite.TheVariants.{Set}
+use Rattle.step_relation.specs.declared.Past.{Past}
+use Rattle.step_relation.specs.declared.Stack.{Stack}
 use Rattle.step_relation.specs.Commands.{Lays, Sets, first_letters, laid_changes, laid_entries, settled_mark}
 use Rattle.step_relation.specs.Commands.{settles_at_once, stack_set}
 use Rattle.step_relation.specs.Freshness.{plan_of}
@@ -40,7 +40,7 @@ use Rattle.history_laws.proofs.tells.Silence.{unmarking-both, unmarking_mail, un
 use Rattle.history_laws.proofs.agrees.Finished.{complete_drop, complete_keep, delete_or_not, made_completed, made_deleted}
 use Rattle.history_laws.proofs.agrees.Laid.{end_of, laid_end, laid_same, laid_state, laid_uncalling}
 use Rattle.history_laws.proofs.agrees.Outcome.{never_last}
-use Rattle.core_state.specs.declared.entry.What.TheVariants as what
+use Rattle.step_relation.specs.declared.What.TheVariants as what
 
 pub back_incomplete : (st : Stack) (p : Past) → st.status ≢ Complete → back_after st p ≡ p.back
 back_incomplete st p ne = by st.status ne where

@@ -3,13 +3,13 @@ use Rattle.std.proofs.Common.{List, arith, inl, inr, refl, subst, sym, ◌∙◌
 use Rattle.std.specs.Prelude.{List, Option, [], ℕ, ◌++◌, ◌∷◌, ◌≡◌}
 use Rattle.heat_plan.specs.declared.token.Token.{Token}
 use Rattle.row_table.specs.declared.row.Row.{Row}
-use Rattle.core_state.specs.Changes.{applied}
-use Rattle.core_state.specs.State.{StateData}
-use Rattle.core_state.specs.declared.change.Change.{Change}
-use Rattle.core_state.specs.declared.entry.Actor.TheVariants.{Main}
-use Rattle.core_state.specs.declared.entry.Entry.{Entry}
-use Rattle.core_state.specs.declared.entry.What.{What}
-use Rattle.core_state.specs.declared.stack.Stack.{Stack}
+use Rattle.step_relation.specs.Changes.{applied}
+use Rattle.step_relation.specs.State.{StateData}
+use Rattle.step_relation.specs.declared.Change.{Change}
+use Rattle.step_relation.specs.declared.Actor.TheVariants.{Main}
+use Rattle.step_relation.specs.declared.Entry.{Entry}
+use Rattle.step_relation.specs.declared.What.{What}
+use Rattle.step_relation.specs.declared.Stack.{Stack}
 use Rattle.step_relation.specs.Given.{Answer, Given}
 use Rattle.step_relation.specs.Moves.{Move}
 use Rattle.step_relation.specs.Steps.{BeginsWithCall, IsNote, notes, ran, shows, turned}

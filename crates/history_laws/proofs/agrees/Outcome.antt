@@ -8,9 +8,9 @@ use Rattle.heat_plan.specs.declared.calls.Request.{Request}
 use Rattle.heat_plan.specs.declared.token.Token.{Token}
 use Rattle.row_table.specs.Rows.{row_at}
 use Rattle.row_table.specs.declared.row.Row.{Row}
-use Rattle.core_state.specs.State.{StateData}
-use Rattle.core_state.specs.declared.entry.Actor.TheVariants.{Engine}
-use Rattle.core_state.specs.declared.entry.Entry.{Entry}
+use Rattle.step_relation.specs.State.{StateData}
+use Rattle.step_relation.specs.declared.Actor.TheVariants.{Engine}
+use Rattle.step_relation.specs.declared.Entry.{Entry}
 use Rattle.step_relation.specs.Rows.{token_of}
 use Rattle.step_relation.specs.Writes.{call_entry, entry_of}
 use Rattle.step_relation.specs.Could.{could_of}
@@ -26,7 +26,7 @@ use Rattle.history_laws.proofs.tells.Marks.{MarkMade, StacksTold, stacks_told}
 use Rattle.history_laws.proofs.tells.Silence.{AreUncalling, AreUnmarking, IsUncalling, could-silent}
 use Rattle.history_laws.proofs.agrees.CallTold.{CallsFor, called_agrees}
 use Rattle.history_laws.proofs.agrees.Goes.{Goes, agrees_goes, released_goes, uncalled_more, uncalling_at, uncalling_for}
-use Rattle.core_state.specs.declared.entry.What.TheVariants as what
+use Rattle.step_relation.specs.declared.What.TheVariants as what
 use Rattle.provider.proofs.Lists.{here, cases}
 
 -- a move called nobody, or first called for its job's row

@@ -7,12 +7,12 @@ use Rattle.row_table.specs.declared.row.Row.{Row}
 use Rattle.mail_table.specs.Mails.{cut_job, job_at}
 use Rattle.mail_table.specs.declared.mail.Job.{Job}
 use Rattle.mail_table.specs.declared.mail.Letter.{Letter}
-use Rattle.core_state.specs.Changes.{applied}
-use Rattle.core_state.specs.State.{StateData}
-use Rattle.core_state.specs.declared.change.Change.TheVariants.{Drop, EndJob, PutJob}
-use Rattle.core_state.specs.declared.entry.Actor.TheVariants.{Engine}
-use Rattle.core_state.specs.declared.entry.Entry.{Entry}
-use Rattle.core_state.specs.declared.entry.MailWrite.TheVariants.{Dropped, Ended, Held}
+use Rattle.step_relation.specs.Changes.{applied}
+use Rattle.step_relation.specs.State.{StateData}
+use Rattle.step_relation.specs.declared.Change.TheVariants.{Drop, EndJob, PutJob}
+use Rattle.step_relation.specs.declared.Actor.TheVariants.{Engine}
+use Rattle.step_relation.specs.declared.Entry.{Entry}
+use Rattle.step_relation.specs.declared.MailWrite.TheVariants.{Dropped, Ended, Held}
 use Rattle.step_relation.specs.Rows.{locked, unlocked}
 use Rattle.step_relation.specs.Takes.{HasNoHolder, IsHolder, Takes, released_changes, released_entries, taken_job}
 use Rattle.step_relation.specs.Writes.{lock, lock_writes, mail_entry, rows_entry}

@@ -6,15 +6,15 @@ use Rattle.heat_plan.specs.declared.phase.Status.TheVariants.{InProgress}
 use Rattle.traversal_graph.specs.declared.shape.Node.{Node}
 use Rattle.row_table.specs.Rows.{row_at}
 use Rattle.row_table.specs.declared.row.Row.{Row}
-use Rattle.core_state.specs.Changes.{applied, apply}
-use Rattle.core_state.specs.State.{StateData}
-use Rattle.core_state.specs.declared.change.Change.TheVariants.{PutGraph, PutPast, PutRow, PutStack, Send}
-use Rattle.core_state.specs.declared.numbers.Numbers.{Numbers}
-use Rattle.core_state.specs.declared.stack.Stack.{Stack}
+use Rattle.step_relation.specs.Changes.{applied, apply}
+use Rattle.step_relation.specs.State.{StateData}
+use Rattle.step_relation.specs.declared.Change.TheVariants.{PutGraph, PutPast, PutRow, PutStack, Send}
+use Rattle.step_relation.specs.declared.Numbers.{Numbers}
+use Rattle.step_relation.specs.declared.Stack.{Stack}
 use Rattle.step_relation.specs.Commands.{Chooses, Lays, Sets, current, first_letters, fresh, laid_changes, none}
 use Rattle.step_relation.specs.Commands.{past_command, settles_at_once, stack_set}
 use Rattle.step_relation.specs.Rows.{new_row}
-use Rattle.core_state.specs.Applies.{NoneFalls}
+use Rattle.step_relation.specs.Applies.{NoneFalls}
 use Rattle.step_relation.specs.Elsewhere.{Elsewhere}
 use Rattle.step_relation.specs.Linked.{Links}
 use Rattle.history_laws.specs.frames.Laws.{CommandsAreOnOne}
@@ -23,7 +23,7 @@ use Rattle.history_laws.proofs.tables.Frame.{nowhere, on_graph, on_numbers, on_p
 use Rattle.history_laws.proofs.tables.Ordered.{ordered_past}
 use Rattle.history_laws.proofs.tables.Puts.{put_rows, rows_first}
 use Rattle.history_laws.proofs.tables.Rows.{row-key, row_put}
-use Rattle.core_state.specs.declared.change.Change.TheVariants as change_to
+use Rattle.step_relation.specs.declared.Change.TheVariants as change_to
 
 -- new rows have numbers from this one on, and no row has one of those
 new_rows : (s : StateData) (name : List ℕ) (trav next : ℕ) (items : List Item) (chosen : List ℕ) (qs : List Row)

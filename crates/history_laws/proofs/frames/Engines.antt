@@ -1,14 +1,14 @@
 -- Engines that come and go leave every stack.
 use Rattle.std.proofs.Common.{◌≢◌, ℕ, zero, suc, ◌+◌, List, [], ◌∷◌, ◌++◌, map, ap, arith}
 use Rattle.std.specs.Prelude.{length}
-use Rattle.core_state.specs.Changes.{applied, apply}
-use Rattle.core_state.specs.State.{StateData}
-use Rattle.core_state.specs.declared.change.Change.{Change}
-use Rattle.core_state.specs.declared.change.Change.TheVariants.{Enlist, Stop}
+use Rattle.step_relation.specs.Changes.{applied, apply}
+use Rattle.step_relation.specs.State.{StateData}
+use Rattle.step_relation.specs.declared.Change.{Change}
+use Rattle.step_relation.specs.declared.Change.TheVariants.{Enlist, Stop}
 use Rattle.step_relation.specs.Steps.{engines_from, past_engines, restart_changes}
 use Rattle.step_relation.specs.Elsewhere.{Elsewhere}
 use Rattle.history_laws.proofs.tables.Frame.{nowhere, on_enlist, on_numbers, on_stop, then}
-use Rattle.core_state.specs.declared.change.Change.TheVariants as change_to
+use Rattle.step_relation.specs.declared.Change.TheVariants as change_to
 
 stops : (own : List ℕ) (s : StateData) (es : List ℕ) (rest : List Change)
     → ((t : StateData) → Elsewhere own t (applied rest t))

@@ -5,9 +5,9 @@ use Rattle.traversal_graph.specs.declared.shape.Node.{Node}
 use Rattle.traversal_graph.specs.declared.shape.Node.TheVariants.{C, U}
 use Rattle.row_table.specs.declared.row.Row.{Row}
 use Rattle.sync_points.specs.declared.point.Input.{Input}
-use Rattle.core_state.specs.State.{StateData, graph_at}
-use Rattle.core_state.specs.declared.graph.Graph.{Graph}
-use Rattle.core_state.specs.declared.stack.Stack.{Stack}
+use Rattle.step_relation.specs.State.{StateData, graph_at}
+use Rattle.step_relation.specs.declared.Graph.{Graph}
+use Rattle.step_relation.specs.declared.Stack.{Stack}
 use Rattle.step_relation.specs.Targets.{IsTarget}
 use Rattle.step_relation.specs.Elsewhere.{Elsewhere}
 use Rattle.step_relation.specs.GraphFits.{Aims, EdgesFit, GraphFits, InputsFit, IsInput, IsNode, Stands, Sweeps, TargetFits}

@@ -5,9 +5,9 @@ use Rattle.row_table.specs.Rows.{row_at}
 use Rattle.mail_table.specs.Mails.{job_at, letter_at}
 use Rattle.mail_table.specs.declared.mail.Job.{Job}
 use Rattle.mail_table.specs.declared.mail.Letter.{Letter}
-use Rattle.core_state.specs.State.{StateData}
-use Rattle.core_state.specs.declared.graph.Graph.{Graph}
-use Rattle.core_state.specs.declared.stack.Stack.{Stack}
+use Rattle.step_relation.specs.State.{StateData}
+use Rattle.step_relation.specs.declared.Graph.{Graph}
+use Rattle.step_relation.specs.declared.Stack.{Stack}
 use Rattle.step_relation.specs.Freshness.{Names}
 use Rattle.step_relation.specs.Targets.{IsTarget}
 use Rattle.step_relation.specs.Elsewhere.{Elsewhere}

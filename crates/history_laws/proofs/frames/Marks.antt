@@ -3,10 +3,10 @@ use Rattle.std.proofs.Common.{◌≡◌, ◌≢◌, ℕ, List, Some, refl, sym, 
 use Rattle.std.specs.Prelude.{IsSome}
 use Rattle.heat_plan.specs.declared.phase.Status.TheVariants.{InProgress}
 use Rattle.traversal_graph.specs.declared.shape.Node.{Node}
-use Rattle.core_state.specs.State.{StateData, graph_at, stack_at}
-use Rattle.core_state.specs.declared.graph.Graph.{Graph}
-use Rattle.core_state.specs.declared.past.Past.{Past}
-use Rattle.core_state.specs.declared.stack.Stack.{Stack}
+use Rattle.step_relation.specs.State.{StateData, graph_at, stack_at}
+use Rattle.step_relation.specs.declared.Graph.{Graph}
+use Rattle.step_relation.specs.declared.Past.{Past}
+use Rattle.step_relation.specs.declared.Stack.{Stack}
 use Rattle.step_relation.specs.Resends.{IsOpen}
 use Rattle.step_relation.specs.Elsewhere.{Elsewhere}
 use Rattle.step_relation.specs.GraphFits.{IsNode}

@@ -12,12 +12,12 @@ use Rattle.mail_table.specs.declared.mail.Job.{Job}
 use Rattle.mail_table.specs.declared.mail.Letter.{Letter}
 use Rattle.mail_table.specs.declared.mail.Stage.{Stage}
 use Rattle.mail_table.specs.declared.mail.Stage.TheVariants.{Asking, Ending, Polling}
-use Rattle.core_state.specs.Changes.{applied, apply}
-use Rattle.core_state.specs.State.{StateData}
-use Rattle.core_state.specs.declared.change.Change.{Change}
-use Rattle.core_state.specs.declared.change.Change.TheVariants.{Drop, DropRow, EndJob, PutJob, PutRow, Send}
-use Rattle.core_state.specs.declared.numbers.Numbers.{Numbers}
-use Rattle.core_state.specs.declared.stack.Stack.{Stack}
+use Rattle.step_relation.specs.Changes.{applied, apply}
+use Rattle.step_relation.specs.State.{StateData}
+use Rattle.step_relation.specs.declared.Change.{Change}
+use Rattle.step_relation.specs.declared.Change.TheVariants.{Drop, DropRow, EndJob, PutJob, PutRow, Send}
+use Rattle.step_relation.specs.declared.Numbers.{Numbers}
+use Rattle.step_relation.specs.declared.Stack.{Stack}
 use Rattle.step_relation.specs.Asks.{Falls, failed_changes, marked, marks, overrun}
 use Rattle.step_relation.specs.Begins.{Begins, moved_job, next_row, past_row, replaced_changes}
 use Rattle.step_relation.specs.Finishes.{Finishes, finished_changes, given_input, ready_letters}

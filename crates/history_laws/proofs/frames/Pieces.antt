@@ -12,15 +12,15 @@ use Rattle.sync_points.specs.declared.point.Point.{Point}
 use Rattle.mail_table.specs.Mails.{job_at, letter_at}
 use Rattle.mail_table.specs.declared.mail.Job.{Job}
 use Rattle.mail_table.specs.declared.mail.Letter.{Letter}
-use Rattle.core_state.specs.Changes.{applied, apply}
-use Rattle.core_state.specs.State.{StateData}
-use Rattle.core_state.specs.declared.change.Change.{Change}
-use Rattle.core_state.specs.declared.change.Change.TheVariants.{EndJob, PutJob, PutPoint, PutRow, Send}
-use Rattle.core_state.specs.declared.numbers.Numbers.{Numbers}
-use Rattle.core_state.specs.declared.stack.Stack.{Stack}
+use Rattle.step_relation.specs.Changes.{applied, apply}
+use Rattle.step_relation.specs.State.{StateData}
+use Rattle.step_relation.specs.declared.Change.{Change}
+use Rattle.step_relation.specs.declared.Change.TheVariants.{EndJob, PutJob, PutPoint, PutRow, Send}
+use Rattle.step_relation.specs.declared.Numbers.{Numbers}
+use Rattle.step_relation.specs.declared.Stack.{Stack}
 use Rattle.step_relation.specs.Rows.{locked, unlocked}
 use Rattle.step_relation.specs.Writes.{draw_letters, letters_to, lock, mark_complete, mark_failed, past_letters, unlock}
-use Rattle.core_state.specs.Applies.{NoneFalls}
+use Rattle.step_relation.specs.Applies.{NoneFalls}
 use Rattle.step_relation.specs.Elsewhere.{Elsewhere}
 use Rattle.step_relation.specs.Linked.{Links}
 use Rattle.history_laws.proofs.tables.Frame.{NoneFalls-same, nowhere, on_end, on_job, on_numbers, on_point, on_row, on_send}

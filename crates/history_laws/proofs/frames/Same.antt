@@ -4,7 +4,7 @@ use Rattle.traversal_graph.specs.declared.shape.Node.{Node}
 use Rattle.row_table.specs.Chains.{Leads, ends, goes}
 use Rattle.row_table.specs.Rows.{row_at}
 use Rattle.row_table.specs.declared.row.Row.{Row}
-use Rattle.core_state.specs.State.{StateData}
+use Rattle.step_relation.specs.State.{StateData}
 use Rattle.step_relation.specs.Targets.{IsCurrentOf, IsTarget, of_c, of_u, renewed}
 use Rattle.step_relation.specs.Elsewhere.{Elsewhere}
 use Rattle.step_relation.specs.Linked.{IsOf, Links, by_job, by_node, by_row}

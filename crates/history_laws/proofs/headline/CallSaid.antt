@@ -12,13 +12,13 @@ use Rattle.heat_plan.specs.declared.token.Token.{Token}
 use Rattle.provider.specs.Table.{TokenState}
 use Rattle.row_table.specs.Rows.{put_row, row_at}
 use Rattle.row_table.specs.declared.row.Row.{Row}
-use Rattle.core_state.specs.State.{StateData, stack_at}
-use Rattle.core_state.specs.declared.entry.Actor.TheVariants.{Engine}
-use Rattle.core_state.specs.declared.entry.Entry.{Entry}
-use Rattle.core_state.specs.declared.entry.MailWrite.TheVariants.{Ended}
-use Rattle.core_state.specs.declared.entry.RowWrite.TheVariants.{Set}
-use Rattle.core_state.specs.declared.entry.Why.{Why}
-use Rattle.core_state.specs.declared.stack.Stack.{Stack}
+use Rattle.step_relation.specs.State.{StateData, stack_at}
+use Rattle.step_relation.specs.declared.Actor.TheVariants.{Engine}
+use Rattle.step_relation.specs.declared.Entry.{Entry}
+use Rattle.step_relation.specs.declared.MailWrite.TheVariants.{Ended}
+use Rattle.step_relation.specs.declared.RowWrite.TheVariants.{Set}
+use Rattle.step_relation.specs.declared.Why.{Why}
+use Rattle.step_relation.specs.declared.Stack.{Stack}
 use Rattle.step_relation.specs.Asks.{Refuses, cause_at, creates, deletes, looks, polls, updates}
 use Rattle.step_relation.specs.Rows.{failed_row, token_of}
 use Rattle.step_relation.specs.Writes.{call_entry, entry_of, mail_entry, rows_entry}
@@ -40,7 +40,7 @@ use Rattle.history_laws.proofs.agrees.CallTold.{CallsFor, in_progress}
 use Rattle.history_laws.proofs.agrees.Suits.{AsksAt, at_asking, at_polling}
 use Rattle.history_laws.proofs.headline.FitsSound.{row_made}
 use Rattle.history_laws.proofs.headline.Items.{All-among}
-use Rattle.core_state.specs.declared.entry.What.TheVariants as what
+use Rattle.step_relation.specs.declared.What.TheVariants as what
 
 module _ (o : Opening) (h : List Entry) (s : StateData) (x : Sound o h s) (possible : IsPossible o h) (e : ℕ)
     (r : Row) (asked : Request) (given : Answered)

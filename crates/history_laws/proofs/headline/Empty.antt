@@ -12,12 +12,12 @@ use Rattle.row_table.specs.declared.row.Row.{Row}
 use Rattle.mail_table.specs.Mails.{job_at, job_key, letter_at, letter_key}
 use Rattle.mail_table.specs.declared.mail.Job.{Job}
 use Rattle.mail_table.specs.declared.mail.Letter.{Letter}
-use Rattle.core_state.specs.State.{graph_at, graph_key, past_at, past_key, stack_at, stack_key}
-use Rattle.core_state.specs.declared.entry.Actor.TheVariants.{Engine}
-use Rattle.core_state.specs.declared.entry.Entry.{Entry}
-use Rattle.core_state.specs.declared.graph.Graph.{Graph}
-use Rattle.core_state.specs.declared.past.Past.{Past}
-use Rattle.core_state.specs.declared.stack.Stack.{Stack}
+use Rattle.step_relation.specs.State.{graph_at, graph_key, past_at, past_key, stack_at, stack_key}
+use Rattle.step_relation.specs.declared.Actor.TheVariants.{Engine}
+use Rattle.step_relation.specs.declared.Entry.{Entry}
+use Rattle.step_relation.specs.declared.Graph.{Graph}
+use Rattle.step_relation.specs.declared.Past.{Past}
+use Rattle.step_relation.specs.declared.Stack.{Stack}
 use Rattle.step_relation.specs.Steps.{engines_from}
 use Rattle.step_relation.specs.Writes.{entry_of}
 use Rattle.step_relation.specs.Could.{could_of}
@@ -31,7 +31,7 @@ use Rattle.step_relation.specs.Numbered.{EachOnce, Numbered}
 use Rattle.step_relation.specs.Sound.{Sound, Standing}
 use Rattle.step_relation.specs.Tells.{ReleasedFits, Tells, never}
 use Rattle.history_laws.proofs.agrees.Called.{none_in, only}
-use Rattle.core_state.specs.declared.entry.What.TheVariants as what
+use Rattle.step_relation.specs.declared.What.TheVariants as what
 use Rattle.provider.proofs.Lists.{cases}
 
 nothing_at : {K A : Type 0} (same : K → K → Bool) (key : A → K) (k : K) (x : A) → at same key [] k ≡ Some x → ⊥

@@ -14,12 +14,12 @@ use Rattle.traversal_graph.specs.declared.shape.Node.TheVariants.{C, U}
 use Rattle.provider.specs.Table.{TokenState}
 use Rattle.row_table.specs.Rows.{row_at}
 use Rattle.row_table.specs.declared.row.Row.{Row}
-use Rattle.core_state.specs.Reads.{item_at}
-use Rattle.core_state.specs.State.{StateData, stack_at}
-use Rattle.core_state.specs.declared.entry.Entry.{Entry}
-use Rattle.core_state.specs.declared.graph.Graph.{Graph}
-use Rattle.core_state.specs.declared.stack.Stack.{Stack}
-use Rattle.hot_resolve.specs.Resolve.{Props, resolve}
+use Rattle.step_relation.specs.Reads.{item_at}
+use Rattle.step_relation.specs.State.{StateData, stack_at}
+use Rattle.step_relation.specs.declared.Entry.{Entry}
+use Rattle.step_relation.specs.declared.Graph.{Graph}
+use Rattle.step_relation.specs.declared.Stack.{Stack}
+use Rattle.eval_words.specs.Resolve.{Props, resolve}
 use Rattle.step_relation.specs.Freshness.{plan_of}
 use Rattle.step_relation.specs.Inputs.{AllDone, AreKnown}
 use Rattle.step_relation.specs.Rows.{token_of}

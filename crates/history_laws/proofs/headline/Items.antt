@@ -15,7 +15,7 @@ use Rattle.heat_plan.specs.Order.{Rising}
 use Rattle.heat_plan.specs.Plans.{names_of}
 use Rattle.heat_plan.specs.declared.item.Item.{Item}
 use Rattle.traversal_graph.specs.Candidates.{each}
-use Rattle.core_state.specs.Reads.{item_at}
+use Rattle.step_relation.specs.Reads.{item_at}
 use Rattle.history_laws.proofs.tables.Rows.{same_some}
 use Rattle.history_laws.proofs.tables.Tables.{at-key, at-place, at-some}
 use Rattle.history_laws.proofs.agrees.Called.{none_in}

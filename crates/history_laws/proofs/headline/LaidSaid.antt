@@ -12,11 +12,11 @@ use Rattle.traversal_graph.specs.declared.shape.Node.{Node}
 use Rattle.provider.specs.Table.{TokenState}
 use Rattle.row_table.specs.Rows.{row_at}
 use Rattle.row_table.specs.declared.row.Row.{Row}
-use Rattle.core_state.specs.State.{StateData}
-use Rattle.core_state.specs.declared.entry.Actor.TheVariants.{Engine}
-use Rattle.core_state.specs.declared.entry.Entry.{Entry}
-use Rattle.core_state.specs.declared.entry.MailWrite.TheVariants.{Sent}
-use Rattle.core_state.specs.declared.entry.RowWrite.TheVariants.{Set}
+use Rattle.step_relation.specs.State.{StateData}
+use Rattle.step_relation.specs.declared.Actor.TheVariants.{Engine}
+use Rattle.step_relation.specs.declared.Entry.{Entry}
+use Rattle.step_relation.specs.declared.MailWrite.TheVariants.{Sent}
+use Rattle.step_relation.specs.declared.RowWrite.TheVariants.{Set}
 use Rattle.step_relation.specs.Commands.{Lays, Sets, first_letters, laid_entries, settled_mark, stack_set}
 use Rattle.step_relation.specs.Freshness.{plan_of}
 use Rattle.step_relation.specs.Orders.{plan_back}
@@ -43,7 +43,7 @@ use Rattle.history_laws.proofs.agrees.LaidTold.{forward_keeps}
 use Rattle.history_laws.proofs.headline.MarkSaid.{completing_fits}
 use Rattle.history_laws.proofs.headline.Parts.{at_mark, said_mark, said_written}
 use Rattle.history_laws.proofs.headline.Said.{AllSaid, IsPaired, fits_on, followed_plain, said_both}
-use Rattle.core_state.specs.declared.entry.What.TheVariants as what
+use Rattle.step_relation.specs.declared.What.TheVariants as what
 
 -- a rollback's plan is the last that was reached
 rolled_plan : (o : Opening) (h : List Entry) (s : StateData) → Sound o h s

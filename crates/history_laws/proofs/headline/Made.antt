@@ -17,11 +17,11 @@ use Rattle.row_table.specs.Rows.{row_at}
 use Rattle.row_table.specs.declared.row.Row.{Row}
 use Rattle.sync_points.specs.declared.point.Input.{Input}
 use Rattle.sync_points.specs.declared.point.Point.{Point}
-use Rattle.core_state.specs.Reads.{HasInput, IsDone, IsReady, item_at}
-use Rattle.core_state.specs.State.{StateData, stack_at}
-use Rattle.core_state.specs.declared.entry.Entry.{Entry}
-use Rattle.core_state.specs.declared.graph.Graph.{Graph}
-use Rattle.core_state.specs.declared.stack.Stack.{Stack}
+use Rattle.step_relation.specs.Reads.{HasInput, IsDone, IsReady, item_at}
+use Rattle.step_relation.specs.State.{StateData, stack_at}
+use Rattle.step_relation.specs.declared.Entry.{Entry}
+use Rattle.step_relation.specs.declared.Graph.{Graph}
+use Rattle.step_relation.specs.declared.Stack.{Stack}
 use Rattle.step_relation.specs.Freshness.{plan_of}
 use Rattle.step_relation.specs.Inputs.{AreKnown, IsGiven, given, missing, none}
 use Rattle.step_relation.specs.Rows.{token_of}

@@ -4,11 +4,11 @@ use Rattle.std.specs.Prelude.{Contains, List, None, Option, Some, [], option_map
 use Rattle.heat_plan.specs.declared.phase.Act.{Act}
 use Rattle.heat_plan.specs.declared.phase.Status.TheVariants.{InProgress}
 use Rattle.heat_plan.specs.declared.token.Token.{Token}
-use Rattle.core_state.specs.State.{StateData, stack_at}
-use Rattle.core_state.specs.declared.entry.Actor.{Actor}
-use Rattle.core_state.specs.declared.entry.Cause.{Cause}
-use Rattle.core_state.specs.declared.entry.Entry.{Entry}
-use Rattle.core_state.specs.declared.stack.Stack.{Stack}
+use Rattle.step_relation.specs.State.{StateData, stack_at}
+use Rattle.step_relation.specs.declared.Actor.{Actor}
+use Rattle.step_relation.specs.declared.Cause.{Cause}
+use Rattle.step_relation.specs.declared.Entry.{Entry}
+use Rattle.step_relation.specs.declared.Stack.{Stack}
 use Rattle.step_relation.specs.Freshness.{plan_of}
 use Rattle.step_relation.specs.Writes.{complete_mark, entry_of}
 use Rattle.step_relation.specs.Caused.{IsCaused}
@@ -23,7 +23,7 @@ use Rattle.history_laws.proofs.tells.Appends.{marked-append, newest-append, rele
 use Rattle.history_laws.proofs.tells.Marks.{marked_own}
 use Rattle.history_laws.proofs.tells.Silence.{AreUnmarking, could-silent, marked-silent, newest-silent}
 use Rattle.history_laws.proofs.headline.Said.{fits_on}
-use Rattle.core_state.specs.declared.entry.What.TheVariants as what
+use Rattle.step_relation.specs.declared.What.TheVariants as what
 
 unmarked_of : (m : Mark) → status_by m ≡ InProgress → m ≡ Unmarked
 unmarked_of Unmarked e = refl

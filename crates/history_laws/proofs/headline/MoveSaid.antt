@@ -10,18 +10,18 @@ use Rattle.traversal_graph.specs.declared.shape.Node.TheVariants.{C}
 use Rattle.row_table.specs.declared.row.Row.{Row}
 use Rattle.mail_table.specs.declared.mail.Letter.{Letter}
 use Rattle.mail_table.specs.declared.mail.Stage.TheVariants.{Asking, Ending, Polling}
-use Rattle.core_state.specs.State.{StateData, stack_at}
-use Rattle.core_state.specs.declared.change.Change.{Change}
-use Rattle.core_state.specs.declared.entry.Actor.{Actor}
-use Rattle.core_state.specs.declared.entry.Actor.TheVariants.{Engine}
-use Rattle.core_state.specs.declared.entry.Cause.{Cause}
-use Rattle.core_state.specs.declared.entry.Entry.{Entry}
-use Rattle.core_state.specs.declared.entry.MailWrite.{MailWrite}
-use Rattle.core_state.specs.declared.entry.MailWrite.TheVariants.{Dropped, Ended, Held, Sent}
-use Rattle.core_state.specs.declared.entry.RowWrite.{RowWrite}
-use Rattle.core_state.specs.declared.entry.RowWrite.TheVariants.{Purge, Set}
-use Rattle.core_state.specs.declared.entry.Why.{Why}
-use Rattle.core_state.specs.declared.stack.Stack.{Stack}
+use Rattle.step_relation.specs.State.{StateData, stack_at}
+use Rattle.step_relation.specs.declared.Change.{Change}
+use Rattle.step_relation.specs.declared.Actor.{Actor}
+use Rattle.step_relation.specs.declared.Actor.TheVariants.{Engine}
+use Rattle.step_relation.specs.declared.Cause.{Cause}
+use Rattle.step_relation.specs.declared.Entry.{Entry}
+use Rattle.step_relation.specs.declared.MailWrite.{MailWrite}
+use Rattle.step_relation.specs.declared.MailWrite.TheVariants.{Dropped, Ended, Held, Sent}
+use Rattle.step_relation.specs.declared.RowWrite.{RowWrite}
+use Rattle.step_relation.specs.declared.RowWrite.TheVariants.{Purge, Set}
+use Rattle.step_relation.specs.declared.Why.{Why}
+use Rattle.step_relation.specs.declared.Stack.{Stack}
 use Rattle.step_relation.specs.Asks.{Falls, Refuses, cause_at, failed_entries, fault_of, marked, marks, overrun}
 use Rattle.step_relation.specs.Begins.{Begins, left_entries, moved_job, next_row}
 use Rattle.step_relation.specs.Finishes.{ready_letters}
@@ -61,7 +61,7 @@ use Rattle.history_laws.proofs.headline.Said.{AllSaid, at_sound, said_both}
 use Rattle.history_laws.proofs.headline.Steps.{KeepsSound}
 use Rattle.heat_plan.specs.declared.calls.Answered.TheVariants as answer
 use Rattle.heat_plan.specs.declared.calls.Request.TheVariants as request
-use Rattle.core_state.specs.declared.entry.What.TheVariants as what
+use Rattle.step_relation.specs.declared.What.TheVariants as what
 
 module _ (keeps : KeepsSound) (judges : Judges) (o : Opening) (h : List Entry) (s : StateData) (x : Sound o h s) where
   -- before and behind a step

@@ -9,14 +9,14 @@ use Rattle.traversal_graph.specs.Candidates.{each}
 use Rattle.provider.proofs.Sames.{joint, same_facts-same, same_members-same}
 use Rattle.provider.specs.Same.{same_flag, same_token}
 use Rattle.provider.specs.Table.{TokenState, after, after_each, once, same_state, same_told}
-use Rattle.core_state.specs.declared.entry.Entry.{Entry}
-use Rattle.core_state.specs.declared.entry.What.{What}
+use Rattle.step_relation.specs.declared.Entry.{Entry}
+use Rattle.step_relation.specs.declared.What.{What}
 use Rattle.step_relation.specs.Could.{IsPossible, could_by, could_of}
 use Rattle.step_relation.specs.Opening.{Opening, first_of}
 use Rattle.step_relation.specs.Tokens.{MayLive}
 use Rattle.history_laws.proofs.tells.Appends.{could-append, could_on}
 use Rattle.history_laws.proofs.agrees.Called.{filtered, none_in}
-use Rattle.core_state.specs.declared.entry.What.TheVariants as what
+use Rattle.step_relation.specs.declared.What.TheVariants as what
 use Rattle.provider.proofs.Lists.{here, there, cases}
 
 -- one state, or each once

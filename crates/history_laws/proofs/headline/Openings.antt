@@ -10,10 +10,10 @@ use Rattle.provider.specs.Cloud.{Cloud, state_of}
 use Rattle.provider.specs.Table.{TokenState}
 use Rattle.row_table.specs.Rows.{row_at}
 use Rattle.row_table.specs.declared.row.Row.{Row}
-use Rattle.core_state.specs.State.{StateData, stack_at}
-use Rattle.core_state.specs.declared.entry.Actor.TheVariants.{Engine}
-use Rattle.core_state.specs.declared.entry.Entry.{Entry}
-use Rattle.core_state.specs.declared.stack.Stack.{Stack}
+use Rattle.step_relation.specs.State.{StateData, stack_at}
+use Rattle.step_relation.specs.declared.Actor.TheVariants.{Engine}
+use Rattle.step_relation.specs.declared.Entry.{Entry}
+use Rattle.step_relation.specs.declared.Stack.{Stack}
 use Rattle.step_relation.specs.Freshness.{plan_of}
 use Rattle.step_relation.specs.Orders.{past_of, plan_back}
 use Rattle.step_relation.specs.Rows.{token_of}
@@ -31,7 +31,7 @@ use Rattle.step_relation.specs.Tells.{ReleasedFits, Tells, never, status_by}
 use Rattle.history_laws.proofs.tables.Rows.{same_some, stack-key}
 use Rattle.history_laws.proofs.agrees.Called.{none_in, only}
 use Rattle.history_laws.proofs.agrees.LaidTold.{back_completed, back_incomplete}
-use Rattle.core_state.specs.declared.entry.What.TheVariants as what
+use Rattle.step_relation.specs.declared.What.TheVariants as what
 
 module _ (o : Opening) (h : List Entry) (s : StateData) (cloud : Cloud) (x : Sound o h s)
     (shows : Allows (first_of o) h cloud) where

@@ -8,11 +8,11 @@ use Rattle.heat_plan.specs.declared.token.Token.{Token}
 use Rattle.provider.specs.Table.{TokenState}
 use Rattle.row_table.specs.Rows.{row_at}
 use Rattle.row_table.specs.declared.row.Row.{Row}
-use Rattle.core_state.specs.declared.entry.Actor.{Actor}
-use Rattle.core_state.specs.declared.entry.Cause.{Cause}
-use Rattle.core_state.specs.declared.entry.Entry.{Entry}
-use Rattle.core_state.specs.declared.entry.MailWrite.{MailWrite}
-use Rattle.core_state.specs.declared.entry.RowWrite.{RowWrite}
+use Rattle.step_relation.specs.declared.Actor.{Actor}
+use Rattle.step_relation.specs.declared.Cause.{Cause}
+use Rattle.step_relation.specs.declared.Entry.{Entry}
+use Rattle.step_relation.specs.declared.MailWrite.{MailWrite}
+use Rattle.step_relation.specs.declared.RowWrite.{RowWrite}
 use Rattle.step_relation.specs.Freshness.{plan_of}
 use Rattle.step_relation.specs.Rows.{token_of}
 use Rattle.step_relation.specs.Writes.{call_entry, entry_of, mail_entry, rows_entry}
@@ -30,7 +30,7 @@ use Rattle.history_laws.proofs.tells.Appends.{marked-append, newest-append, rele
 use Rattle.history_laws.proofs.tells.Beside.{beside_mark}
 use Rattle.history_laws.proofs.tells.Silence.{IsUncalling, could-silent}
 use Rattle.history_laws.proofs.headline.Said.{AllSaid, fits_on, fits_plain, followed_plain}
-use Rattle.core_state.specs.declared.entry.What.TheVariants as what
+use Rattle.step_relation.specs.declared.What.TheVariants as what
 
 -- what holds behind one more entry held before it, where the entry says nothing of what may be alive, and of the stack
 pub at_back : (o : Opening) (g : List Entry) (e : Entry) → IsUncalling e.what

@@ -17,17 +17,17 @@ use Rattle.mail_table.specs.Mails.{job_at}
 use Rattle.mail_table.specs.declared.mail.Job.{Job}
 use Rattle.mail_table.specs.declared.mail.Stage.{Stage}
 use Rattle.mail_table.specs.declared.mail.Stage.TheVariants.{Taken}
-use Rattle.core_state.specs.Reads.{IsReady, item_at}
-use Rattle.core_state.specs.State.{StateData, graph_at, stack_at}
-use Rattle.core_state.specs.declared.entry.Actor.TheVariants.{Engine}
-use Rattle.core_state.specs.declared.entry.Entry.{Entry}
-use Rattle.core_state.specs.declared.entry.MailWrite.{MailWrite}
-use Rattle.core_state.specs.declared.entry.MailWrite.TheVariants.{Ended}
-use Rattle.core_state.specs.declared.entry.RowWrite.{RowWrite}
-use Rattle.core_state.specs.declared.entry.RowWrite.TheVariants.{Set}
-use Rattle.core_state.specs.declared.graph.Graph.{Graph}
-use Rattle.core_state.specs.declared.stack.Stack.{Stack}
-use Rattle.hot_resolve.specs.Resolve.{Fault, resolve}
+use Rattle.step_relation.specs.Reads.{IsReady, item_at}
+use Rattle.step_relation.specs.State.{StateData, graph_at, stack_at}
+use Rattle.step_relation.specs.declared.Actor.TheVariants.{Engine}
+use Rattle.step_relation.specs.declared.Entry.{Entry}
+use Rattle.step_relation.specs.declared.MailWrite.{MailWrite}
+use Rattle.step_relation.specs.declared.MailWrite.TheVariants.{Ended}
+use Rattle.step_relation.specs.declared.RowWrite.{RowWrite}
+use Rattle.step_relation.specs.declared.RowWrite.TheVariants.{Set}
+use Rattle.step_relation.specs.declared.Graph.{Graph}
+use Rattle.step_relation.specs.declared.Stack.{Stack}
+use Rattle.eval_words.specs.Resolve.{Fault, resolve}
 use Rattle.step_relation.specs.Asks.{fault_of}
 use Rattle.step_relation.specs.Begins.{Begins, left_entries}
 use Rattle.step_relation.specs.Freshness.{plan_of}
@@ -53,7 +53,7 @@ use Rattle.history_laws.proofs.headline.FitsSound.{alive_row}
 use Rattle.history_laws.proofs.headline.Items.{asked_among}
 use Rattle.history_laws.proofs.headline.Made.{GivesFacts, IsMadeRow, living_as, made_alone, made_row, needs_given, not_given}
 use Rattle.history_laws.proofs.headline.Made.{token_is}
-use Rattle.core_state.specs.declared.entry.What.TheVariants as what
+use Rattle.step_relation.specs.declared.What.TheVariants as what
 use Rattle.provider.proofs.Lists.{here}
 
 -- behind rows and mail of a job that begins, no call is the last

@@ -12,14 +12,14 @@ use Rattle.row_table.specs.declared.row.Row.{Row}
 use Rattle.mail_table.specs.Mails.{job_at}
 use Rattle.mail_table.specs.declared.mail.Job.{Job}
 use Rattle.mail_table.specs.declared.mail.Stage.TheVariants.{Ending}
-use Rattle.core_state.specs.Reads.{IsDone}
-use Rattle.core_state.specs.State.{StateData, graph_at, stack_at}
-use Rattle.core_state.specs.declared.entry.Actor.TheVariants.{Engine}
-use Rattle.core_state.specs.declared.entry.Entry.{Entry}
-use Rattle.core_state.specs.declared.entry.MailWrite.TheVariants.{Held}
-use Rattle.core_state.specs.declared.entry.RowWrite.TheVariants.{Purge}
-use Rattle.core_state.specs.declared.graph.Graph.{Graph}
-use Rattle.core_state.specs.declared.stack.Stack.{Stack}
+use Rattle.step_relation.specs.Reads.{IsDone}
+use Rattle.step_relation.specs.State.{StateData, graph_at, stack_at}
+use Rattle.step_relation.specs.declared.Actor.TheVariants.{Engine}
+use Rattle.step_relation.specs.declared.Entry.{Entry}
+use Rattle.step_relation.specs.declared.MailWrite.TheVariants.{Held}
+use Rattle.step_relation.specs.declared.RowWrite.TheVariants.{Purge}
+use Rattle.step_relation.specs.declared.Graph.{Graph}
+use Rattle.step_relation.specs.declared.Stack.{Stack}
 use Rattle.step_relation.specs.Cleanups.{retained_entries}
 use Rattle.step_relation.specs.Freshness.{Names, plan_of}
 use Rattle.step_relation.specs.Rows.{token_of}
@@ -44,7 +44,7 @@ use Rattle.history_laws.proofs.agrees.Called.{only}
 use Rattle.history_laws.proofs.headline.Made.{not_given}
 use Rattle.history_laws.proofs.headline.Parts.{said_written}
 use Rattle.history_laws.proofs.headline.Said.{AllSaid, fits_on}
-use Rattle.core_state.specs.declared.entry.What.TheVariants as what
+use Rattle.step_relation.specs.declared.What.TheVariants as what
 
 -- the stack of a job that has work isn't complete
 pub open_job : (o : Opening) (h : List Entry) (s : StateData) → Sound o h s

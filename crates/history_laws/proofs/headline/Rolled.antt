@@ -7,17 +7,17 @@ use Rattle.heat_plan.specs.declared.phase.Act.{Act}
 use Rattle.heat_plan.specs.declared.phase.Act.TheVariants.{Rollback}
 use Rattle.heat_plan.specs.declared.phase.Status.TheVariants.{InProgress}
 use Rattle.traversal_graph.specs.declared.shape.Node.{Node}
-use Rattle.core_state.specs.State.{StateData}
-use Rattle.core_state.specs.declared.change.Change.{Change}
-use Rattle.core_state.specs.declared.entry.Actor.{Actor}
-use Rattle.core_state.specs.declared.entry.Actor.TheVariants.{Engine}
-use Rattle.core_state.specs.declared.entry.Cause.{Cause}
-use Rattle.core_state.specs.declared.entry.Entry.{Entry}
-use Rattle.core_state.specs.declared.entry.MailWrite.{MailWrite}
-use Rattle.core_state.specs.declared.entry.MailWrite.TheVariants.{Dropped, Ended, Held, Sent}
-use Rattle.core_state.specs.declared.entry.RowWrite.{RowWrite}
-use Rattle.core_state.specs.declared.entry.RowWrite.TheVariants.{Set}
-use Rattle.core_state.specs.declared.stack.Stack.{Stack}
+use Rattle.step_relation.specs.State.{StateData}
+use Rattle.step_relation.specs.declared.Change.{Change}
+use Rattle.step_relation.specs.declared.Actor.{Actor}
+use Rattle.step_relation.specs.declared.Actor.TheVariants.{Engine}
+use Rattle.step_relation.specs.declared.Cause.{Cause}
+use Rattle.step_relation.specs.declared.Entry.{Entry}
+use Rattle.step_relation.specs.declared.MailWrite.{MailWrite}
+use Rattle.step_relation.specs.declared.MailWrite.TheVariants.{Dropped, Ended, Held, Sent}
+use Rattle.step_relation.specs.declared.RowWrite.{RowWrite}
+use Rattle.step_relation.specs.declared.RowWrite.TheVariants.{Set}
+use Rattle.step_relation.specs.declared.Stack.{Stack}
 use Rattle.step_relation.specs.Asks.{cause_at, failed_entries, fault_of}
 use Rattle.step_relation.specs.Begins.{left_entries}
 use Rattle.step_relation.specs.Commands.{Lays, Sets, first_letters, laid_entries, settled_mark, stack_set}
@@ -41,7 +41,7 @@ use Rattle.step_relation.specs.Headline.{IsRolledBack}
 use Rattle.history_laws.proofs.tells.Lasts.{split, unmarking_at}
 use Rattle.history_laws.proofs.tells.Silence.{AreUnmarking, IsUnmarking, unmarking-both, unmarking_mail, unmarking_rows}
 use Rattle.history_laws.proofs.agrees.Called.{only}
-use Rattle.core_state.specs.declared.entry.What.TheVariants as what
+use Rattle.step_relation.specs.declared.What.TheVariants as what
 use Rattle.provider.proofs.Lists.{here}
 
 -- no entry marks a failure

@@ -7,15 +7,15 @@ use Rattle.heat_plan.specs.declared.phase.Act.{Act}
 use Rattle.heat_plan.specs.declared.phase.Act.TheVariants.{Rollback}
 use Rattle.heat_plan.specs.declared.phase.Status.TheVariants.{Failed}
 use Rattle.row_table.specs.declared.row.Row.{Row}
-use Rattle.core_state.specs.Changes.{applied}
-use Rattle.core_state.specs.State.{StateData}
-use Rattle.core_state.specs.declared.change.Change.{Change}
-use Rattle.core_state.specs.declared.entry.Actor.{Actor}
-use Rattle.core_state.specs.declared.entry.Actor.TheVariants.{Engine, Main}
-use Rattle.core_state.specs.declared.entry.Cause.{Cause}
-use Rattle.core_state.specs.declared.entry.Entry.{Entry}
-use Rattle.core_state.specs.declared.entry.What.{What}
-use Rattle.core_state.specs.declared.stack.Stack.{Stack}
+use Rattle.step_relation.specs.Changes.{applied}
+use Rattle.step_relation.specs.State.{StateData}
+use Rattle.step_relation.specs.declared.Change.{Change}
+use Rattle.step_relation.specs.declared.Actor.{Actor}
+use Rattle.step_relation.specs.declared.Actor.TheVariants.{Engine, Main}
+use Rattle.step_relation.specs.declared.Cause.{Cause}
+use Rattle.step_relation.specs.declared.Entry.{Entry}
+use Rattle.step_relation.specs.declared.What.{What}
+use Rattle.step_relation.specs.declared.Stack.{Stack}
 use Rattle.step_relation.specs.Given.{Given}
 use Rattle.step_relation.specs.Moves.{Move}
 use Rattle.step_relation.specs.Orders.{Command, IsForward, cancel, create, create_sets, delete, delete_sets, past_of}
@@ -44,8 +44,8 @@ use Rattle.history_laws.proofs.headline.Once.{possible_before}
 use Rattle.history_laws.proofs.headline.Rolled.{AllRolled, EndsSo, IsUnfailed, ends_so, laid_unfailed, rolled_both}
 use Rattle.history_laws.proofs.headline.Rolled.{rolled_unfailed, unfailed_move, unfailed_one, unfailed_silent}
 use Rattle.history_laws.proofs.headline.Steps.{KeepsSound, failed_stack, runs_sound, step_sound}
-use Rattle.core_state.specs.declared.entry.EngineChange.TheVariants as engine
-use Rattle.core_state.specs.declared.entry.What.TheVariants as what
+use Rattle.step_relation.specs.declared.EngineChange.TheVariants as engine
+use Rattle.step_relation.specs.declared.What.TheVariants as what
 use Rattle.provider.proofs.Lists.{here}
 
 -- where the mark of a failure stands at the end of what is silent

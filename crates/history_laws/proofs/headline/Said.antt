@@ -9,9 +9,9 @@ use Rattle.heat_plan.specs.declared.token.Token.{Token}
 use Rattle.provider.specs.Table.{TokenState}
 use Rattle.row_table.specs.Rows.{row_at}
 use Rattle.row_table.specs.declared.row.Row.{Row}
-use Rattle.core_state.specs.State.{StateData}
-use Rattle.core_state.specs.declared.entry.Entry.{Entry}
-use Rattle.core_state.specs.declared.entry.What.{What}
+use Rattle.step_relation.specs.State.{StateData}
+use Rattle.step_relation.specs.declared.Entry.{Entry}
+use Rattle.step_relation.specs.declared.What.{What}
 use Rattle.step_relation.specs.Could.{IsPossible, could_of}
 use Rattle.step_relation.specs.Fits.{Fits, HasExactly, IsFactOf}
 use Rattle.step_relation.specs.Opening.{Opening}
@@ -21,7 +21,7 @@ use Rattle.step_relation.specs.Headline.{AtPrefix, FitsIn, FollowedBy}
 use Rattle.step_relation.specs.Sound.{Sound}
 use Rattle.history_laws.proofs.tells.Silence.{IsUncalling, IsUnmarking}
 use Rattle.history_laws.proofs.headline.FitsSound.{complete_fits}
-use Rattle.core_state.specs.declared.entry.What.TheVariants as what
+use Rattle.step_relation.specs.declared.What.TheVariants as what
 
 -- the last entry gives up no token, and the row of one that is given up goes at once
 abbrev pub IsPaired : Opening → List Entry → Entry → List Entry → Type 0

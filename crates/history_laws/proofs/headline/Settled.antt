@@ -4,11 +4,11 @@ use Rattle.std.specs.Prelude.{List, None, Option, Some, [], if◌then◌else◌,
 use Rattle.heat_plan.specs.declared.phase.Act.{Act}
 use Rattle.heat_plan.specs.declared.phase.Status.{Status}
 use Rattle.heat_plan.specs.declared.phase.Status.TheVariants.{Complete, Failed, InProgress}
-use Rattle.core_state.specs.State.{StateData, stack_at}
-use Rattle.core_state.specs.declared.entry.Cause.{Cause}
-use Rattle.core_state.specs.declared.entry.Entry.{Entry}
-use Rattle.core_state.specs.declared.entry.What.{What}
-use Rattle.core_state.specs.declared.stack.Stack.{Stack}
+use Rattle.step_relation.specs.State.{StateData, stack_at}
+use Rattle.step_relation.specs.declared.Cause.{Cause}
+use Rattle.step_relation.specs.declared.Entry.{Entry}
+use Rattle.step_relation.specs.declared.What.{What}
+use Rattle.step_relation.specs.declared.Stack.{Stack}
 use Rattle.step_relation.specs.Marked.{Completed, FailedFor, Mark, Marked, Unmarked, mark_by_cause, mark_by_status}
 use Rattle.step_relation.specs.Marked.{marked_again, marked_by, marked_stack}
 use Rattle.step_relation.specs.Opening.{Opening}
@@ -19,7 +19,7 @@ use Rattle.step_relation.specs.Tells.{TellsStack, status_by}
 use Rattle.history_laws.proofs.tells.Appends.{marked_on}
 use Rattle.history_laws.proofs.tells.Newests.{text_cases}
 use Rattle.history_laws.proofs.headline.Said.{AllSaid}
-use Rattle.core_state.specs.declared.entry.What.TheVariants as what
+use Rattle.step_relation.specs.declared.What.TheVariants as what
 
 pub said_split : (o : Opening) (h p es before behind : List Entry) (e : Entry) → AllSaid o h p es
     → es ≡ before ++ e ∷ behind → FitsIn o (h ++ (p ++ before)) e

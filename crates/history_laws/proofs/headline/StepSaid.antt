@@ -1,15 +1,15 @@
 -- What the entries of each step say, and so those of each run.
 use Rattle.std.proofs.Common.{List, ap, append-nil, append_assoc, subst, sym, ◌∙◌}
 use Rattle.std.specs.Prelude.{List, None, Option, Some, [], ℕ, ◌++◌, ◌∷◌, ◌≡◌}
-use Rattle.core_state.specs.Changes.{applied}
-use Rattle.core_state.specs.State.{StateData}
-use Rattle.core_state.specs.declared.change.Change.{Change}
-use Rattle.core_state.specs.declared.entry.Actor.{Actor}
-use Rattle.core_state.specs.declared.entry.Actor.TheVariants.{Engine, Main}
-use Rattle.core_state.specs.declared.entry.Cause.{Cause}
-use Rattle.core_state.specs.declared.entry.Entry.{Entry}
-use Rattle.core_state.specs.declared.entry.What.{What}
-use Rattle.core_state.specs.declared.stack.Stack.{Stack}
+use Rattle.step_relation.specs.Changes.{applied}
+use Rattle.step_relation.specs.State.{StateData}
+use Rattle.step_relation.specs.declared.Change.{Change}
+use Rattle.step_relation.specs.declared.Actor.{Actor}
+use Rattle.step_relation.specs.declared.Actor.TheVariants.{Engine, Main}
+use Rattle.step_relation.specs.declared.Cause.{Cause}
+use Rattle.step_relation.specs.declared.Entry.{Entry}
+use Rattle.step_relation.specs.declared.What.{What}
+use Rattle.step_relation.specs.declared.Stack.{Stack}
 use Rattle.step_relation.specs.Asks.{cause_at, failed_entries, fault_of}
 use Rattle.step_relation.specs.Begins.{left_entries}
 use Rattle.step_relation.specs.Given.{Answer, Given}
@@ -36,8 +36,8 @@ use Rattle.history_laws.proofs.headline.Once.{possible_before}
 use Rattle.history_laws.proofs.headline.Parts.{said_call}
 use Rattle.history_laws.proofs.headline.Said.{AllSaid, IsPlainWhat, at_sound, fits_plain, said_both, said_shift}
 use Rattle.history_laws.proofs.headline.Steps.{KeepsSound, begins_move, rollback_ordered, runs_sound, step_sound}
-use Rattle.core_state.specs.declared.entry.EngineChange.TheVariants as engine
-use Rattle.core_state.specs.declared.entry.What.TheVariants as what
+use Rattle.step_relation.specs.declared.EngineChange.TheVariants as engine
+use Rattle.step_relation.specs.declared.What.TheVariants as what
 
 -- where a move fails its entries end with the mark
 pub ends_failed : (s : StateData) (e : ℕ) (given : Given) (st : Stack) (cs : List Change) (es : List Entry)

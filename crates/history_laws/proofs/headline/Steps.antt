@@ -3,14 +3,14 @@ use Rattle.std.proofs.Common.{List, ap, append_assoc, arith, inl, inr, refl, sub
 use Rattle.std.specs.Prelude.{List, Option, Some, [], filter, map, nat_eq, not, ℕ, ◌++◌, ◌+◌, ◌∷◌, ◌≡◌}
 use Rattle.heat_plan.specs.declared.calls.Answered.{Answered}
 use Rattle.heat_plan.specs.declared.phase.Status.TheVariants.{Failed}
-use Rattle.core_state.specs.Changes.{applied, apply}
-use Rattle.core_state.specs.State.{StateData, stack_at}
-use Rattle.core_state.specs.declared.change.Change.{Change}
-use Rattle.core_state.specs.declared.change.Change.TheVariants.{Enlist, Stop}
-use Rattle.core_state.specs.declared.entry.Actor.TheVariants.{Engine, Main}
-use Rattle.core_state.specs.declared.entry.Entry.{Entry}
-use Rattle.core_state.specs.declared.entry.What.{What}
-use Rattle.core_state.specs.declared.stack.Stack.{Stack}
+use Rattle.step_relation.specs.Changes.{applied, apply}
+use Rattle.step_relation.specs.State.{StateData, stack_at}
+use Rattle.step_relation.specs.declared.Change.{Change}
+use Rattle.step_relation.specs.declared.Change.TheVariants.{Enlist, Stop}
+use Rattle.step_relation.specs.declared.Actor.TheVariants.{Engine, Main}
+use Rattle.step_relation.specs.declared.Entry.{Entry}
+use Rattle.step_relation.specs.declared.What.{What}
+use Rattle.step_relation.specs.declared.Stack.{Stack}
 use Rattle.step_relation.specs.Commands.{laid_changes}
 use Rattle.step_relation.specs.Given.{Answer, Given}
 use Rattle.step_relation.specs.Moves.{Move, ask_failed, begin_faulted, poll_failed}
@@ -37,8 +37,8 @@ use Rattle.history_laws.proofs.agrees.Outcome.{CallMade, called, uncalled}
 use Rattle.history_laws.proofs.headline.Made.{proper}
 use Rattle.history_laws.proofs.headline.Once.{possible_before}
 use Rattle.history_laws.specs.headline.Kept.{StandingKept}
-use Rattle.core_state.specs.declared.entry.EngineChange.TheVariants as engine
-use Rattle.core_state.specs.declared.entry.What.TheVariants as what
+use Rattle.step_relation.specs.declared.EngineChange.TheVariants as engine
+use Rattle.step_relation.specs.declared.What.TheVariants as what
 
 -- what the laws of moves, commands and other steps give
 pub record KeepsSound : Type 0 where

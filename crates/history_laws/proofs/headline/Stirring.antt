@@ -8,10 +8,10 @@ use Rattle.dep_graph.specs.Paths.{IsPath, Leads}
 use Rattle.traversal_graph.specs.Builds.{Joins}
 use Rattle.traversal_graph.specs.declared.shape.Node.{Node}
 use Rattle.sync_points.specs.declared.point.Point.{Point}
-use Rattle.core_state.specs.Reads.{IsDone}
-use Rattle.core_state.specs.State.{StateData, graph_at, stack_at}
-use Rattle.core_state.specs.declared.graph.Graph.{Graph}
-use Rattle.core_state.specs.declared.stack.Stack.{Stack}
+use Rattle.step_relation.specs.Reads.{IsDone}
+use Rattle.step_relation.specs.State.{StateData, graph_at, stack_at}
+use Rattle.step_relation.specs.declared.Graph.{Graph}
+use Rattle.step_relation.specs.declared.Stack.{Stack}
 use Rattle.step_relation.specs.Inputs.{AllDone}
 use Rattle.step_relation.specs.Resends.{IsOpen}
 use Rattle.step_relation.specs.GraphFits.{GraphFits, IsNode, graph_of, graph_or}

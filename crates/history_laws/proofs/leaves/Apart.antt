@@ -8,15 +8,15 @@ use Rattle.heat_plan.specs.declared.token.Token.{Token}
 use Rattle.provider.proofs.Sames.{same_token-other}
 use Rattle.provider.specs.Same.{same_token}
 use Rattle.provider.specs.Table.{TokenState}
-use Rattle.core_state.specs.declared.entry.Entry.{Entry}
-use Rattle.core_state.specs.declared.entry.What.{What}
+use Rattle.step_relation.specs.declared.Entry.{Entry}
+use Rattle.step_relation.specs.declared.What.{What}
 use Rattle.step_relation.specs.Could.{could_by}
 use Rattle.step_relation.specs.Marked.{Marked, marked_by}
 use Rattle.step_relation.specs.Newest.{Latest, newest_by, rollback_by}
 use Rattle.step_relation.specs.Stored.{released_by}
 use Rattle.history_laws.proofs.tables.Puts.{contains_cases, contains_none}
 use Rattle.history_laws.proofs.tells.Appends.{could_on, marked_on, newest_on, released_on, rollback_on}
-use Rattle.core_state.specs.declared.entry.What.TheVariants as what
+use Rattle.step_relation.specs.declared.What.TheVariants as what
 
 -- it commands, marks, calls and gives up nothing of this stack
 abbrev pub IsApart : List ℕ → What → Type 0

@@ -4,12 +4,12 @@ use Rattle.std.proofs.Common.{refl, sym}
 use Rattle.std.proofs.Common.{subst, ◌∙◌, arith}
 use Rattle.row_table.specs.Rows.{row_at}
 use Rattle.row_table.specs.declared.row.Row.{Row}
-use Rattle.core_state.specs.Applies.{NoneFalls}
-use Rattle.core_state.specs.Changes.{applied}
-use Rattle.core_state.specs.State.{StateData}
-use Rattle.core_state.specs.declared.change.Change.{Change}
-use Rattle.core_state.specs.declared.change.Change.TheVariants.{Enlist, Stop}
-use Rattle.core_state.specs.declared.numbers.Numbers.{Numbers}
+use Rattle.step_relation.specs.Applies.{NoneFalls}
+use Rattle.step_relation.specs.Changes.{applied}
+use Rattle.step_relation.specs.State.{StateData}
+use Rattle.step_relation.specs.declared.Change.{Change}
+use Rattle.step_relation.specs.declared.Change.TheVariants.{Enlist, Stop}
+use Rattle.step_relation.specs.declared.Numbers.{Numbers}
 use Rattle.step_relation.specs.Steps.{close, command, engines_from, enlist, note, past_engines, restart, stop, turn}
 use Rattle.step_relation.specs.Steps.{unstored}
 use Rattle.step_relation.specs.Elsewhere.{Elsewhere}

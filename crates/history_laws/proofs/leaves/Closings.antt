@@ -4,18 +4,18 @@ use Rattle.std.specs.List.{AllByRecursion}
 use Rattle.std.proofs.lemmas.List.Elements.{Contains-append_cases}
 use Rattle.heat_plan.specs.declared.item.Item.{Item}
 use Rattle.traversal_graph.specs.declared.shape.Node.{Node}
-use Rattle.core_state.specs.State.{StateData}
-use Rattle.core_state.specs.declared.change.Change.{Change}
-use Rattle.core_state.specs.declared.entry.Actor.{Actor}
-use Rattle.core_state.specs.declared.entry.Actor.TheVariants.{Engine}
-use Rattle.core_state.specs.declared.entry.Cause.{Cause}
-use Rattle.core_state.specs.declared.entry.Entry.{Entry}
-use Rattle.core_state.specs.declared.entry.MailWrite.{MailWrite}
-use Rattle.core_state.specs.declared.entry.MailWrite.TheVariants.{Ended, Sent}
-use Rattle.core_state.specs.declared.entry.RowWrite.{RowWrite}
-use Rattle.core_state.specs.declared.entry.RowWrite.TheVariants.{Set}
-use Rattle.core_state.specs.declared.entry.What.{What}
-use Rattle.core_state.specs.declared.stack.Stack.{Stack}
+use Rattle.step_relation.specs.State.{StateData}
+use Rattle.step_relation.specs.declared.Change.{Change}
+use Rattle.step_relation.specs.declared.Actor.{Actor}
+use Rattle.step_relation.specs.declared.Actor.TheVariants.{Engine}
+use Rattle.step_relation.specs.declared.Cause.{Cause}
+use Rattle.step_relation.specs.declared.Entry.{Entry}
+use Rattle.step_relation.specs.declared.MailWrite.{MailWrite}
+use Rattle.step_relation.specs.declared.MailWrite.TheVariants.{Ended, Sent}
+use Rattle.step_relation.specs.declared.RowWrite.{RowWrite}
+use Rattle.step_relation.specs.declared.RowWrite.TheVariants.{Set}
+use Rattle.step_relation.specs.declared.What.{What}
+use Rattle.step_relation.specs.declared.Stack.{Stack}
 use Rattle.step_relation.specs.Asks.{cause_at, fault_of}
 use Rattle.step_relation.specs.Commands.{Lays, Sets, first_letters, laid_entries, settled_mark}
 use Rattle.step_relation.specs.Finishes.{ready_letters}
@@ -34,7 +34,7 @@ use Rattle.step_relation.specs.Turns.{Turn, plain, rolls}
 use Rattle.step_relation.specs.Writes.{failed_mark, lock_writes, mail_entry, rows_entry, unlock_writes}
 use Rattle.history_laws.proofs.tables.Puts.{all_append, contains_cases, contains_head, contains_none, contains_there}
 use Rattle.history_laws.specs.leaves.Closings.{ClosedOnce, RunsCloseOnce}
-use Rattle.core_state.specs.declared.entry.What.TheVariants as what
+use Rattle.step_relation.specs.declared.What.TheVariants as what
 
 -- anything but that the input is closed
 abbrev IsOpen : What → Type 0

@@ -7,13 +7,13 @@ use Rattle.row_table.specs.declared.row.Row.{Row}
 use Rattle.mail_table.specs.Mails.{job_at, letter_at}
 use Rattle.mail_table.specs.declared.mail.Job.{Job}
 use Rattle.mail_table.specs.declared.mail.Letter.{Letter}
-use Rattle.core_state.specs.Changes.{applied}
-use Rattle.core_state.specs.State.{StateData, graph_at, past_at, stack_at}
-use Rattle.core_state.specs.declared.change.Change.{Change}
-use Rattle.core_state.specs.declared.change.Change.TheVariants.{Enlist, Stop}
-use Rattle.core_state.specs.declared.entry.Actor.TheVariants.{Engine, Main}
-use Rattle.core_state.specs.declared.entry.Entry.{Entry}
-use Rattle.core_state.specs.declared.entry.What.{What}
+use Rattle.step_relation.specs.Changes.{applied}
+use Rattle.step_relation.specs.State.{StateData, graph_at, past_at, stack_at}
+use Rattle.step_relation.specs.declared.Change.{Change}
+use Rattle.step_relation.specs.declared.Change.TheVariants.{Enlist, Stop}
+use Rattle.step_relation.specs.declared.Actor.TheVariants.{Engine, Main}
+use Rattle.step_relation.specs.declared.Entry.{Entry}
+use Rattle.step_relation.specs.declared.What.{What}
 use Rattle.step_relation.specs.Given.{Answer, Given}
 use Rattle.step_relation.specs.Orders.{Command, cancel, create, create_sets, delete, delete_sets, plan_back}
 use Rattle.step_relation.specs.Orders.{rollback_sets, update, update_sets}

@@ -5,7 +5,7 @@ use Rattle.std.specs.Str.{bytes_eq}
 use Rattle.std.proofs.lemmas.Slice.Eq.{bytes_eq-Decides}
 use Rattle.heat_value.specs.Data.{Members}
 use Rattle.heat_plan.specs.declared.item.Item.{Item}
-use Rattle.core_state.specs.Reads.{item_at}
+use Rattle.step_relation.specs.Reads.{item_at}
 use Rattle.step_relation.specs.GraphFits.{TargetFits}
 use Rattle.heat_plan.specs.declared.facts.Facts.{Facts}
 use Rattle.row_table.specs.Chains.{IsCurrent}
@@ -13,14 +13,14 @@ use Rattle.row_table.specs.Rows.{put_row, row_at}
 use Rattle.row_table.specs.declared.row.Row.{Row}
 use Rattle.mail_table.specs.Mails.{job_at}
 use Rattle.mail_table.specs.declared.mail.Job.{Job}
-use Rattle.core_state.specs.Changes.{applied}
-use Rattle.core_state.specs.State.{StateData, stack_at}
-use Rattle.core_state.specs.declared.stack.Stack.{Stack}
+use Rattle.step_relation.specs.Changes.{applied}
+use Rattle.step_relation.specs.State.{StateData, stack_at}
+use Rattle.step_relation.specs.declared.Stack.{Stack}
 use Rattle.step_relation.specs.Begins.{Begins, left_changes, moved_job, next_row, past_row, replaced_changes}
 use Rattle.step_relation.specs.Freshness.{plan_of}
 use Rattle.step_relation.specs.Rows.{created_row, deleted_row, ready_row, replaced, same_row, unlocked, updated_row}
 use Rattle.step_relation.specs.Writes.{mark_failed}
-use Rattle.core_state.specs.Applies.{NoneFalls}
+use Rattle.step_relation.specs.Applies.{NoneFalls}
 use Rattle.step_relation.specs.Linked.{IsOf, Links, Owned}
 use Rattle.step_relation.specs.Numbered.{AllBelow}
 use Rattle.step_relation.specs.Sound.{Standing}

@@ -4,20 +4,20 @@ use Rattle.std.proofs.Common.{◌++◌, map, refl, ap, subst, arith}
 use Rattle.std.specs.Prelude.{Contains, filter, nat_eq, not}
 use Rattle.std.proofs.lemmas.List.Elements.{Contains-append_cases}
 use Rattle.std.proofs.lemmas.List.Kept.{AllPairs-filter}
-use Rattle.core_state.specs.Changes.{applied, apply}
-use Rattle.core_state.specs.State.{StateData}
-use Rattle.core_state.specs.declared.change.Change.{Change}
-use Rattle.core_state.specs.declared.change.Change.TheVariants.{Enlist, Stop}
-use Rattle.core_state.specs.declared.numbers.Numbers.{Numbers}
+use Rattle.step_relation.specs.Changes.{applied, apply}
+use Rattle.step_relation.specs.State.{StateData}
+use Rattle.step_relation.specs.declared.Change.{Change}
+use Rattle.step_relation.specs.declared.Change.TheVariants.{Enlist, Stop}
+use Rattle.step_relation.specs.declared.Numbers.{Numbers}
 use Rattle.step_relation.specs.Steps.{engines_from, past_engines, restart_changes}
-use Rattle.core_state.specs.Applies.{NoneFalls}
+use Rattle.step_relation.specs.Applies.{NoneFalls}
 use Rattle.step_relation.specs.Groups.{KeptByEngines}
 use Rattle.step_relation.specs.Linked.{Links}
 use Rattle.step_relation.specs.Numbered.{AllBelow, EachOnce}
 use Rattle.history_laws.proofs.links.Numbers.{Numbered-Enlist}
 use Rattle.history_laws.proofs.links.Single.{Links-Numbers}
 use Rattle.history_laws.proofs.tables.Puts.{contains_cases, contains_head, contains_there}
-use Rattle.core_state.specs.declared.change.Change.TheVariants as change_to
+use Rattle.step_relation.specs.declared.Change.TheVariants as change_to
 
 filter_less : (test : ℕ → Bool) (xs : List ℕ) (x : ℕ) → Contains (filter test xs) x → Contains xs x
 filter_less test [] x has = has

@@ -13,13 +13,13 @@ use Rattle.row_table.specs.declared.row.Row.{Row}
 use Rattle.mail_table.specs.Mails.{job_at}
 use Rattle.mail_table.specs.declared.mail.Job.{Job}
 use Rattle.mail_table.specs.declared.mail.Letter.{Letter}
-use Rattle.core_state.specs.Changes.{applied}
-use Rattle.core_state.specs.State.{StateData}
-use Rattle.core_state.specs.declared.change.Change.{Change}
-use Rattle.core_state.specs.declared.change.Change.TheVariants.{EndJob, PutPoint, PutRow, Send}
-use Rattle.core_state.specs.declared.graph.Graph.{Graph}
-use Rattle.core_state.specs.declared.numbers.Numbers.{Numbers}
-use Rattle.core_state.specs.declared.stack.Stack.{Stack}
+use Rattle.step_relation.specs.Changes.{applied}
+use Rattle.step_relation.specs.State.{StateData}
+use Rattle.step_relation.specs.declared.Change.{Change}
+use Rattle.step_relation.specs.declared.Change.TheVariants.{EndJob, PutPoint, PutRow, Send}
+use Rattle.step_relation.specs.declared.Graph.{Graph}
+use Rattle.step_relation.specs.declared.Numbers.{Numbers}
+use Rattle.step_relation.specs.declared.Stack.{Stack}
 use Rattle.step_relation.specs.Asks.{Falls, failed_changes, marked, marks, overrun}
 use Rattle.step_relation.specs.Finishes.{Finishes, finished_changes, given_input, graph_then, ready_letters}
 use Rattle.step_relation.specs.Freshness.{plan_of}
@@ -27,7 +27,7 @@ use Rattle.step_relation.specs.Inputs.{AllDone, input_of, passed_points}
 use Rattle.step_relation.specs.Rows.{failed_row}
 use Rattle.step_relation.specs.Targets.{IsTarget}
 use Rattle.step_relation.specs.Writes.{letters_to, mark_failed, unlock}
-use Rattle.core_state.specs.Applies.{NoneFalls}
+use Rattle.step_relation.specs.Applies.{NoneFalls}
 use Rattle.step_relation.specs.GraphFits.{GraphFits, IsNode}
 use Rattle.step_relation.specs.Linked.{Links}
 use Rattle.step_relation.specs.MailFits.{JobFits}

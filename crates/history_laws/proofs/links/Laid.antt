@@ -12,14 +12,14 @@ use Rattle.traversal_graph.specs.declared.brief.RowBrief.{RowBrief}
 use Rattle.traversal_graph.specs.declared.shape.Node.{Node}
 use Rattle.row_table.specs.Rows.{row_at}
 use Rattle.row_table.specs.declared.row.Row.{Row}
-use Rattle.core_state.specs.Changes.{applied, apply}
-use Rattle.core_state.specs.State.{StateData, stack_at, stack_key}
-use Rattle.core_state.specs.declared.change.Change.TheVariants.{PutGraph, PutPast, PutStack, Send}
-use Rattle.core_state.specs.declared.numbers.Numbers.{Numbers}
-use Rattle.core_state.specs.declared.stack.Stack.{Stack}
+use Rattle.step_relation.specs.Changes.{applied, apply}
+use Rattle.step_relation.specs.State.{StateData, stack_at, stack_key}
+use Rattle.step_relation.specs.declared.Change.TheVariants.{PutGraph, PutPast, PutStack, Send}
+use Rattle.step_relation.specs.declared.Numbers.{Numbers}
+use Rattle.step_relation.specs.declared.Stack.{Stack}
 use Rattle.step_relation.specs.Commands.{Chooses, Lays, Sets, brief_of, current, first_letters, fresh, laid_changes}
 use Rattle.step_relation.specs.Commands.{none, past_command, settles_at_once, stack_set}
-use Rattle.core_state.specs.Applies.{NoneFalls}
+use Rattle.step_relation.specs.Applies.{NoneFalls}
 use Rattle.step_relation.specs.Groups.{IsOrdered, KeptByCommands, creates, deletes, rolls_back, updates}
 use Rattle.step_relation.specs.Linked.{IsOf, Links, by_row}
 use Rattle.step_relation.specs.Numbered.{Numbered, StackBelow, row_of}
@@ -32,7 +32,7 @@ use Rattle.history_laws.proofs.tables.Ordered.{ordered_delete, ordered_plan}
 use Rattle.history_laws.proofs.tables.Puts.{contains_none, laid_nodes_own, put_rows, rows_first}
 use Rattle.history_laws.proofs.tables.Rows.{row-key, stack_here}
 use Rattle.history_laws.proofs.tables.Tables.{some_put}
-use Rattle.core_state.specs.declared.change.Change.TheVariants as change_to
+use Rattle.step_relation.specs.declared.Change.TheVariants as change_to
 
 -- a command's stack is below the next numbers behind it
 ordered_number : (s : StateData) → Standing s → (name : List ℕ) (items : List Item) (it : Sets)

@@ -10,7 +10,7 @@ use Rattle.row_table.specs.Rows.{put_row, row_at}
 use Rattle.row_table.specs.declared.row.Row.{Row}
 use Rattle.mail_table.specs.Mails.{job_at}
 use Rattle.mail_table.specs.declared.mail.Job.{Job}
-use Rattle.core_state.specs.State.{StateData, stack_at}
+use Rattle.step_relation.specs.State.{StateData, stack_at}
 use Rattle.step_relation.specs.Commands.{Chooses, current, fresh, none}
 use Rattle.step_relation.specs.Rows.{new_row}
 use Rattle.step_relation.specs.Targets.{HasNoCurrent}

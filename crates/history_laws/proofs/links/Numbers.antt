@@ -18,24 +18,24 @@ use Rattle.sync_points.specs.declared.point.Point.{Point}
 use Rattle.mail_table.specs.Mails.{job_key, letter_key}
 use Rattle.mail_table.specs.declared.mail.Job.{Job}
 use Rattle.mail_table.specs.declared.mail.Letter.{Letter}
-use Rattle.core_state.specs.Changes.{apply, fresh_graph, with_point}
-use Rattle.core_state.specs.Graphs.{fresh_points}
-use Rattle.core_state.specs.State.{StateData, graph_at, graph_key, stack_at, stack_key}
-use Rattle.core_state.specs.declared.change.Change.TheVariants.{Drop, DropRow, DropStack, EndJob, Enlist, PutGraph}
-use Rattle.core_state.specs.declared.change.Change.TheVariants.{PutJob, PutPast, PutPoint, PutRow, PutStack, Release}
-use Rattle.core_state.specs.declared.change.Change.TheVariants.{Send, Stop}
-use Rattle.core_state.specs.declared.graph.Graph.{Graph}
-use Rattle.core_state.specs.declared.numbers.Numbers.{Numbers}
-use Rattle.core_state.specs.declared.past.Past.{Past}
-use Rattle.core_state.specs.declared.stack.Stack.{Stack}
-use Rattle.core_state.specs.Applies.{NoneFalls}
+use Rattle.step_relation.specs.Changes.{apply, fresh_graph, with_point}
+use Rattle.step_relation.specs.Graphs.{fresh_points}
+use Rattle.step_relation.specs.State.{StateData, graph_at, graph_key, stack_at, stack_key}
+use Rattle.step_relation.specs.declared.Change.TheVariants.{Drop, DropRow, DropStack, EndJob, Enlist, PutGraph}
+use Rattle.step_relation.specs.declared.Change.TheVariants.{PutJob, PutPast, PutPoint, PutRow, PutStack, Release}
+use Rattle.step_relation.specs.declared.Change.TheVariants.{Send, Stop}
+use Rattle.step_relation.specs.declared.Graph.{Graph}
+use Rattle.step_relation.specs.declared.Numbers.{Numbers}
+use Rattle.step_relation.specs.declared.Past.{Past}
+use Rattle.step_relation.specs.declared.Stack.{Stack}
+use Rattle.step_relation.specs.Applies.{NoneFalls}
 use Rattle.step_relation.specs.Numbered.{AllBelow, BelowIfThere, EachOnce, GraphBelow, JobBelow, LetterBelow, Numbered}
 use Rattle.step_relation.specs.Numbered.{RowBelow, StackBelow, row_of}
 use Rattle.history_laws.proofs.tables.Frame.{only_one}
 use Rattle.history_laws.proofs.tables.Points.{point_found}
 use Rattle.history_laws.proofs.tables.Rows.{graph_cut, row_cut, stack_cut, stack_kept}
 use Rattle.history_laws.proofs.tables.Tables.{Each-cut, Each-put, set_found, some_put}
-use Rattle.core_state.specs.declared.change.Change.TheVariants as change_to
+use Rattle.step_relation.specs.declared.Change.TheVariants as change_to
 
 abbrev pub RowFor : Numbers → Row → Type 0
 RowFor next r = RowBelow next.row next.trav next.engine r

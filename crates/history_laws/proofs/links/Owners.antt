@@ -8,9 +8,9 @@ use Rattle.row_table.specs.declared.row.Row.{Row}
 use Rattle.sync_points.specs.declared.point.Point.{Point}
 use Rattle.mail_table.specs.Mails.{cut_job, put_job}
 use Rattle.mail_table.specs.declared.mail.Job.{Job}
-use Rattle.core_state.specs.Changes.{fresh_graph, put_point, with_point}
-use Rattle.core_state.specs.State.{cut_graph, graph_at, put_graph}
-use Rattle.core_state.specs.declared.graph.Graph.{Graph}
+use Rattle.step_relation.specs.Changes.{fresh_graph, put_point, with_point}
+use Rattle.step_relation.specs.State.{cut_graph, graph_at, put_graph}
+use Rattle.step_relation.specs.declared.Graph.{Graph}
 use Rattle.step_relation.specs.Linked.{IsOf, Owned, by_job, by_node, by_row}
 use Rattle.step_relation.specs.Numbered.{row_of}
 use Rattle.history_laws.proofs.tables.Points.{point_found}

@@ -7,9 +7,9 @@ use Rattle.std.proofs.lemmas.Bool.Decides.{eqb_tells}
 use Rattle.std.proofs.lemmas.List.Elements.{Contains-append_cases}
 use Rattle.sync_points.specs.declared.point.Input.{Input}
 use Rattle.sync_points.specs.declared.point.Point.{Point}
-use Rattle.core_state.specs.Changes.{with_point}
-use Rattle.core_state.specs.Reads.{IsDone}
-use Rattle.core_state.specs.declared.graph.Graph.{Graph}
+use Rattle.step_relation.specs.Changes.{with_point}
+use Rattle.step_relation.specs.Reads.{IsDone}
+use Rattle.step_relation.specs.declared.Graph.{Graph}
 use Rattle.step_relation.specs.Inputs.{gathered, has_from, is_among, passed, passed_points, point_after, point_at}
 use Rattle.step_relation.specs.Inputs.{with_points}
 use Rattle.step_relation.specs.Numbered.{GraphBelow}

@@ -3,7 +3,7 @@ use Rattle.std.proofs.Common.{◌≡◌, ◌≢◌, ◌<◌, ◌≤◌, inl, inr
 use Rattle.row_table.specs.Chains.{IsCurrent}
 use Rattle.row_table.specs.Rows.{put_row, row_at}
 use Rattle.row_table.specs.declared.row.Row.{Row}
-use Rattle.core_state.specs.declared.numbers.Numbers.{Numbers}
+use Rattle.step_relation.specs.declared.Numbers.{Numbers}
 use Rattle.step_relation.specs.Linked.{Chained, IsReplacedBy, OneCurrent}
 use Rattle.step_relation.specs.Numbered.{RowBelow}
 use Rattle.history_laws.proofs.tables.Rows.{row-key, row_put}

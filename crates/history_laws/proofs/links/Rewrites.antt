@@ -6,9 +6,9 @@ use Rattle.row_table.specs.declared.row.Row.{Row}
 use Rattle.mail_table.specs.Mails.{job_at, put_job}
 use Rattle.mail_table.specs.declared.mail.Job.{Job}
 use Rattle.mail_table.specs.declared.mail.Stage.{Stage}
-use Rattle.core_state.specs.Changes.{applied, apply}
-use Rattle.core_state.specs.State.{StateData}
-use Rattle.core_state.specs.declared.change.Change.TheVariants.{DropRow, EndJob, PutJob, PutRow}
+use Rattle.step_relation.specs.Changes.{applied, apply}
+use Rattle.step_relation.specs.State.{StateData}
+use Rattle.step_relation.specs.declared.Change.TheVariants.{DropRow, EndJob, PutJob, PutRow}
 use Rattle.step_relation.specs.Rows.{failed_row, locked, unlocked}
 use Rattle.step_relation.specs.Writes.{unlock, with_stage}
 use Rattle.step_relation.specs.Linked.{Chained, Links, OneCurrent, Owned, by_job}

@@ -12,16 +12,16 @@ use Rattle.row_table.specs.Rows.{put_row, row_at}
 use Rattle.row_table.specs.declared.row.Row.{Row}
 use Rattle.sync_points.specs.declared.point.Point.{Point}
 use Rattle.mail_table.specs.declared.mail.Letter.{Letter}
-use Rattle.core_state.specs.Changes.{applied, apply}
-use Rattle.core_state.specs.State.{StateData}
-use Rattle.core_state.specs.declared.change.Change.{Change}
-use Rattle.core_state.specs.declared.change.Change.TheVariants.{Drop, DropStack, PutPast, PutPoint, PutStack, Release}
-use Rattle.core_state.specs.declared.change.Change.TheVariants.{Send}
-use Rattle.core_state.specs.declared.numbers.Numbers.{Numbers}
-use Rattle.core_state.specs.declared.past.Past.{Past}
-use Rattle.core_state.specs.declared.stack.Stack.{Stack}
+use Rattle.step_relation.specs.Changes.{applied, apply}
+use Rattle.step_relation.specs.State.{StateData}
+use Rattle.step_relation.specs.declared.Change.{Change}
+use Rattle.step_relation.specs.declared.Change.TheVariants.{Drop, DropStack, PutPast, PutPoint, PutStack, Release}
+use Rattle.step_relation.specs.declared.Change.TheVariants.{Send}
+use Rattle.step_relation.specs.declared.Numbers.{Numbers}
+use Rattle.step_relation.specs.declared.Past.{Past}
+use Rattle.step_relation.specs.declared.Stack.{Stack}
 use Rattle.step_relation.specs.Writes.{draw_letters, letters_to, mark_complete, mark_failed, past_letters}
-use Rattle.core_state.specs.Applies.{NoneFalls}
+use Rattle.step_relation.specs.Applies.{NoneFalls}
 use Rattle.step_relation.specs.Linked.{Links}
 use Rattle.step_relation.specs.Numbered.{StackBelow}
 use Rattle.history_laws.proofs.links.Numbers.{LetterFor, Numbered-Drop, Numbered-DropStack, Numbered-Numbers, Numbered-PutPast}
@@ -29,7 +29,7 @@ use Rattle.history_laws.proofs.links.Numbers.{Numbered-PutPoint, Numbered-PutSta
 use Rattle.history_laws.proofs.links.Owners.{IsOf-cut_graph, IsOf-point, Owned-less}
 use Rattle.history_laws.proofs.tables.Frame.{NoneFalls-same}
 use Rattle.history_laws.proofs.tables.Rows.{row_put}
-use Rattle.core_state.specs.declared.change.Change.TheVariants as change_to
+use Rattle.step_relation.specs.declared.Change.TheVariants as change_to
 
 pub Links-Numbers : (s : StateData) (next : Numbers) → NoneFalls s.next next → Links s → Links
     (apply (change_to.Numbers next) s)

@@ -10,17 +10,17 @@ use Rattle.mail_table.specs.Mails.{cut_job, job_at}
 use Rattle.mail_table.specs.declared.mail.Job.{Job}
 use Rattle.mail_table.specs.declared.mail.Letter.{Letter}
 use Rattle.mail_table.specs.declared.mail.Stage.TheVariants.{Taken}
-use Rattle.core_state.specs.Changes.{applied, apply}
-use Rattle.core_state.specs.State.{StateData}
-use Rattle.core_state.specs.declared.change.Change.{Change}
-use Rattle.core_state.specs.declared.change.Change.TheVariants.{Drop, EndJob, PutJob, PutRow, Send}
-use Rattle.core_state.specs.declared.numbers.Numbers.{Numbers}
+use Rattle.step_relation.specs.Changes.{applied, apply}
+use Rattle.step_relation.specs.State.{StateData}
+use Rattle.step_relation.specs.declared.Change.{Change}
+use Rattle.step_relation.specs.declared.Change.TheVariants.{Drop, EndJob, PutJob, PutRow, Send}
+use Rattle.step_relation.specs.declared.Numbers.{Numbers}
 use Rattle.step_relation.specs.Nexts.{TakesNext}
 use Rattle.step_relation.specs.Resends.{Resends, cleanup, nobody, update}
 use Rattle.step_relation.specs.Rows.{locked, unlocked}
 use Rattle.step_relation.specs.Takes.{HasNoHolder, released_changes}
 use Rattle.step_relation.specs.Writes.{job_of, lock, unlock}
-use Rattle.core_state.specs.Applies.{NoneFalls}
+use Rattle.step_relation.specs.Applies.{NoneFalls}
 use Rattle.step_relation.specs.Linked.{IsOf, Links, by_row}
 use Rattle.history_laws.proofs.links.Locks.{Locked-hold, Locked-lock, Locked-steal, Locked-steal_gone}
 use Rattle.history_laws.proofs.links.Numbers.{JobFor, LetterFor, Numbered-Drop, Numbered-EndJob, Numbered-PutJob}

@@ -5,15 +5,15 @@ use Rattle.row_table.specs.Rows.{row_at}
 use Rattle.row_table.specs.declared.row.Row.{Row}
 use Rattle.sync_points.specs.declared.point.Point.{Point}
 use Rattle.mail_table.specs.declared.mail.Letter.{Letter}
-use Rattle.core_state.specs.Changes.{applied, apply}
-use Rattle.core_state.specs.State.{StateData}
-use Rattle.core_state.specs.declared.change.Change.{Change}
-use Rattle.core_state.specs.declared.change.Change.TheVariants.{PutPoint, Send}
-use Rattle.core_state.specs.declared.numbers.Numbers.{Numbers}
-use Rattle.core_state.specs.declared.stack.Stack.{Stack}
+use Rattle.step_relation.specs.Changes.{applied, apply}
+use Rattle.step_relation.specs.State.{StateData}
+use Rattle.step_relation.specs.declared.Change.{Change}
+use Rattle.step_relation.specs.declared.Change.TheVariants.{PutPoint, Send}
+use Rattle.step_relation.specs.declared.Numbers.{Numbers}
+use Rattle.step_relation.specs.declared.Stack.{Stack}
 use Rattle.step_relation.specs.Writes.{draw_letters, mark_failed}
 use Rattle.history_laws.proofs.tables.Rows.{row_cut, row_put}
-use Rattle.core_state.specs.declared.change.Change.TheVariants as change_to
+use Rattle.step_relation.specs.declared.Change.TheVariants as change_to
 
 -- the change writes no row, or one that is fine
 abbrev pub IsFine : (Row → Type 0) → Change → Type 0

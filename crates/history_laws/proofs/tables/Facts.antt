@@ -9,9 +9,9 @@ use Rattle.row_table.specs.declared.row.Row.{Row}
 use Rattle.mail_table.specs.Mails.{job_at}
 use Rattle.mail_table.specs.declared.mail.Job.{Job}
 use Rattle.mail_table.specs.declared.mail.Letter.{Letter}
-use Rattle.core_state.specs.State.{StateData, graph_at}
-use Rattle.core_state.specs.declared.graph.Graph.{Graph}
-use Rattle.core_state.specs.declared.stack.Stack.{Stack}
+use Rattle.step_relation.specs.State.{StateData, graph_at}
+use Rattle.step_relation.specs.declared.Graph.{Graph}
+use Rattle.step_relation.specs.declared.Stack.{Stack}
 use Rattle.step_relation.specs.Freshness.{Names}
 use Rattle.step_relation.specs.Targets.{IsTarget, of_c, of_u, renewed}
 use Rattle.step_relation.specs.GraphFits.{GraphFits, IsNode, TargetFits, TargetsFit, graph_of, graph_or}

@@ -12,22 +12,22 @@ use Rattle.sync_points.specs.declared.point.Point.{Point}
 use Rattle.mail_table.specs.Mails.{job_at, letter_at}
 use Rattle.mail_table.specs.declared.mail.Job.{Job}
 use Rattle.mail_table.specs.declared.mail.Letter.{Letter}
-use Rattle.core_state.specs.Applies.{NoneFalls}
-use Rattle.core_state.specs.Changes.{applied, apply, fresh_graph}
-use Rattle.core_state.specs.State.{StateData}
-use Rattle.core_state.specs.declared.change.Change.{Change}
-use Rattle.core_state.specs.declared.change.Change.TheVariants.{Drop, DropRow, DropStack, EndJob, Enlist, PutGraph}
-use Rattle.core_state.specs.declared.change.Change.TheVariants.{PutJob, PutPast, PutPoint, PutRow, PutStack, Release}
-use Rattle.core_state.specs.declared.change.Change.TheVariants.{Send, Stop}
-use Rattle.core_state.specs.declared.numbers.Numbers.{Numbers}
-use Rattle.core_state.specs.declared.past.Past.{Past}
-use Rattle.core_state.specs.declared.stack.Stack.{Stack}
+use Rattle.step_relation.specs.Applies.{NoneFalls}
+use Rattle.step_relation.specs.Changes.{applied, apply, fresh_graph}
+use Rattle.step_relation.specs.State.{StateData}
+use Rattle.step_relation.specs.declared.Change.{Change}
+use Rattle.step_relation.specs.declared.Change.TheVariants.{Drop, DropRow, DropStack, EndJob, Enlist, PutGraph}
+use Rattle.step_relation.specs.declared.Change.TheVariants.{PutJob, PutPast, PutPoint, PutRow, PutStack, Release}
+use Rattle.step_relation.specs.declared.Change.TheVariants.{Send, Stop}
+use Rattle.step_relation.specs.declared.Numbers.{Numbers}
+use Rattle.step_relation.specs.declared.Past.{Past}
+use Rattle.step_relation.specs.declared.Stack.{Stack}
 use Rattle.step_relation.specs.Elsewhere.{Elsewhere}
 use Rattle.history_laws.proofs.tables.Points.{point_else}
 use Rattle.history_laws.proofs.tables.Rows.{graph_else, graph_kept, job_cut, job_else, job_kept, job_put, letter_cut}
 use Rattle.history_laws.proofs.tables.Rows.{letter_else, letter_kept, letter_put, past_else, past_kept, row_cut, row_else}
 use Rattle.history_laws.proofs.tables.Rows.{row_kept, row_put, stack_else, stack_kept}
-use Rattle.core_state.specs.declared.change.Change.TheVariants as change_to
+use Rattle.step_relation.specs.declared.Change.TheVariants as change_to
 
 pub NoneFalls-same : (a : Numbers) → NoneFalls a a
 NoneFalls-same a = record {

@@ -11,10 +11,10 @@ use Rattle.traversal_graph.specs.declared.shape.Node.TheVariants.{C, U}
 use Rattle.row_table.specs.Rows.{row_at}
 use Rattle.mail_table.specs.Mails.{job_at}
 use Rattle.mail_table.specs.declared.mail.Job.{Job}
-use Rattle.core_state.specs.Reads.{item_at}
-use Rattle.core_state.specs.State.{StateData}
-use Rattle.core_state.specs.declared.graph.Graph.{Graph}
-use Rattle.core_state.specs.declared.stack.Stack.{Stack}
+use Rattle.step_relation.specs.Reads.{item_at}
+use Rattle.step_relation.specs.State.{StateData}
+use Rattle.step_relation.specs.declared.Graph.{Graph}
+use Rattle.step_relation.specs.declared.Stack.{Stack}
 use Rattle.step_relation.specs.Freshness.{IsFresh, IsOverrun, Names, cleans, plan_of, updates}
 use Rattle.step_relation.specs.MailFits.{IsNewest, JobFits}
 use Rattle.step_relation.specs.Sound.{Standing}

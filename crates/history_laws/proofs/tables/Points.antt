@@ -4,9 +4,9 @@ use Rattle.std.specs.Str.{bytes_eq}
 use Rattle.std.proofs.lemmas.Slice.Eq.{bytes_eq-Decides}
 use Rattle.heat_plan.specs.Tables.{at}
 use Rattle.sync_points.specs.declared.point.Point.{Point}
-use Rattle.core_state.specs.Changes.{put_point, with_point}
-use Rattle.core_state.specs.State.{graph_at, graph_key}
-use Rattle.core_state.specs.declared.graph.Graph.{Graph}
+use Rattle.step_relation.specs.Changes.{put_point, with_point}
+use Rattle.step_relation.specs.State.{graph_at, graph_key}
+use Rattle.step_relation.specs.declared.Graph.{Graph}
 use Rattle.history_laws.proofs.tables.Tables.{cases}
 
 pub point_here : (p : Point) (gs : List Graph) (g : Graph) → graph_at gs p.stack ≡ Some g

@@ -18,10 +18,10 @@ use Rattle.traversal_graph.specs.declared.brief.RowBrief.{RowBrief}
 use Rattle.traversal_graph.specs.declared.shape.Node.{Node}
 use Rattle.row_table.specs.Rows.{put_row, row_at}
 use Rattle.row_table.specs.declared.row.Row.{Row}
-use Rattle.core_state.specs.Changes.{applied, apply}
-use Rattle.core_state.specs.State.{StateData}
-use Rattle.core_state.specs.declared.change.Change.{Change}
-use Rattle.core_state.specs.declared.change.Change.TheVariants.{PutRow}
+use Rattle.step_relation.specs.Changes.{applied, apply}
+use Rattle.step_relation.specs.State.{StateData}
+use Rattle.step_relation.specs.declared.Change.{Change}
+use Rattle.step_relation.specs.declared.Change.TheVariants.{PutRow}
 use Rattle.step_relation.specs.Commands.{Chooses, Lays, brief_of, current, fresh, none}
 use Rattle.step_relation.specs.Rows.{new_row}
 use Rattle.step_relation.specs.Numbered.{row_of}

@@ -9,11 +9,11 @@ use Rattle.row_table.specs.declared.row.Row.{Row}
 use Rattle.mail_table.specs.Mails.{cut_job, cut_letter, job_at, job_key, letter_at, letter_key, put_job, put_letter}
 use Rattle.mail_table.specs.declared.mail.Job.{Job}
 use Rattle.mail_table.specs.declared.mail.Letter.{Letter}
-use Rattle.core_state.specs.State.{cut_graph, cut_past, cut_stack, graph_at, graph_key, past_at, past_key, put_graph}
-use Rattle.core_state.specs.State.{put_past, put_stack, stack_at, stack_key}
-use Rattle.core_state.specs.declared.graph.Graph.{Graph}
-use Rattle.core_state.specs.declared.past.Past.{Past}
-use Rattle.core_state.specs.declared.stack.Stack.{Stack}
+use Rattle.step_relation.specs.State.{cut_graph, cut_past, cut_stack, graph_at, graph_key, past_at, past_key, put_graph}
+use Rattle.step_relation.specs.State.{put_past, put_stack, stack_at, stack_key}
+use Rattle.step_relation.specs.declared.Graph.{Graph}
+use Rattle.step_relation.specs.declared.Past.{Past}
+use Rattle.step_relation.specs.declared.Stack.{Stack}
 use Rattle.history_laws.proofs.tables.Tables.{at-cut_other, at-cut_same, at-key, at-put_other, at-put_same, cases, cut_found}
 use Rattle.history_laws.proofs.tables.Tables.{put_found}
 

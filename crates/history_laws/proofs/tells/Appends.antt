@@ -4,8 +4,8 @@ use Rattle.std.specs.Prelude.{Bool, List, Option, [], fold, option_map, ℕ, ◌
 use Rattle.heat_plan.specs.declared.token.Token.{Token}
 use Rattle.provider.specs.Table.{TokenState}
 use Rattle.row_table.specs.declared.row.Row.{Row}
-use Rattle.core_state.specs.State.{stack_at}
-use Rattle.core_state.specs.declared.entry.Entry.{Entry}
+use Rattle.step_relation.specs.State.{stack_at}
+use Rattle.step_relation.specs.declared.Entry.{Entry}
 use Rattle.step_relation.specs.Orders.{past_of}
 use Rattle.step_relation.specs.Could.{could_by, could_of}
 use Rattle.step_relation.specs.Marked.{Marked, marked_by, marked_of, marked_stack}

@@ -7,12 +7,12 @@ use Rattle.std.specs.Prelude.{Bool, List, None, Option, Some, [], bytes_eq, fals
 use Rattle.heat_plan.specs.Plans.{PlanData}
 use Rattle.heat_plan.specs.declared.phase.Act.{Act}
 use Rattle.provider.proofs.Sames.{not_true}
-use Rattle.core_state.specs.State.{StateData, past_at}
-use Rattle.core_state.specs.declared.entry.Actor.{Actor}
-use Rattle.core_state.specs.declared.entry.Cause.{Cause}
-use Rattle.core_state.specs.declared.entry.Entry.{Entry}
-use Rattle.core_state.specs.declared.past.Past.{Past}
-use Rattle.core_state.specs.declared.stack.Stack.{Stack}
+use Rattle.step_relation.specs.State.{StateData, past_at}
+use Rattle.step_relation.specs.declared.Actor.{Actor}
+use Rattle.step_relation.specs.declared.Cause.{Cause}
+use Rattle.step_relation.specs.declared.Entry.{Entry}
+use Rattle.step_relation.specs.declared.Past.{Past}
+use Rattle.step_relation.specs.declared.Stack.{Stack}
 use Rattle.step_relation.specs.Freshness.{plan_of}
 use Rattle.step_relation.specs.Orders.{back_after, past_of, past_or}
 use Rattle.step_relation.specs.Writes.{entry_of}
@@ -24,7 +24,7 @@ use Rattle.history_laws.specs.tables.Below.{IsGone, never, TellsStack, deleted}
 use Rattle.history_laws.proofs.tells.Appends.{marked-append, marked_on, newest-append, newest_on, rollback-append, rollback_on}
 use Rattle.history_laws.proofs.tells.Lasts.{IsPassing, last_kept, passing_more, passing_silent}
 use Rattle.history_laws.proofs.tells.Silence.{AreUnmarking, marked_on-silent, newest_on-silent, rollback_on-silent}
-use Rattle.core_state.specs.declared.entry.What.TheVariants as what
+use Rattle.step_relation.specs.declared.What.TheVariants as what
 
 -- the entries change no reading of the stack
 pub record IsBeside (name : List ℕ) (es : List Entry) : Type 0 where

@@ -4,9 +4,9 @@ use Rattle.std.proofs.lemmas.List.Elements.{Contains-append_cases, Contains-appe
 use Rattle.std.specs.Prelude.{Contains, List, Some, [], ℕ, ◌++◌, ◌∷◌, ◌≡◌, ◌≢◌, ◌⊎◌}
 use Rattle.heat_plan.specs.Plans.{PlanData}
 use Rattle.heat_plan.specs.declared.phase.Act.TheVariants.{Create}
-use Rattle.core_state.specs.State.{stack_at}
-use Rattle.core_state.specs.declared.entry.Entry.{Entry}
-use Rattle.core_state.specs.declared.stack.Stack.{Stack}
+use Rattle.step_relation.specs.State.{stack_at}
+use Rattle.step_relation.specs.declared.Entry.{Entry}
+use Rattle.step_relation.specs.declared.Stack.{Stack}
 use Rattle.step_relation.specs.Last.{HasCreate, IsCommandOf, IsCompleted, IsCompletion, IsLast, IsNeverReached, IsReached}
 use Rattle.step_relation.specs.Last.{WasReached, at_first, created, kept, opened, reached, since}
 use Rattle.step_relation.specs.Newest.{Latest}

@@ -8,12 +8,12 @@ use Rattle.heat_plan.specs.declared.phase.Act.{Act}
 use Rattle.heat_plan.specs.declared.phase.Act.TheVariants.{Create, Delete, Init, Rollback, Update}
 use Rattle.heat_plan.specs.declared.phase.Status.{Status}
 use Rattle.heat_plan.specs.declared.phase.Status.TheVariants.{Complete, Failed, InProgress}
-use Rattle.core_state.specs.State.{StateData, cut_past, cut_stack, past_at, put_stack, stack_at}
-use Rattle.core_state.specs.declared.entry.Actor.{Actor}
-use Rattle.core_state.specs.declared.entry.Cause.{Cause}
-use Rattle.core_state.specs.declared.entry.Entry.{Entry}
-use Rattle.core_state.specs.declared.past.Past.{Past}
-use Rattle.core_state.specs.declared.stack.Stack.{Stack}
+use Rattle.step_relation.specs.State.{StateData, cut_past, cut_stack, past_at, put_stack, stack_at}
+use Rattle.step_relation.specs.declared.Actor.{Actor}
+use Rattle.step_relation.specs.declared.Cause.{Cause}
+use Rattle.step_relation.specs.declared.Entry.{Entry}
+use Rattle.step_relation.specs.declared.Past.{Past}
+use Rattle.step_relation.specs.declared.Stack.{Stack}
 use Rattle.step_relation.specs.Freshness.{plan_of}
 use Rattle.step_relation.specs.Orders.{back_after, past_of}
 use Rattle.step_relation.specs.Writes.{complete_mark, entry_of}
@@ -30,7 +30,7 @@ use Rattle.history_laws.proofs.tells.Beside.{stack_beside}
 use Rattle.history_laws.proofs.tells.Lasts.{last_kept}
 use Rattle.history_laws.proofs.tells.Newests.{last_completed}
 use Rattle.history_laws.proofs.tells.Silence.{AreUnmarking}
-use Rattle.core_state.specs.declared.entry.What.TheVariants as what
+use Rattle.step_relation.specs.declared.What.TheVariants as what
 
 -- what a history tells of stacks and of names without one
 pub record StacksTold (o : Opening) (h : List Entry) (s : StateData) : Type 0 where

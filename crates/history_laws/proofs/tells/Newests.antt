@@ -6,10 +6,10 @@ use Rattle.std.specs.Prelude.{Contains, List, None, Option, Some, [], bytes_eq, 
 use Rattle.std.specs.Prelude.{◌≡◌, ◌≢◌, ◌⊎◌}
 use Rattle.heat_plan.specs.declared.phase.Act.TheVariants.{Delete}
 use Rattle.provider.proofs.Sames.{not_true}
-use Rattle.core_state.specs.State.{stack_at}
-use Rattle.core_state.specs.declared.entry.Entry.{Entry}
-use Rattle.core_state.specs.declared.entry.What.{What}
-use Rattle.core_state.specs.declared.stack.Stack.{Stack}
+use Rattle.step_relation.specs.State.{stack_at}
+use Rattle.step_relation.specs.declared.Entry.{Entry}
+use Rattle.step_relation.specs.declared.What.{What}
+use Rattle.step_relation.specs.declared.Stack.{Stack}
 use Rattle.step_relation.specs.Freshness.{plan_of}
 use Rattle.step_relation.specs.Last.{IsCommandOf, IsCompletion, IsLast, opened, reached, since}
 use Rattle.step_relation.specs.Newest.{Latest, latest_of, newest, newest_by}
@@ -17,7 +17,7 @@ use Rattle.step_relation.specs.Opening.{Opening}
 use Rattle.history_laws.proofs.tables.Rows.{stack-key, text_or_not}
 use Rattle.history_laws.proofs.tells.Appends.{newest_on}
 use Rattle.history_laws.proofs.tells.Lasts.{IsUncommanded, uncommanded_both, uncommanded_never, uncommanded_no_create}
-use Rattle.core_state.specs.declared.entry.What.TheVariants as what
+use Rattle.step_relation.specs.declared.What.TheVariants as what
 use Rattle.provider.proofs.Lists.{here, cases}
 
 pub text_cases : (a b : List ℕ) → ((bytes_eq a b ≡ true) × (a ≡ b)) ⊎ ((bytes_eq a b ≡ false) × (a ≢ b))

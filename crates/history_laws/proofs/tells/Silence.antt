@@ -3,11 +3,11 @@ use Rattle.std.proofs.Common.{ap, refl, ◌∙◌}
 use Rattle.std.specs.Prelude.{Bool, List, Option, [], ℕ, ◌++◌, ◌∷◌, ◌≡◌}
 use Rattle.heat_plan.specs.declared.token.Token.{Token}
 use Rattle.provider.specs.Table.{TokenState}
-use Rattle.core_state.specs.declared.entry.Actor.{Actor}
-use Rattle.core_state.specs.declared.entry.Entry.{Entry}
-use Rattle.core_state.specs.declared.entry.MailWrite.{MailWrite}
-use Rattle.core_state.specs.declared.entry.RowWrite.{RowWrite}
-use Rattle.core_state.specs.declared.entry.What.{What}
+use Rattle.step_relation.specs.declared.Actor.{Actor}
+use Rattle.step_relation.specs.declared.Entry.{Entry}
+use Rattle.step_relation.specs.declared.MailWrite.{MailWrite}
+use Rattle.step_relation.specs.declared.RowWrite.{RowWrite}
+use Rattle.step_relation.specs.declared.What.{What}
 use Rattle.step_relation.specs.Writes.{mail_entry, rows_entry}
 use Rattle.step_relation.specs.Could.{could_by, could_of}
 use Rattle.step_relation.specs.Marked.{Marked, marked_by, marked_of}
@@ -15,7 +15,7 @@ use Rattle.step_relation.specs.Newest.{Latest, newest, newest_by, rollback_by, r
 use Rattle.step_relation.specs.Opening.{Opening}
 use Rattle.history_laws.proofs.tells.Appends.{could-append, could_on, marked-append, marked_on, newest-append, newest_on}
 use Rattle.history_laws.proofs.tells.Appends.{rollback-append, rollback_on}
-use Rattle.core_state.specs.declared.entry.What.TheVariants as what
+use Rattle.step_relation.specs.declared.What.TheVariants as what
 
 -- neither a command nor a mark
 abbrev pub IsUnmarking : What → Type 0

@@ -1,5 +1,5 @@
 -- What the main theorem rests on: each step leaves a standing state.
-use Rattle.core_state.specs.State.{StateData}
+use Rattle.step_relation.specs.State.{StateData}
 use Rattle.step_relation.specs.Groups.{KeptByCommands, KeptByEngines, KeptByMoves}
 use Rattle.step_relation.specs.Laws.{SoundOpeningsHaveHeadline, SoundOpeningsStaySound, StepsKeepSound}
 use Rattle.step_relation.specs.Sound.{Standing}

@@ -2,7 +2,7 @@
 use Rattle.std.specs.Prelude.{Some, ℕ, ◌≡◌}
 use Rattle.row_table.specs.Rows.{row_at}
 use Rattle.row_table.specs.declared.row.Row.{Row}
-use Rattle.core_state.specs.State.{StateData}
+use Rattle.step_relation.specs.State.{StateData}
 use Rattle.step_relation.specs.Groups.{KeptByCommands, KeptByEngines, KeptByMoves}
 use Rattle.step_relation.specs.RowsFit.{RowFits}
 

@@ -2,9 +2,9 @@
 ghost use Rattle.std.specs.Prelude.{◌≡◌, IfOk, option_map};
 ghost use Rattle.heat_value.specs.Meaning.{data_of, nodes_of, members_of};
 ghost use Rattle.heat_value.specs.declared.path.Step.TheVariants.{Index};
-ghost use Rattle.hot_eval.specs.Faults.{IsSeenFrom};
-ghost use Rattle.hot_eval.specs.Fillings.{literal_path as the_literal_path, literal_step as the_literal_step};
-ghost use Rattle.hot_eval.specs.Fillings.{step_in_list, member_becoming as the_member_becoming};
+ghost use Rattle.eval_words.specs.Faults.{IsSeenFrom};
+ghost use Rattle.eval_words.specs.Fillings.{literal_path as the_literal_path, literal_step as the_literal_step};
+ghost use Rattle.eval_words.specs.Fillings.{step_in_list, member_becoming as the_member_becoming};
 ghost use Rattle.hot_eval.specs.Repeats.{choice_of, IsChoice};
 
 use super::key_filled;

@@ -1,6 +1,6 @@
 -- What is asked may be begun or fail.
 use Rattle.std.proofs.Common.{refl}
-use Rattle.step_ends.specs.Answers.{begun, failed}
+use Rattle.takeover_steps.specs.Answers.{begun, failed}
 use Rattle.book.proofs.Calling.{asking_of}
 use Rattle.book.proofs.ask.outcomes_of.Goals as goal
 

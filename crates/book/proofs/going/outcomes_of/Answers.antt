@@ -1,5 +1,5 @@
 use Rattle.std.proofs.Common.{refl}
-use Rattle.step_ends.specs.Answers.{gone, not_yet, poll_failed}
+use Rattle.takeover_steps.specs.Answers.{gone, not_yet, poll_failed}
 use Rattle.book.proofs.going.outcomes_of.Goals as goal
 
 pub poll_answered-requires-clause-answer : goal.poll_answered-requires-clause-answer

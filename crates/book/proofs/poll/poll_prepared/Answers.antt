@@ -7,7 +7,7 @@ use Rattle.heat_plan.specs.declared.phase.Act.TheVariants.{Delete}
 use Rattle.row_table.specs.declared.row.Row.{Row}
 use Rattle.mail_table.specs.declared.mail.Stage.TheVariants.{Polling}
 use Rattle.step_relation.specs.Rows.{token_of}
-use Rattle.step_ends.specs.Lost as lost
+use Rattle.takeover_steps.specs.Lost as lost
 use Rattle.book.specs.Scenes.{Told}
 use Rattle.book.proofs.Calling.{alive_to_poll, answered, learned, polls_now, tells_one}
 use Rattle.book.proofs.poll.poll_prepared.Goals as goal

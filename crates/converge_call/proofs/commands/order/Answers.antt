@@ -1,6 +1,6 @@
 -- A command that was made, and one that was refused.
 use Rattle.std.proofs.Common.{refl}
-use Rattle.book.specs.Quiet.{page}
+use Rattle.driver.specs.Quiet.{page}
 use Rattle.converge_call.proofs.Ordering.{ordered, step_done, step_refused}
 use Rattle.converge_call.proofs.commands.order.Goals as goal
 

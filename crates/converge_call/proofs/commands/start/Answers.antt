@@ -1,6 +1,6 @@
 -- An engine that was enlisted, and one that may not be.
 use Rattle.std.proofs.Common.{refl}
-use Rattle.book.specs.Quiet.{page}
+use Rattle.driver.specs.Quiet.{page}
 use Rattle.converge_call.proofs.Ordering.{step_done, step_refused}
 use Rattle.converge_call.proofs.commands.start.Goals as goal
 

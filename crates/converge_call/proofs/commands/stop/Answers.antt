@@ -1,6 +1,6 @@
 -- An engine that was stopped, and one that isn't live.
 use Rattle.std.proofs.Common.{refl}
-use Rattle.book.specs.Quiet.{page}
+use Rattle.driver.specs.Quiet.{page}
 use Rattle.converge_call.proofs.Ordering.{step_done, step_refused}
 use Rattle.converge_call.proofs.commands.stop.Goals as goal
 

@@ -1,7 +1,7 @@
 -- A command with the plan of the body, or a note why it has none.
 use Rattle.std.proofs.Common.{subst}
 use Rattle.std.specs.Prelude.{Bool}
-use Rattle.book.specs.declared.commanding.StackCommand.TheVariants as order
+use Rattle.driver.specs.declared.StackCommand.TheVariants as order
 use Rattle.converge_call.specs.Commands.{OrderDoes, planned, unplanned}
 use Rattle.converge_call.proofs.Noting.{does_as}
 use Rattle.converge_call.proofs.Ordering.{plan_fault_told}

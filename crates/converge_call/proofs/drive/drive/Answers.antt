@@ -6,8 +6,8 @@ use Rattle.heat_io.specs.Reading.{Reader}
 use Rattle.heat_io.specs.Streams.{ahead}
 use Rattle.report.specs.Seen.{seen_of}
 use Rattle.report.specs.Text.{seen_after}
-use Rattle.book.specs.Kept.{opening_of}
-use Rattle.book.specs.Quiet.{page}
+use Rattle.driver.specs.Kept.{opening_of}
+use Rattle.driver.specs.Quiet.{page}
 use Rattle.converge_call.specs.Stocks.{stock}
 use Rattle.converge_call.proofs.Handing.{same_opening}
 use Rattle.converge_call.proofs.Driving.{first_is, starts, goes_on, ends_at, ends_well, ends_unread, too_long_of}

@@ -2,8 +2,8 @@ use Rattle.std.proofs.Common.{◌≡◌, ◌≤◌, map, true}
 use Rattle.heat_io.specs.Streams.{ahead}
 use Rattle.report.specs.Seen.{seen_of}
 use Rattle.report.specs.Text.{seen_after}
-use Rattle.book.specs.Kept.{IsSameBook, opening_of}
-use Rattle.book.specs.Quiet.{page}
+use Rattle.driver.specs.Kept.{IsSameBook, opening_of}
+use Rattle.driver.specs.Quiet.{page}
 use Rattle.converge_call.specs.Drives.{streams}
 use Rattle.converge_call.specs.Stocks.{stock, first_stock}
 use Rattle.converge_call.proofs.Driving.{SoFar}

@@ -1,6 +1,6 @@
 -- How the turns ended, and the note of it.
 use Rattle.std.proofs.Common.{refl}
-use Rattle.book.specs.Kept.{opening_of}
+use Rattle.driver.specs.Kept.{opening_of}
 use Rattle.converge_call.proofs.Running.{settled_as, idle_noted, tired_noted, run_stopped, is_short}
 use Rattle.converge_call.proofs.runs.run_at_most.Goals as goal
 

@@ -1,6 +1,6 @@
 -- A step, the note of a turn without one, and the note that the number was never drawn.
 use Rattle.std.proofs.Common.{refl}
-use Rattle.book.specs.Scenes.{scene_of}
+use Rattle.driver.specs.Scenes.{scene_of}
 use Rattle.converge_call.specs.Runs.{never_drawn, lacking}
 use Rattle.driver.specs.Turns.{unmade}
 use Rattle.converge_call.proofs.Noting.{done_as}

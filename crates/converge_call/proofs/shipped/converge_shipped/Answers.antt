@@ -1,10 +1,10 @@
 -- What the program registers stands before the first line.
 use Rattle.std.proofs.Common.{◌≡◌, List, [], ◌∷◌, refl, subst}
 use Rattle.provider.specs.Cloud.{Cloud}
-use Rattle.hot_registry.specs.declared.kind.KindDef.{KindDef}
-use Rattle.hot_registry.specs.declared.custom.NamedTest.{NamedTest}
-use Rattle.hot_registry.specs.Shipped.{box_kind, flavor_test}
-use Rattle.book.specs.Kept.{Shown}
+use Rattle.type_catalog.specs.declared.kind.KindDef.{KindDef}
+use Rattle.type_catalog.specs.declared.custom.NamedTest.{NamedTest}
+use Rattle.type_catalog.specs.Shipped.{box_kind, flavor_test}
+use Rattle.driver.specs.Kept.{Shown}
 use Rattle.converge_call.specs.declared.exit.Exit.{Exit}
 use Rattle.converge_call.specs.Ends.{Outside, HasDriven}
 use Rattle.converge_call.specs.Stocks.{Stock, first_stock}

@@ -1,6 +1,6 @@
 -- Over what the cloud's list said, a book was opened or none was.
 use Rattle.std.proofs.Common.{◌≡◌, ◌∙◌, refl, sym, subst}
-use Rattle.book.specs.Openings.{HasStranger}
+use Rattle.driver.specs.Openings.{HasStranger}
 use Rattle.converge_call.specs.Ends.{by_stranger}
 use Rattle.converge_call.proofs.top.run_serial.Goals as goal
 

@@ -1,6 +1,6 @@
 use Rattle.heat_value.specs.Meaning.{members_of}
-use Rattle.hot_eval.specs.Conditions.{valued_after}
-use Rattle.hot_eval.specs.SoFar.{named_values}
+use Rattle.eval_words.specs.Conditions.{valued_after}
+use Rattle.eval_words.specs.SoFar.{named_values}
 use Rattle.hot_admit.specs.Valuing.{AreFound, IsWithin}
 use Rattle.hot_admit.proofs.condition_values.evaluated.Given as goal
 

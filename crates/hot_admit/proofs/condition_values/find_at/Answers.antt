@@ -1,7 +1,7 @@
 -- One condition: its value was found already, is found now, or isn't known yet.
 use Rattle.std.proofs.Common.{◌∙◌, ap, sym, arith}
 use Rattle.heat_value.specs.Meaning.{members_of}
-use Rattle.hot_eval.specs.SoFar.{named_values}
+use Rattle.eval_words.specs.SoFar.{named_values}
 use Rattle.hot_admit.proofs.Finding.{found_count, is_at_place, found_before, found_nothing, found_now, found_grows}
 use Rattle.hot_admit.proofs.Finding.{found_more, found_anew, flag_told}
 use Rattle.hot_admit.proofs.condition_values.find_at.Goals as goal

@@ -2,7 +2,7 @@
 use Rattle.std.proofs.Common.{◌∙◌, Some, sym, ap, arith, length, ◌++◌, ◌∷◌, []}
 use Rattle.heat_plan.specs.declared.conditions.Condition.{Condition}
 use Rattle.heat_value.specs.Meaning.{members_of}
-use Rattle.hot_eval.specs.Conditions.{values_of}
+use Rattle.eval_words.specs.Conditions.{values_of}
 use Rattle.hot_admit.proofs.Found.{values_from, values_next, values_stop, flag_read, flags_count}
 use Rattle.hot_admit.proofs.condition_values.values_in.Goals as goal
 

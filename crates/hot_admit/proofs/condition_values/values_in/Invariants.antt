@@ -1,5 +1,5 @@
 use Rattle.heat_value.specs.Meaning.{members_of}
-use Rattle.hot_eval.specs.Conditions.{values_of}
+use Rattle.eval_words.specs.Conditions.{values_of}
 use Rattle.hot_admit.proofs.Found.{AreValuesTo}
 use Rattle.hot_admit.proofs.condition_values.values_in.Given as goal
 

@@ -4,7 +4,7 @@ use Rattle.std.proofs.lemmas.Fn.{always_returns_same}
 use Rattle.std.specs.Ordering.{nat_cmp}
 use Rattle.std.specs.Cmp.Lexicographic.{slice_cmp}
 use Rattle.heat_plan.proofs.Searched.{names_rise, found_at, found_none}
-use Rattle.hot_parts.specs.declared.res.Res.{Res}
+use Rattle.hot_tree.specs.declared.res.Res.{Res}
 use Rattle.hot_admit.specs.Resources.{resource_data}
 use Rattle.hot_admit.proofs.Searched.{named_rising, named_found}
 use Rattle.hot_admit.proofs.lookup.resource_of.Goals as goal

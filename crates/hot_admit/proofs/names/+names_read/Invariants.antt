@@ -1,6 +1,6 @@
 use Rattle.std.proofs.Common.{◌≡◌, ◌++◌, ◌*◌, drop, map}
 use Rattle.heat_value.specs.Meaning.{data_of, nodes_of, members_of, weight, nodes_weight, members_weight}
-use Rattle.hot_eval.specs.Conditions.{names_read_among, names_read_under}
+use Rattle.eval_words.specs.Conditions.{names_read_among, names_read_under}
 use Rattle.hot_admit.proofs.names.+names_read.Given as goal
 
 -- the names so far, and those of what is left

@@ -2,7 +2,7 @@ use Rattle.std.proofs.Common.{◌≡◌, ◌∙◌, true, sym, ap, subst, length
 use Rattle.std.specs.Str.{bytes_eq}
 use Rattle.hot_catalog.proofs.Placed.{replaced}
 use Rattle.hot_catalog.specs.Catalogs.{with_kind}
-use Rattle.hot_registry.specs.declared.kind.KindDef.{KindDef}
+use Rattle.type_catalog.specs.declared.kind.KindDef.{KindDef}
 use Rattle.hot_catalog.proofs.catalog.put_kind.Goals as goal
 
 pub returns-then-eq : goal.returns-then-eq

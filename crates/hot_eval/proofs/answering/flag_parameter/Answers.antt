@@ -2,10 +2,10 @@ use Rattle.std.proofs.Common.{Result, ap}
 use Rattle.std.proofs.lemmas.Result.{err_from_is_err_and}
 use Rattle.heat_value.specs.Data.{Data}
 use Rattle.hot_eval.specs.Answers.{IsFaultOf, IsOwnFault, code_of}
-use Rattle.hot_eval.specs.Functions.{only_flag}
-use Rattle.hot_eval.specs.declared.code.FaultCode.{FaultCode}
-use Rattle.hot_eval.specs.declared.fault.FunctionFault.{FunctionFault}
-use Rattle.hot_eval.specs.declared.fault.FunctionFault.TheVariants.{Wrong, Memory}
+use Rattle.eval_words.specs.Functions.{only_flag}
+use Rattle.eval_words.specs.declared.code.FaultCode.{FaultCode}
+use Rattle.eval_words.specs.declared.fault.FunctionFault.{FunctionFault}
+use Rattle.eval_words.specs.declared.fault.FunctionFault.TheVariants.{Wrong, Memory}
 use Rattle.hot_eval.proofs.answering.flag_parameter.Goals as goal
 
 same_fault : (e : FunctionFault) (r : Result Data FaultCode) → IsOwnFault e r → IsFaultOf e (only_flag r)

@@ -2,10 +2,10 @@ use Rattle.std.proofs.Common.{◌≡◌, ◌≤◌, ◌<◌, refl, ℕ, List, []
 use Rattle.heat_value.specs.Data.{null}
 use Rattle.heat_value.specs.Meaning.{data_of, nodes_of}
 use Rattle.heat_value.specs.declared.value.Value.{Value}
-use Rattle.hot_eval.specs.Evaluation.{branch_outcome, value_outcome, alone}
-use Rattle.hot_eval.specs.Evaluation.{Evaluating}
-use Rattle.hot_eval.specs.Outcomes.{Gives, made_into, under}
-use Rattle.hot_eval.specs.Scenes.{SceneData}
+use Rattle.eval_words.specs.Evaluation.{branch_outcome, value_outcome, alone}
+use Rattle.eval_words.specs.Evaluation.{Evaluating}
+use Rattle.eval_words.specs.Outcomes.{Gives, made_into, under}
+use Rattle.eval_words.specs.Scenes.{SceneData}
 use Rattle.heat_value.specs.declared.path.Step.TheVariants.{Index}
 use Rattle.hot_eval.proofs.branches.second_branch.Goals as goal
 

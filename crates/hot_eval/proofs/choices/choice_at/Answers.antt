@@ -2,7 +2,7 @@ use Rattle.std.proofs.Common.{◌≤◌, ◌∙◌, ap, sym, subst, arith, lengt
 use Rattle.heat_plan.specs.Order.{Rising}
 use Rattle.hot_strings.specs.Indexes.{keys_in, IsIndexOf}
 use Rattle.hot_strings.specs.Pieces.{Params, AreDistinct, HasNoEmptyKey}
-use Rattle.hot_eval.specs.Fillings.{texts_for}
+use Rattle.eval_words.specs.Fillings.{texts_for}
 use Rattle.hot_eval.specs.Repeats.{lists_of}
 use Rattle.hot_eval.proofs.Listings.{place_there, listed_making, length-lists}
 use Rattle.hot_eval.proofs.Picks.{making_all, distinct_texts, rising_texts, full_texts}

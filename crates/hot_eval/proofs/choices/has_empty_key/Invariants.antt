@@ -1,7 +1,7 @@
 use Rattle.std.proofs.Common.{◌≡◌, drop}
 use Rattle.std.specs.List.{list_any}
 use Rattle.hot_eval.specs.Repeats.{lists_of}
-use Rattle.hot_eval.specs.Texts.{is_empty}
+use Rattle.eval_words.specs.Texts.{is_empty}
 use Rattle.hot_eval.proofs.choices.has_empty_key.Given as goal
 
 -- what is left decides

@@ -1,6 +1,6 @@
 use Rattle.std.proofs.Common.{◌≡◌, ◌++◌, drop, option_map}
 use Rattle.heat_value.specs.Meaning.{members_of}
-use Rattle.hot_eval.specs.Choices.{lists_in}
+use Rattle.eval_words.specs.Choices.{lists_in}
 use Rattle.hot_eval.specs.Repeats.{lists_of}
 use Rattle.hot_eval.proofs.choices.lists_in.Given as goal
 

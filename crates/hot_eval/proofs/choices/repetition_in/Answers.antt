@@ -1,8 +1,8 @@
 use Rattle.std.proofs.Common.{◌∙◌, ap, sym}
 use Rattle.std.specs.List.{list_any}
-use Rattle.hot_eval.specs.Choices.{lists_in}
+use Rattle.eval_words.specs.Choices.{lists_in}
 use Rattle.hot_eval.specs.Repeats.{lists_of}
-use Rattle.hot_eval.specs.Texts.{is_empty}
+use Rattle.eval_words.specs.Texts.{is_empty}
 use Rattle.hot_eval.proofs.Listings.{wanted_some}
 use Rattle.hot_eval.proofs.Picks.{are_keys}
 use Rattle.hot_eval.proofs.choices.repetition_in.Goals as goal

@@ -2,9 +2,9 @@
 use Rattle.std.proofs.Common.{◌∙◌}
 use Rattle.heat_value.specs.Meaning.{data_of}
 use Rattle.hot_eval.specs.Answers.{again}
-use Rattle.hot_eval.specs.Conditions.{in_conditions}
-use Rattle.hot_eval.specs.ValuedConds.{valued_data}
-use Rattle.hot_eval.specs.Scenes.{scene_data}
+use Rattle.eval_words.specs.Conditions.{in_conditions}
+use Rattle.eval_words.specs.ValuedConds.{valued_data}
+use Rattle.eval_words.specs.Scenes.{scene_data}
 use Rattle.hot_eval.proofs.Flags.{flag_is}
 use Rattle.hot_eval.proofs.conditions.flag_or_missed.Goals as goal
 

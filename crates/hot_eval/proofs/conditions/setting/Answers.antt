@@ -1,7 +1,7 @@
 -- At its root an evaluation is the whole one.
 use Rattle.std.proofs.Common.{refl}
-use Rattle.hot_eval.specs.Conditions.{in_conditions}
-use Rattle.hot_eval.specs.ValuedConds.{valued_data}
+use Rattle.eval_words.specs.Conditions.{in_conditions}
+use Rattle.eval_words.specs.ValuedConds.{valued_data}
 use Rattle.hot_eval.proofs.Made.{root_is}
 use Rattle.hot_eval.proofs.conditions.setting.Goals as goal
 

@@ -4,14 +4,14 @@ use Rattle.heat_value.specs.Data.{Members, fields}
 use Rattle.heat_value.specs.Meaning.{data_of, members_of}
 use Rattle.heat_value.specs.declared.path.Step.TheVariants.{Key}
 use Rattle.hot_eval.specs.Answers.{again, picked_outcome}
-use Rattle.hot_eval.specs.Evaluation.{value_outcome, values_outcome, members_outcome, all_but_outcome, alone}
-use Rattle.hot_eval.specs.Choices.{choices, repetition}
-use Rattle.hot_eval.specs.Evaluation.{condition_outcome, conditions_outcome, outcome_unless, choices_outcome}
-use Rattle.hot_eval.specs.Evaluation.{call, sole_of}
-use Rattle.hot_eval.specs.Names.{function_of, condition_function_of, named_in}
-use Rattle.hot_eval.specs.Outcomes.{Gives, made_into, under}
+use Rattle.eval_words.specs.Evaluation.{value_outcome, values_outcome, members_outcome, all_but_outcome, alone}
+use Rattle.eval_words.specs.Choices.{choices, repetition}
+use Rattle.eval_words.specs.Evaluation.{condition_outcome, conditions_outcome, outcome_unless, choices_outcome}
+use Rattle.eval_words.specs.Evaluation.{call, sole_of}
+use Rattle.eval_words.specs.Names.{function_of, condition_function_of, named_in}
+use Rattle.eval_words.specs.Outcomes.{Gives, made_into, under}
 use Rattle.hot_eval.specs.Repeats.{lists_of, choice_of}
-use Rattle.hot_eval.specs.Scenes.{scene_data}
+use Rattle.eval_words.specs.Scenes.{scene_data}
 use Rattle.hot_eval.specs.declared.branches.Picked.{Picked}
 use Rattle.hot_eval.proofs.Steps.{fault_same, fault_made, list_goes_on, list_ends, map_goes_on, map_ends}
 use Rattle.hot_eval.proofs.Steps.{turn_stops, turn_goes_on, turn_ends}

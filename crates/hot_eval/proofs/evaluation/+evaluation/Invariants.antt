@@ -1,11 +1,11 @@
 use Rattle.std.proofs.Common.{◌+◌, ◌*◌, length}
 use Rattle.heat_value.specs.Meaning.{data_of, nodes_of, members_of}
 use Rattle.hot_eval.specs.Answers.{again}
-use Rattle.hot_eval.specs.Choices.{choices}
-use Rattle.hot_eval.specs.Evaluation.{values_outcome, members_outcome, all_but_outcome, conditions_outcome}
-use Rattle.hot_eval.specs.Evaluation.{choices_outcome}
+use Rattle.eval_words.specs.Choices.{choices}
+use Rattle.eval_words.specs.Evaluation.{values_outcome, members_outcome, all_but_outcome, conditions_outcome}
+use Rattle.eval_words.specs.Evaluation.{choices_outcome}
 use Rattle.hot_eval.specs.Repeats.{lists_of, ArePlaces, choices_from}
-use Rattle.hot_eval.specs.Scenes.{scene_data}
+use Rattle.eval_words.specs.Scenes.{scene_data}
 use Rattle.hot_eval.proofs.Steps.{IsListWay, IsMapWay, IsChoiceWay}
 use Rattle.hot_eval.proofs.evaluation.+evaluation.Given as goal
 

@@ -7,7 +7,7 @@ use Rattle.heat_plan.proofs.Searched.{names_rise, found_none}
 use Rattle.heat_plan.specs.Order.{Rising}
 use Rattle.hot_strings.specs.Indexes.{keys_in}
 use Rattle.hot_strings.specs.Pieces.{Params}
-use Rattle.hot_eval.specs.Fillings.{item_of}
+use Rattle.eval_words.specs.Fillings.{item_of}
 use Rattle.hot_eval.specs.Repeats.{with_items}
 use Rattle.hot_eval.proofs.Picks.{length-items, item_found, item_none}
 use Rattle.hot_eval.proofs.fillings.item_of.Goals as goal

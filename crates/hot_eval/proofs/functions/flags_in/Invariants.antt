@@ -1,7 +1,7 @@
 use Rattle.std.proofs.Common.{◌≡◌, ◌&&◌, ◌||◌, drop, option_map, Bool}
 use Rattle.std.specs.List.{list_all, list_any}
 use Rattle.heat_value.specs.Meaning.{nodes_of}
-use Rattle.hot_eval.specs.Functions.{flags_in}
+use Rattle.eval_words.specs.Functions.{flags_in}
 use Rattle.hot_eval.proofs.functions.flags_in.Given as goal
 
 -- the flags so far and those left decide

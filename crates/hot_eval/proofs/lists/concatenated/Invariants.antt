@@ -1,6 +1,6 @@
 use Rattle.std.proofs.Common.{◌≡◌, drop, map, option_map}
 use Rattle.heat_value.specs.Meaning.{nodes_of}
-use Rattle.hot_eval.specs.Lists.{both_lists, concatenated}
+use Rattle.eval_words.specs.Lists.{both_lists, concatenated}
 use Rattle.hot_eval.proofs.lists.concatenated.Given as goal
 
 -- the items so far and those of the lists left are all

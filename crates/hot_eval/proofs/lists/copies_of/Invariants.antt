@@ -1,6 +1,6 @@
 use Rattle.std.proofs.Common.{◌≡◌, map, drop}
 use Rattle.heat_value.specs.Meaning.{nodes_of}
-use Rattle.hot_eval.specs.Lists.{both_lists}
+use Rattle.eval_words.specs.Lists.{both_lists}
 use Rattle.hot_eval.proofs.lists.copies_of.Given as goal
 
 -- those so far and those left are all

@@ -1,6 +1,6 @@
 use Rattle.std.proofs.Common.{◌≡◌, drop}
 use Rattle.heat_value.specs.Meaning.{data_of, nodes_of}
-use Rattle.hot_eval.specs.Sameness.{has}
+use Rattle.eval_words.specs.Sameness.{has}
 use Rattle.hot_eval.proofs.lists.has.Given as goal
 
 -- what is left decides

@@ -1,7 +1,7 @@
 use Rattle.std.proofs.Common.{◌∙◌, ap, sym}
 use Rattle.heat_value.specs.Data.{node_last}
 use Rattle.heat_value.specs.Meaning.{data_of}
-use Rattle.hot_eval.specs.Sameness.{has}
+use Rattle.eval_words.specs.Sameness.{has}
 use Rattle.hot_eval.proofs.Joins.{next_new, next_seen, all_new}
 use Rattle.hot_eval.proofs.Places.{refs_at, refs_end}
 use Rattle.hot_eval.proofs.lists.new_ones.Goals as goal

@@ -1,7 +1,7 @@
 use Rattle.std.proofs.Common.{◌≡◌, map, drop}
 use Rattle.heat_value.specs.Data.{no_nodes}
 use Rattle.heat_value.specs.Meaning.{nodes_of}
-use Rattle.hot_eval.specs.Lists.{both_lists, new_ones}
+use Rattle.eval_words.specs.Lists.{both_lists, new_ones}
 use Rattle.hot_eval.proofs.lists.new_ones.Given as goal
 
 -- those so far, and the new ones of those left, are all new ones

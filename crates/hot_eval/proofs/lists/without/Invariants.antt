@@ -1,6 +1,6 @@
 use Rattle.std.proofs.Common.{◌≡◌, drop}
 use Rattle.heat_value.specs.Meaning.{nodes_of}
-use Rattle.hot_eval.specs.Lists.{both_lists, without}
+use Rattle.eval_words.specs.Lists.{both_lists, without}
 use Rattle.hot_eval.proofs.lists.without.Given as goal
 
 -- those so far, and what stays of those left, are what stays of all

@@ -1,4 +1,4 @@
-use Rattle.hot_eval.specs.Lookups.{place_in}
+use Rattle.eval_words.specs.Lookups.{place_in}
 use Rattle.heat_value.specs.Meaning.{data_of}
 use Rattle.hot_eval.proofs.Places.{at_named}
 use Rattle.hot_eval.proofs.lookups.step_into_list.Goals as goal

@@ -1,6 +1,6 @@
 use Rattle.std.proofs.Common.{◌≡◌, drop}
 use Rattle.heat_value.specs.Meaning.{data_of, nodes_of}
-use Rattle.hot_eval.specs.Lookups.{walked}
+use Rattle.eval_words.specs.Lookups.{walked}
 use Rattle.hot_eval.proofs.lookups.walked.Given as goal
 
 -- the rest of the path leads on from where the walk stands

@@ -1,6 +1,6 @@
 use Rattle.std.proofs.Common.{◌≡◌, drop}
 use Rattle.heat_value.specs.Meaning.{members_of}
-use Rattle.hot_eval.specs.Maps.{hold_texts}
+use Rattle.eval_words.specs.Maps.{hold_texts}
 use Rattle.hot_eval.proofs.maps.hold_texts.Given as goal
 
 -- what is left decides

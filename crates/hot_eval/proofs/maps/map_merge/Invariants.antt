@@ -1,8 +1,8 @@
 use Rattle.std.proofs.Common.{◌≡◌, drop}
 use Rattle.heat_value.specs.Data.{no_members}
 use Rattle.heat_value.specs.Meaning.{data_of, nodes_of}
-use Rattle.hot_eval.specs.Maps.{merged_onto}
-use Rattle.hot_eval.specs.Sorts.{listed}
+use Rattle.eval_words.specs.Maps.{merged_onto}
+use Rattle.eval_words.specs.Sorts.{listed}
 use Rattle.hot_eval.proofs.maps.map_merge.Given as goal
 
 -- the objects left, merged onto the map so far

@@ -1,6 +1,6 @@
 use Rattle.std.proofs.Common.{◌≡◌, drop}
 use Rattle.heat_value.specs.Meaning.{members_of}
-use Rattle.hot_eval.specs.Maps.{put_all}
+use Rattle.eval_words.specs.Maps.{put_all}
 use Rattle.hot_eval.proofs.maps.put_all.Given as goal
 
 -- the entries left, put into the map so far

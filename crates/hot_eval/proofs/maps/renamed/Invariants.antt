@@ -1,6 +1,6 @@
 use Rattle.std.proofs.Common.{◌≡◌, drop}
 use Rattle.heat_value.specs.Meaning.{members_of}
-use Rattle.hot_eval.specs.Maps.{mapped_onto, map_of, renamed}
+use Rattle.eval_words.specs.Maps.{mapped_onto, map_of, renamed}
 use Rattle.hot_eval.proofs.maps.renamed.Given as goal
 
 -- the entries left, renamed and put into the map so far

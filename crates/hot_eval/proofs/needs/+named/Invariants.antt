@@ -1,6 +1,6 @@
 use Rattle.std.proofs.Common.{◌≡◌, ◌++◌, ◌*◌, drop, map}
 use Rattle.heat_value.specs.Meaning.{data_of, nodes_of, members_of, weight, nodes_weight, members_weight}
-use Rattle.hot_eval.specs.Needs.{references_among, references_under}
+use Rattle.eval_words.specs.Needs.{references_among, references_under}
 use Rattle.hot_eval.proofs.needs.+named.Given as goal
 
 -- the names so far, and those of what is left

@@ -1,6 +1,6 @@
 use Rattle.std.proofs.Common.{◌≡◌, ◌∙◌, ◌++◌, ◌∷◌, [], List, ℕ, sym, subst}
 use Rattle.heat_plan.specs.Names.{IsResName}
-use Rattle.hot_eval.specs.Needs.{AreResNamesOf}
+use Rattle.eval_words.specs.Needs.{AreResNamesOf}
 use Rattle.hot_eval.proofs.Kept.{kept_in, kept_out, read_is, read_fits, read_off}
 use Rattle.hot_eval.proofs.needs.add.Goals as goal
 

@@ -2,7 +2,7 @@ use Rattle.std.proofs.Common.{◌≡◌, ◌≤◌, ℕ, List, Result, Ok, Err, 
 use Rattle.std.proofs.lemmas.List.{take_all}
 use Rattle.heat_plan.specs.Order.{Rising}
 use Rattle.heat_value.specs.declared.text.Text.{Text}
-use Rattle.hot_eval.specs.Needs.{AreNeeds, AreResNamesOf}
+use Rattle.eval_words.specs.Needs.{AreNeeds, AreResNamesOf}
 use Rattle.hot_eval.proofs.Kept.{kept_next}
 use Rattle.hot_eval.proofs.needs.needs_among.Goals as goal
 

@@ -1,5 +1,5 @@
 use Rattle.std.proofs.Common.{take, map}
-use Rattle.hot_eval.specs.Needs.{AreResNamesOf}
+use Rattle.eval_words.specs.Needs.{AreResNamesOf}
 use Rattle.hot_eval.proofs.needs.needs_among.Given as goal
 
 -- those of the names so far

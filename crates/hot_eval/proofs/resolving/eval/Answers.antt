@@ -1,6 +1,6 @@
 use Rattle.heat_value.specs.Meaning.{data_of}
 use Rattle.hot_eval.specs.Answers.{again}
-use Rattle.hot_eval.specs.Scenes.{scene_data, scene_of}
+use Rattle.eval_words.specs.Scenes.{scene_data, scene_of}
 use Rattle.hot_eval.proofs.Made.{made_of, eval_is}
 use Rattle.hot_eval.proofs.resolving.eval.Goals as goal
 

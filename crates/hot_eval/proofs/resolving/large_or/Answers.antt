@@ -1,6 +1,6 @@
 use Rattle.std.proofs.Common.{◌∙◌, ap, sym}
 use Rattle.heat_value.specs.Data.{Members}
-use Rattle.hot_eval.specs.Outcomes.{Gives}
+use Rattle.eval_words.specs.Outcomes.{Gives}
 use Rattle.hot_eval.proofs.Made.{large_is, small_is}
 use Rattle.hot_eval.proofs.resolving.large_or.Goals as goal
 

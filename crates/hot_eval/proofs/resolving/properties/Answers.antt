@@ -1,6 +1,6 @@
 use Rattle.std.proofs.lemmas.Result.{err_from_is_err_and}
 use Rattle.hot_eval.specs.Answers.{again}
-use Rattle.hot_eval.specs.Scenes.{scene_data, scene_of}
+use Rattle.eval_words.specs.Scenes.{scene_data, scene_of}
 use Rattle.hot_eval.proofs.Made.{large_fault, made_by, properties_are}
 use Rattle.hot_eval.proofs.resolving.properties.Goals as goal
 

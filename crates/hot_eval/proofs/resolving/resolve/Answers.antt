@@ -1,4 +1,4 @@
-use Rattle.hot_eval.specs.Resolutions.{resolve}
+use Rattle.eval_words.specs.Resolutions.{resolve}
 use Rattle.hot_eval.proofs.resolving.resolve.Goals as goal
 
 pub returns : goal.returns

@@ -1,4 +1,4 @@
-use Rattle.hot_eval.specs.Scenes.{scene_data, scene_of}
+use Rattle.eval_words.specs.Scenes.{scene_data, scene_of}
 use Rattle.hot_eval.proofs.Made.{root_is}
 use Rattle.hot_eval.proofs.resolving.setting.Goals as goal
 

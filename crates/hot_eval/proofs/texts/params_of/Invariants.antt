@@ -1,6 +1,6 @@
 use Rattle.std.proofs.Common.{◌≡◌, ◌++◌, drop}
 use Rattle.heat_value.specs.Meaning.{members_of}
-use Rattle.hot_eval.specs.Texts.{params_of}
+use Rattle.eval_words.specs.Texts.{params_of}
 use Rattle.hot_eval.proofs.texts.params_of.Given as goal
 
 -- those so far and those of the members left are all

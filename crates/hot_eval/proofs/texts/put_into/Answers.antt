@@ -3,8 +3,8 @@ use Rattle.std.proofs.lemmas.Result.{err_from_is_err_and}
 use Rattle.heat_value.specs.Data.{words}
 use Rattle.hot_strings.specs.Pieces.{Params, AreDistinct}
 use Rattle.hot_eval.specs.Answers.{IsFaultOf}
-use Rattle.hot_eval.specs.Faults.{of_text_function}
-use Rattle.hot_eval.specs.Texts.{put_into, params_of}
+use Rattle.eval_words.specs.Faults.{of_text_function}
+use Rattle.eval_words.specs.Texts.{put_into, params_of}
 use Rattle.hot_eval.proofs.Replacements.{replace_fault, replace_answer, distinct_params}
 use Rattle.hot_eval.proofs.texts.put_into.Goals as goal
 

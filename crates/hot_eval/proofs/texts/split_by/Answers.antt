@@ -3,8 +3,8 @@ use Rattle.std.proofs.lemmas.Result.{err_from_is_err_and}
 use Rattle.heat_value.specs.Data.{Nodes}
 use Rattle.hot_functions.proofs.Lengths.{first_value}
 use Rattle.hot_eval.specs.Answers.{IsFaultOf}
-use Rattle.hot_eval.specs.Faults.{of_text_function}
-use Rattle.hot_eval.specs.Texts.{split_asked, asked_in}
+use Rattle.eval_words.specs.Faults.{of_text_function}
+use Rattle.eval_words.specs.Texts.{split_asked, asked_in}
 use Rattle.hot_eval.proofs.Replacements.{split_fault}
 use Rattle.hot_eval.proofs.texts.split_by.Goals as goal
 

@@ -1,5 +1,5 @@
 use Rattle.std.proofs.Common.{◌≡◌, ◌++◌, drop}
-use Rattle.hot_eval.specs.Texts.{texts_of}
+use Rattle.eval_words.specs.Texts.{texts_of}
 use Rattle.hot_eval.proofs.Places.{behind}
 use Rattle.hot_eval.proofs.texts.texts_of.Given as goal
 

@@ -2,7 +2,7 @@ use Rattle.std.proofs.Common.{◌≡◌, drop}
 use Rattle.std.specs.List.{list_all}
 use Rattle.heat_value.specs.Meaning.{nodes_of}
 use Rattle.hot_params.specs.Rules.{texts_among}
-use Rattle.hot_registry.specs.Names.{is_listed}
+use Rattle.type_catalog.specs.Names.{is_listed}
 use Rattle.hot_params.proofs.constraint.items_are_true.Given as goal
 
 -- what is left decides

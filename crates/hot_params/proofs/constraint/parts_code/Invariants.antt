@@ -1,6 +1,6 @@
 use Rattle.std.proofs.Common.{◌≡◌, drop}
 use Rattle.heat_value.specs.Meaning.{members_of}
-use Rattle.hot_parts.specs.Constraints.{asked_in}
+use Rattle.hot_tree.specs.Constraints.{asked_in}
 use Rattle.hot_params.proofs.constraint.parts_code.Given as goal
 
 -- what is left decides

@@ -1,5 +1,5 @@
 use Rattle.std.proofs.Common.{◌≡◌, [], drop}
-use Rattle.hot_eval.specs.Scenes.{scene_of}
+use Rattle.eval_words.specs.Scenes.{scene_of}
 use Rattle.report.specs.Outputs.{output_lines}
 use Rattle.report.proofs.outputs.output_lines.Given as goal
 

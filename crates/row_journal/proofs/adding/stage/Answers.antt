@@ -1,5 +1,5 @@
 use Rattle.std.proofs.Common.{◌∙◌}
-use Rattle.row_journal.proofs.Records.{fits, past_still, on_any, at_first, first_unsynced, at_last, last_unsynced, is_durable, has_it}
+use Rattle.row_journal.proofs.Recordings.{fits, past_still, on_any, at_first, first_unsynced, at_last, last_unsynced, is_durable, has_it}
 use Rattle.row_journal.proofs.adding.stage.Goals as goal
 
 pub write_at-requires-clause-at : goal.write_at-requires-clause-at

@@ -1,5 +1,5 @@
 use Rattle.std.proofs.Common.{arith, ◌^◌}
-use Rattle.journal_form.specs.Shown.{image_of}
+use Rattle.row_journal.specs.ShownImages.{image_of}
 use Rattle.row_journal.proofs.Laid.{end_within}
 use Rattle.row_journal.proofs.looking.look.Goals as goal
 

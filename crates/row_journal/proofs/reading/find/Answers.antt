@@ -1,6 +1,6 @@
 use Rattle.std.proofs.Common.{◌≡◌, List, ℕ, sym, ◌∙◌, ap, subst}
 use Rattle.heat_disk.specs.Halves.{Pair}
-use Rattle.journal_form.specs.Images.{IsImage}
+use Rattle.row_journal.specs.Images.{IsImage}
 use Rattle.row_journal.proofs.reading.find.Goals as goal
 
 pub returns-clause-foreign : goal.returns-clause-foreign

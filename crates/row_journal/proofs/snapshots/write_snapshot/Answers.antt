@@ -1,7 +1,7 @@
 use Rattle.std.proofs.Common.{◌≡◌, ◌+◌, ◌<◌, ◌^◌, sym, ◌∙◌, ap, arith}
 use Rattle.row_journal.specs.declared.place.Place.{Place}
 use Rattle.row_journal.specs.Mends.{other}
-use Rattle.row_journal.proofs.Records.{on_ok}
+use Rattle.row_journal.proofs.Recordings.{on_ok}
 use Rattle.row_journal.proofs.Turning.{reaches, shut_leaves, shut_unsynced, fill_leaves, fill_unsynced, open_leaves, open_unsynced, open_ready}
 use Rattle.row_journal.proofs.snapshots.write_snapshot.Goals as goal
 

@@ -1,6 +1,6 @@
 use Rattle.std.proofs.Common.{◌≡◌, ◌++◌, drop}
 use Rattle.heat_value.specs.Meaning.{data_of}
-use Rattle.hot_eval.specs.Fillings.{literal_path}
+use Rattle.eval_words.specs.Fillings.{literal_path}
 use Rattle.hot_eval.specs.Repeats.{choice_of}
 use Rattle.hot_eval.proofs.fillings.literal.literal_path.Given as goal
 

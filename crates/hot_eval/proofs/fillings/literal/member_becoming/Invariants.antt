@@ -1,6 +1,6 @@
 use Rattle.std.proofs.Common.{◌≡◌, drop}
 use Rattle.heat_value.specs.Meaning.{members_of}
-use Rattle.hot_eval.specs.Fillings.{member_becoming}
+use Rattle.eval_words.specs.Fillings.{member_becoming}
 use Rattle.hot_eval.specs.Repeats.{choice_of}
 use Rattle.hot_eval.proofs.fillings.literal.member_becoming.Given as goal
 

@@ -1,8 +1,8 @@
 use Rattle.std.proofs.Common.{◌≡◌, ◌+◌, ◌-◌, ◌≤◌, ℕ, suc, ap, arith}
 use Rattle.heat_value.specs.Data.{Data}
-use Rattle.hot_eval.specs.Evaluation.{evaluation_within, value_outcome}
-use Rattle.hot_eval.specs.Outcomes.{cost_limit}
-use Rattle.hot_eval.specs.Scenes.{SceneData, scene_data}
+use Rattle.eval_words.specs.Evaluation.{evaluation_within, value_outcome}
+use Rattle.eval_words.specs.Outcomes.{cost_limit}
+use Rattle.eval_words.specs.Scenes.{SceneData, scene_data}
 use Rattle.hot_eval.proofs.setting.Setting.repeated.Goals as goal
 
 deeper : (S : SceneData) (r k : ℕ) → k ≡ r + 1 → k ≤ 512 → (d : Data) (n : ℕ)

@@ -1,5 +1,5 @@
 use Rattle.std.proofs.Common.{◌++◌, [], ◌∷◌, List, ℕ, refl, sym, ◌∙◌, ap, arith}
-use Rattle.journal_form.specs.Forms.{IsSized}
+use Rattle.row_journal.specs.Forms.{IsSized}
 use Rattle.row_journal.specs.declared.place.Place.{Place}
 use Rattle.row_journal.specs.Ends.{with_next}
 use Rattle.row_journal.proofs.Next.{body_at}

@@ -1,5 +1,5 @@
 use Rattle.std.proofs.Common.{◌≡◌, sym, ◌∙◌, subst, Vec, Global, false}
-use Rattle.journal_form.specs.declared.records.Payload.{Payload}
+use Rattle.row_journal.specs.declared.records.Payload.{Payload}
 use Rattle.row_journal.specs.Openings.{HasOpened, Survives, SurvivesNamed, StaysUnsynced}
 use Rattle.row_journal.specs.Shown.{JournalData}
 use Rattle.row_journal.proofs.Named.{named}

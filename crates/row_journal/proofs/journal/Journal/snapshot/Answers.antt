@@ -1,5 +1,5 @@
 use Rattle.std.proofs.Common.{rules, sym, ◌∙◌, arith}
-use Rattle.journal_form.specs.Forms.{IsSized}
+use Rattle.row_journal.specs.Forms.{IsSized}
 use Rattle.row_journal.specs.Snapshots.{fresh_snapshot}
 use Rattle.row_journal.proofs.journal.Journal.snapshot.Goals as goal
 

@@ -1,0 +1,41 @@
+//! Runs the engine and what it reads for the clock outside: its steps, templates, and text functions. The
+//! first word is what is measured, the other words are its own; `all` runs each at its least size. Each
+//! prints a line, which is the same at each run.
+#![tactic(auto)]
+
+mod steps;
+mod strings;
+mod templates;
+
+use anyhow::{Result, bail};
+use std::env;
+
+fn main(rt: HostRuntime) -> Result<()> {
+    let given = env::args(&rt)?.skip(1).collect::<Vec<String>>(rt.alloc())?;
+    let mut words = Vec::new(rt.alloc());
+    for word in given.as_slice() {
+        words.push(word.as_str())?;
+    }
+    let [what, words @ ..] = words.as_slice() else {
+        bail!("steps, templates, strings or all");
+    };
+    run(&rt, what, words)
+}
+
+// Runs what the word names, by the words behind it.
+fn run(rt: &HostRuntime, what: &str, words: &[&str]) -> Result<()> {
+    match what {
+        "steps" => steps::run(rt, words),
+        "templates" => templates::run(rt, words),
+        "strings" => strings::run(rt, words),
+        "all" => run_all(rt),
+        _ => bail!("steps, templates, strings or all"),
+    }
+}
+
+// Runs each at its least size.
+fn run_all(rt: &HostRuntime) -> Result<()> {
+    steps::run(rt, &["chain", "delete", "12"])?;
+    templates::run(rt, &["admit", "12"])?;
+    strings::run(rt, &["replace", "1000"])
+}

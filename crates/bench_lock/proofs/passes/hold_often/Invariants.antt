@@ -1,6 +1,0 @@
-use Rattle.std.proofs.Common.{◌≡◌}
-use Rattle.book_lock.specs.Closing.{IsFree}
-use Rattle.bench_lock.proofs.passes.hold_often.Given as goal
-
-abbrev pub invariant-loop : goal.invariant-loop
-invariant-loop g l = record { free : IsFree l.shared l.pass; name : l.pass.name ≡ l.fn.pass.name }

@@ -1,8 +1,0 @@
-pub mod Links
-pub mod Graphs
-pub mod Edges
-pub mod Jobs
-pub mod Rows
-pub mod Marks
-pub mod Covers
-pub mod Tells

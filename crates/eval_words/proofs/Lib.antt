@@ -1,0 +1,3 @@
+pub mod Finds
+pub mod Placed
+pub mod Unchanged

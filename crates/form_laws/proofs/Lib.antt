@@ -1,9 +1,0 @@
-pub mod Absent
-pub mod Many
-pub mod Written
-pub mod Clean
-pub mod Checked
-pub mod There
-pub mod Binds
-pub mod Entries
-pub mod Admitted

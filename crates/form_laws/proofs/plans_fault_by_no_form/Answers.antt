@@ -1,5 +1,0 @@
-use Rattle.form_laws.proofs.Admitted.{plans_law}
-use Rattle.form_laws.proofs.plans_fault_by_no_form.Goals as goal
-
-pub returns : goal.returns
-returns c = plans_law

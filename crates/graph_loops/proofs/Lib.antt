@@ -1,4 +1,0 @@
-pub mod CountLemmas
-pub mod VisitLemmas
-pub mod RankLemmas
-pub mod LoopLemmas

@@ -1,7 +1,0 @@
-use Rattle.std.proofs.Common.{◌≡◌, drop, bytes_eq}
-use Rattle.std.specs.List.{list_any}
-use Rattle.hot_eval.proofs.scene.is_one_of_names.Given as goal
-
--- what is left decides
-abbrev pub invariant-loop-other : goal.invariant-loop-other
-invariant-loop-other l = list_any (bytes_eq l.name) l.names ≡ list_any (bytes_eq l.name) (drop l.other-index l.names)

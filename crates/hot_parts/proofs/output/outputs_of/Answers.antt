@@ -1,8 +1,0 @@
-use Rattle.hot_parts.specs.Entries.{IsOut}
-use Rattle.hot_parts.proofs.Each.{each_more}
-use Rattle.hot_parts.proofs.output.outputs_of.Goals as goal
-
-pub loop-member-preserved : goal.loop-member-preserved
-loop-member-preserved c =
-    rw c.in_ok-push.ensures.ok (each_more IsOut _ _ c.member-item.result _ _ c.loop-member-test.true c.member-item.is
-    c.loop-member.invariant c.in_ok-out_of.ensures)

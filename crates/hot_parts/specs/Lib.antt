@@ -1,4 +1,0 @@
-pub mod Readings
-pub mod Constraints
-pub mod Entries
-pub mod Parts

@@ -1,5 +1,0 @@
-use Rattle.hot_registry.proofs.Untruncated.{change_again}
-use Rattle.hot_registry.proofs.judge.Judge.change.Goals as goal
-
-pub returns : goal.returns
-returns g c = change_again _ _ _ _ c.told.ensures

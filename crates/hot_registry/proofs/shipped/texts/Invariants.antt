@@ -1,6 +1,0 @@
-use Rattle.std.proofs.Common.{◌≡◌, ◌++◌, drop, map}
-use Rattle.hot_registry.proofs.shipped.texts.Given as goal
-
--- those so far and those left are all
-abbrev pub invariant-loop-text : goal.invariant-loop-text
-invariant-loop-text l = l.texts ++ map (λ t. t.now) (drop l.text-index l.all) ≡ map (λ t. t.now) l.all

@@ -1,4 +1,0 @@
-pub mod Names
-pub mod Kinds
-pub mod Registries
-pub mod Shipped

@@ -1,4 +1,0 @@
-pub mod Mail
-pub mod Holders
-pub mod ByRow
-pub mod Runs

@@ -1,7 +1,0 @@
-use Rattle.std.proofs.Common.{◌≡◌, drop, nat_eq}
-use Rattle.std.specs.List.{position_from}
-use Rattle.indexed_points.specs.declared.point.SyncPoint.{SyncPoint}
-use Rattle.indexed_points.proofs.list_points.ListPoints.find.Given as goal
-
-abbrev pub invariant-loop-i : goal.invariant-loop-i
-invariant-loop-i l = position_from (λ (x : SyncPoint). nat_eq x.point.node l.node) 0 l.self ≡ position_from (λ (x : SyncPoint). nat_eq x.point.node l.node) l.i (drop l.i l.self)

@@ -1,6 +1,0 @@
-use Rattle.std.proofs.Common.{◌≡◌, take}
-use Rattle.indexed_points.specs.Numbers.{fresh_points}
-use Rattle.indexed_points.proofs.list_points.ListPoints.new.Given as goal
-
-abbrev pub invariant-loop-place : goal.invariant-loop-place
-invariant-loop-place l = l.points.items ≡ fresh_points l.stack 0 (take l.place l.preds)

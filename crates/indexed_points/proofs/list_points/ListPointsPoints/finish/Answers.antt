@@ -1,9 +1,0 @@
-use Rattle.std.proofs.Common.{refl}
-use Rattle.indexed_points.specs.Points.{finished}
-use Rattle.indexed_points.proofs.Places.{point_written}
-use Rattle.indexed_points.proofs.list_points.ListPointsPoints.finish.Goals as goal
-
-pub returns : goal.returns
-returns c =
-    point_written c.args.self.now c.self.inside.points.items c.self.view_is c.args.node c.place-place.result c.place-place.ensures.place c.place-place.ensures.within
-    c.index_mut.result.now c.index_mut.ensures.value finished _ refl refl

@@ -1,6 +1,0 @@
-use Rattle.std.proofs.Common.{take}
-use Rattle.indexed_points.specs.Runs.{Runs}
-use Rattle.indexed_points.proofs.run.run_points.Given as goal
-
-abbrev pub invariant-loop-op : goal.invariant-loop-op
-invariant-loop-op g l = Runs (take l.op-index l.ops) (g.R.Points.content l.fn.points) l.answers (g.R.Points.content l.points)

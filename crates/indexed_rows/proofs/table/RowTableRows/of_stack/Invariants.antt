@@ -1,5 +1,0 @@
-use Rattle.indexed_rows.proofs.Stacks.{NosSoFar}
-use Rattle.indexed_rows.proofs.table.RowTableRows.of_stack.Given as goal
-
-abbrev pub invariant-loop-i : goal.invariant-loop-i
-invariant-loop-i l = NosSoFar l.rows l.entries l.start l.end l.i l.nos

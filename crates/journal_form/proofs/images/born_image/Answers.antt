@@ -1,9 +1,0 @@
-use Rattle.std.proofs.Common.{ℕ, List, sym, subst}
-use Rattle.std.proofs.lemmas.List.{take_rest}
-use Rattle.journal_form.specs.Forms.{AreRecords}
-use Rattle.journal_form.proofs.images.born_image.Goals as goal
-
-pub returns-in-None-clause-image : goal.returns-in-None-clause-image
-returns-in-None-clause-image c i gives =
-    c.in_ok-read.ensures.none c.in-None.is i.payloads
-    (subst (λ (l : List ℕ). AreRecords c.args.header.version 1 l i.payloads) (sym (take_rest c.args.bytes.now 16)) gives.1.born)

@@ -1,3 +1,0 @@
-pub mod Forms
-pub mod Images
-pub mod Shown

@@ -1,9 +1,0 @@
-//! What holds of images, with no call of theirs.
-ghost use Rattle.std.specs.Prelude.{◌≡◌};
-ghost use Rattle.heat_disk.specs.Halves.{Pair};
-ghost use Rattle.journal_form.specs.Images.{ImageData, IsImage};
-
-/// Two halves have one image at most.
-pub fn one_image()
-    ensures { (halves : Pair) (i j : ImageData) → IsImage halves i → IsImage halves j → i ≡ j }
-{}

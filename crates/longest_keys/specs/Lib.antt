@@ -1,0 +1,6 @@
+pub mod Texts
+pub mod Tries
+pub mod Walks
+pub mod Finders
+pub mod Marks
+pub mod Growing

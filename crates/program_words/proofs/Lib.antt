@@ -1,3 +1,0 @@
-pub mod Options
-pub mod Wording
-pub mod Saying

@@ -1,0 +1,4 @@
+pub mod Shown
+pub mod Laws
+pub mod Calls
+pub mod Nothing

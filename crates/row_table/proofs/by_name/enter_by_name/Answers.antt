@@ -1,0 +1,12 @@
+use Rattle.std.proofs.Common.{map, subst}
+use Rattle.keyed_table.specs.Orders.{IsStart}
+use Rattle.row_table.specs.Keys.{name_of, name_cmp, name_key, name_below}
+use Rattle.row_table.proofs.RowOrders.{name_total, name_exact, row_entered}
+use Rattle.row_table.proofs.by_name.enter_by_name.Goals as goal
+
+pub returns-clause-whole : goal.returns-clause-whole
+returns-clause-whole c =
+    row_entered name_cmp name_total name_exact name_of c.args.rows.now c.args.places.now.items c.insert.new.self.items c.args.place c.start_of_name-at.result c.index-rows-place.result c.insert.ensures.items
+    c.requires.within c.index-rows-place.is c.requires.apart
+    (subst (λ n. IsStart (λ k. name_below k (name_of c.index-rows-place.result, n)) (map name_key c.args.rows.now) c.args.places.now.items c.start_of_name-at.result) c.get.ensures.value c.start_of_name-at.ensures)
+    c.requires.others

@@ -1,0 +1,15 @@
+use Rattle.std.proofs.Common.{map, subst}
+use Rattle.keyed_table.specs.Orders.{IsStart}
+use Rattle.std.specs.Cmp.Lexicographic.{nat_list_cmp_total}
+use Rattle.std.proofs.lemmas.Map.Lookups.{exact_bytes}
+use Rattle.keyed_table.specs.Sortings.{text_cmp}
+use Rattle.row_table.specs.Keys.{stack_of, stack_key, stack_below}
+use Rattle.row_table.proofs.RowOrders.{row_entered}
+use Rattle.row_table.proofs.by_stack.enter_by_stack.Goals as goal
+
+pub returns-clause-whole : goal.returns-clause-whole
+returns-clause-whole c =
+    row_entered text_cmp nat_list_cmp_total exact_bytes stack_of c.args.rows.now c.args.places.now.items c.insert.new.self.items c.args.place c.start_of_stack-at.result c.index-rows-place.result c.insert.ensures.items
+    c.requires.within c.index-rows-place.is c.requires.apart
+    (subst (λ n. IsStart (λ k. stack_below k (stack_of c.index-rows-place.result, n)) (map stack_key c.args.rows.now) c.args.places.now.items c.start_of_stack-at.result) c.get.ensures.value c.start_of_stack-at.ensures)
+    c.requires.others

@@ -1,0 +1,14 @@
+use Rattle.std.proofs.Common.{◌<◌, length, refl, sym, ap, subst}
+use Rattle.sync_points.specs.Points.{point_key, written}
+use Rattle.sync_points.proofs.Places.{point_written, written_numbered}
+use Rattle.sync_points.proofs.table.SyncPointsPoints.set.Goals as goal
+
+pub invariant_of-self : goal.invariant_of-self
+invariant_of-self c =
+    written_numbered c.self.inside.points.items c.place-place.result c.index_mut.result.now c.write.new.self c.self.invariant
+    (subst (λ ps. c.place-place.result < length ps) (sym c.self.view_is) c.place-place.ensures.within) c.index_mut.ensures.value (ap point_key c.write.ensures)
+
+pub returns : goal.returns
+returns c =
+    point_written c.args.self.now c.self.inside.points.items c.self.view_is c.args.node c.place-place.result c.place-place.ensures.place c.place-place.ensures.within
+    c.index_mut.result.now c.index_mut.ensures.value (written c.args.inputs c.args.done) _ c.write.ensures refl

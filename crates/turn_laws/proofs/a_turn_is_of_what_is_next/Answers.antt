@@ -1,8 +1,0 @@
-use Rattle.turn_laws.proofs.Fitting.{turn_is_live, turn_suits}
-use Rattle.turn_laws.proofs.a_turn_is_of_what_is_next.Goals as goal
-
-pub returns-clause-suits : goal.returns-clause-suits
-returns-clause-suits c = turn_suits
-
-pub returns-clause-live : goal.returns-clause-live
-returns-clause-live c = turn_is_live

@@ -1,3 +1,0 @@
-pub mod Suits
-pub mod HasTurn
-pub mod Fits

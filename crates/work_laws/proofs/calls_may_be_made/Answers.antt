@@ -1,5 +1,0 @@
-use Rattle.work_laws.proofs.Finds.{calls_may_be_made}
-use Rattle.work_laws.proofs.calls_may_be_made.Goals as goal
-
-pub returns : goal.returns
-returns c = calls_may_be_made
