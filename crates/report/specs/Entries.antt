@@ -92,6 +92,7 @@ line_of seen (what.Show shown stack) = show_text shown stack seen
 line_of seen (what.Note number code path) = note_line number code path
 line_of seen (what.Ran idle turns) = ran_line idle turns
 line_of seen (what.Turned engine lost) = turned_line engine lost
+line_of seen (what.Preview stack forecast) = preview_text stack forecast
 line_of seen what.Closed = []
 
 -- the rows that an entry writes
@@ -107,6 +108,7 @@ writes_of (what.Show shown stack) = []
 writes_of (what.Note number code path) = []
 writes_of (what.Ran idle turns) = []
 writes_of (what.Turned engine lost) = []
+writes_of (what.Preview stack forecast) = []
 writes_of what.Closed = []
 
 -- an entry's text: its line, or those of its writes
@@ -127,4 +129,5 @@ after_what seen (what.Show shown stack) = seen
 after_what seen (what.Note number code path) = seen
 after_what seen (what.Ran idle turns) = seen
 after_what seen (what.Turned engine lost) = seen
+after_what seen (what.Preview stack forecast) = seen
 after_what seen what.Closed = seen

@@ -22,7 +22,7 @@ use Rattle.step_relation.specs.Orders.{Command, IsForward, cancel, create, creat
 use Rattle.step_relation.specs.Orders.{plan_back, rollback_sets, row_limit, update, update_sets}
 use Rattle.step_relation.specs.Runs.{IsTied, IsTiedStep, Judges, Run, begins, goes_on}
 use Rattle.step_relation.specs.Steps.{IsNote, Step, close, command, enlist, note, notes, ran, restart, shows, stop}
-use Rattle.step_relation.specs.Steps.{turn, turned, unstored}
+use Rattle.step_relation.specs.Steps.{previews, turn, turned, unstored}
 use Rattle.step_relation.specs.Turns.{FollowsFailure, IsDue, Turn, plain, rolls, stays, unfailed}
 use Rattle.step_relation.specs.Writes.{entry_of}
 use Rattle.step_relation.specs.Could.{IsPossible}
@@ -216,6 +216,7 @@ note_unmarking _ (shows it stack) = tt
 note_unmarking _ (notes line code path) = tt
 note_unmarking _ (ran idle turns) = tt
 note_unmarking _ (turned e lost) = tt
+note_unmarking _ (previews stack forecast) = tt
 
 pub rolled_step : (keeps : KeepsSound) (judges : Judges) (o : Opening) (h : List Entry) (s : StateData)
     (x : Sound o h s) (cs : List Change) (es : List Entry) (step : Step s cs es)

@@ -59,6 +59,7 @@ command_or stack e b = by e.what refl where
   by (what.Note line code path) is = inr (λ it c. let eq = sym is ∙ c.is in cc, refl)
   by (what.Ran idle turns) is = inr (λ it c. let eq = sym is ∙ c.is in cc, refl)
   by (what.Turned engine lost) is = inr (λ it c. let eq = sym is ∙ c.is in cc, refl)
+  by (what.Preview stack forecast) is = inr (λ it c. let eq = sym is ∙ c.is in cc, refl)
   by what.Closed is = inr (λ it c. let eq = sym is ∙ c.is in cc, refl)
 
 pub newest_from : (stack : List ℕ) (b : Option Latest) (h : List Entry) (it : Latest) → newest_on stack b h ≡ Some it
