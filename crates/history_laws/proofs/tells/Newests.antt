@@ -106,7 +106,7 @@ uncommanded_mark stack trav e done x it among c = elim (cases x e [] among) [
 at_end : (h : List Entry) (e : Entry) → Contains (h ++ e ∷ []) e
 at_end h e = Contains-append_right h (e ∷ []) e (here e e [] refl)
 
-opening_stack : (found : Option Stack) (it : Latest) → option_map latest_of found ≡ Some it
+pub opening_stack : (found : Option Stack) (it : Latest) → option_map latest_of found ≡ Some it
     → (st : Stack) × (found ≡ Some st) × (latest_of st ≡ it)
 opening_stack None it is = cc
 opening_stack (Some st) it is = (st, refl, cc)
