@@ -22,6 +22,7 @@ use Rattle.report.specs.Seen.{SeenData, stack_key, stack_at, with_stacks, after_
 use Rattle.report.specs.Rows.{writes_text, shown_lines}
 use Rattle.report.specs.Stacks.{begun, plan_seen, after_mark}
 use Rattle.report.specs.Outputs.{outputs_text}
+use Rattle.report.specs.Previews.{preview_text}
 use Rattle.report.specs.declared.brief.SeenStack.{SeenStack}
 
 -- `stack <name> <trav> <ACT>_<STATUS>`

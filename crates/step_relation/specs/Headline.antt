@@ -5,7 +5,6 @@ use Rattle.heat_value.specs.Data.{Members}
 use Rattle.heat_plan.specs.Plans.{PlanData}
 use Rattle.heat_plan.specs.declared.calls.Answered.{Answered}
 use Rattle.heat_plan.specs.declared.calls.Request.{Request}
-use Rattle.heat_plan.specs.declared.item.Policy.TheVariants.{Retain}
 use Rattle.heat_plan.specs.declared.phase.Act.{Act}
 use Rattle.heat_plan.specs.declared.phase.Act.TheVariants.{Rollback}
 use Rattle.heat_plan.specs.declared.phase.Status.TheVariants.{Complete, Failed}
@@ -34,8 +33,8 @@ use Rattle.step_relation.specs.Last.{IsLast}
 use Rattle.step_relation.specs.Marked.{Completed, FailedFor, Unmarked, mark_of}
 use Rattle.step_relation.specs.Newest.{Latest, newest, rollback_of}
 use Rattle.step_relation.specs.Opening.{Opening}
-use Rattle.step_relation.specs.Policies.{HasPolicyFrom}
-use Rattle.step_relation.specs.Stored.{released, stored}
+use Rattle.step_relation.specs.Policies.{MayBeReleased}
+use Rattle.step_relation.specs.Stored.{stored}
 use Rattle.step_relation.specs.Tokens.{IsNamed}
 use Rattle.step_relation.specs.Agrees.{IsGoing, StateFits}
 use Rattle.step_relation.specs.Stir.{EachStirs}
@@ -68,15 +67,6 @@ pub data MayBeAsked (states : List TokenState) : Request → Type 0 where
   delete : MayBeAsked states request.Delete
   poll : All IsSome states → MayBeAsked states request.Poll
   gone : All IsGoing states → MayBeAsked states request.Gone
-
--- a stored row with the policy Retain, which its last begin took from its plan; its token wasn't given up before
-pub record MayBeReleased (o : Opening) (before : List Entry) (t : Token) : Type 0 where
-  pub row : Row
-  pub found : row_at (stored o before) t.row ≡ Some row
-  pub its : token_of row ≡ t
-  pub retained : row.policy ≡ Retain
-  pub planned : HasPolicyFrom o before row
-  pub once : ¬ Contains (released o before) t
 
 -- the entries end with a mark of the stack with a cause
 pub record EndsFailed (before : List Entry) (actor : Actor) (stack : List ℕ) : Type 0 where

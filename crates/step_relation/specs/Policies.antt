@@ -1,9 +1,12 @@
--- Where a row's policy comes from: the plan of its last begin, by the history alone, or the opening's row.
+-- Where a row's policy comes from: the plan of its last begin, by the history alone, or the opening; and which token
+-- may be given up.
 use Rattle.std.specs.Prelude.{Contains, List, Option, Some, ℕ, ◌≡◌, ◌≢◌}
 use Rattle.heat_plan.specs.Plans.{PlanData}
 use Rattle.heat_plan.specs.declared.item.Item.{Item}
 use Rattle.heat_plan.specs.declared.item.Policy.{Policy}
+use Rattle.heat_plan.specs.declared.item.Policy.TheVariants.{Retain}
 use Rattle.heat_plan.specs.declared.phase.Act.TheVariants.{Delete}
+use Rattle.heat_plan.specs.declared.token.Token.{Token}
 use Rattle.row_table.specs.Rows.{row_at}
 use Rattle.row_table.specs.declared.row.Row.{Row}
 use Rattle.core_state.specs.Reads.{item_at}
@@ -15,6 +18,7 @@ use Rattle.step_relation.specs.Rows.{token_of}
 use Rattle.step_relation.specs.Last.{IsCommandOf}
 use Rattle.step_relation.specs.Newest.{Latest}
 use Rattle.step_relation.specs.Opening.{Opening}
+use Rattle.step_relation.specs.Stored.{released, stored}
 
 -- the plan's item of this name has the policy
 pub record HasPolicy (plan : Option PlanData) (name : List ℕ) (policy : Policy) : Type 0 where
@@ -60,3 +64,12 @@ pub data HasPolicyFrom (o : Opening) (h : List Entry) (r : Row) : Type 0 where
 -- so it is of every row that isn't at DELETE
 pub record PoliciesFit (o : Opening) (h : List Entry) (s : StateData) : Type 0 where
   pub each : (n : ℕ) (r : Row) → row_at s.rows n ≡ Some r → r.act ≢ Delete → HasPolicyFrom o h r
+
+-- a stored row with the policy Retain, which its last begin took from its plan; its token wasn't given up before
+pub record MayBeReleased (o : Opening) (before : List Entry) (t : Token) : Type 0 where
+  pub row : Row
+  pub found : row_at (stored o before) t.row ≡ Some row
+  pub its : token_of row ≡ t
+  pub retained : row.policy ≡ Retain
+  pub planned : HasPolicyFrom o before row
+  pub once : ¬ Contains (released o before) t

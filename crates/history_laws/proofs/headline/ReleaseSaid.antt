@@ -33,7 +33,8 @@ use Rattle.step_relation.specs.Stored.{released, stored}
 use Rattle.step_relation.specs.Tokens.{HasRow, IsNamed}
 use Rattle.step_relation.specs.Agrees.{StateFits}
 use Rattle.step_relation.specs.GraphFits.{graph_of, graph_or}
-use Rattle.step_relation.specs.Headline.{AtPrefix, FitsIn, MayBeReleased}
+use Rattle.step_relation.specs.Headline.{AtPrefix, FitsIn}
+use Rattle.step_relation.specs.Policies.{MayBeReleased}
 use Rattle.step_relation.specs.MailFits.{JobStands}
 use Rattle.step_relation.specs.Sound.{Sound}
 use Rattle.step_relation.specs.Tells.{TellsStack, status_by}
