@@ -19,13 +19,14 @@ use Rattle.graph_laws.proofs.fits.Below.{marks_by_moves}
 use Rattle.graph_laws.proofs.fits.Below.{marks_by_commands, pasts_by_commands}
 use Rattle.graph_laws.proofs.fits.Below.{pasts_by_moves}
 use Rattle.history_laws.proofs.headline.MainTheorem.{standing_has_headline, standing_keeps_sound, steps_keep_runs}
+use Rattle.history_laws.proofs.headline.Restarts.{empty_by, restarts_by}
 use Rattle.graph_laws.proofs.fits.Laid.{fit_by_commands}
 use Rattle.graph_laws.proofs.fits.Own.{fit_by_engines}
 use Rattle.graph_laws.proofs.covers.Commands.{covers_laid}
 use Rattle.graph_laws.proofs.covers.Engines.{covers_kept}
 use Rattle.graph_laws.proofs.covers.Moves.{covers_moved}
 use Rattle.graph_laws.proofs.fits.Kept.{fit_by_moves}
-use Rattle.step_relation.specs.Laws.{SoundOpeningsHaveHeadline, SoundOpeningsStaySound, StepsKeepSound}
+use Rattle.step_relation.specs.Laws.{NothingKeptIsSound, RestartsKeepSound, SoundOpeningsHaveHeadline, SoundOpeningsStaySound, StepsKeepSound}
 
 pub standing_kept : StandingKept
 standing_kept = record {
@@ -111,3 +112,9 @@ runs_sound = steps_keep_runs steps_sound
 
 pub runs_headline : SoundOpeningsHaveHeadline
 runs_headline = standing_has_headline standing_kept
+
+pub restarts_sound : RestartsKeepSound
+restarts_sound = restarts_by steps_sound
+
+pub empty_openings : NothingKeptIsSound
+empty_openings = empty_by restarts_sound

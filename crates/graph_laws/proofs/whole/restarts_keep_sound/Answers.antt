@@ -1,4 +1,4 @@
-use Rattle.graph_laws.proofs.whole.Restarts.{restarts_sound}
+use Rattle.graph_laws.proofs.whole.Whole.{restarts_sound}
 use Rattle.graph_laws.proofs.whole.restarts_keep_sound.Goals as goal
 
 pub returns : goal.returns
