@@ -196,6 +196,26 @@ module _ (S : SceneData) (other : List KnownFacts) where
     called_alike l None formed k d alike o p plain same n told = same told
     called_alike l (Some f) formed k d alike o p plain same n told = call_alike l f formed k d alike n told
 
+    -- ---- a member of a repeat
+
+    unless_alike : (l : ℕ) (but k : List ℕ) (d : Data) (ms : Members) (b : Bool) (n : ℕ)
+        → ((m : ℕ) → Told (all_but_reads X R S l but ms m)
+        → all_but_outcome X S l but ms m ≡ all_but_outcome Y T l but ms m)
+        → (Told (value_reads X R S l d n) → value_outcome X S l d n ≡ value_outcome Y T l d n)
+        → Told (if b then all_but_reads X R S l but ms n else value_reads X R S l d n
+        ++ reads_behind (value_outcome X S l d n) (λ v m. all_but_reads X R S l but ms m))
+        → and_then (if b then Gives d n else under (Key k) (value_outcome X S l d n))
+        (λ v m. made_into (member k v) (all_but_outcome X S l but ms m))
+        ≡ and_then (if b then Gives d n else under (Key k) (value_outcome Y T l d n))
+        (λ v m. made_into (member k v) (all_but_outcome Y T l but ms m))
+    unless_alike l but k d ms true n rest value told = ap (made_into (member k d)) (rest n told)
+    unless_alike l but k d ms false n rest value told =
+        next_alike (λ p. Key k ∷ p) (value_outcome X S l d n) (value_outcome Y T l d n)
+        (λ v m. made_into (member k v) (all_but_outcome X S l but ms m))
+        (λ v m. made_into (member k v) (all_but_outcome Y T l but ms m)) (λ v m. all_but_reads X R S l but ms m)
+        (value (front (value_reads X R S l d n) _ told)) (back (value_reads X R S l d n) _ told)
+        (λ v m more. ap (made_into (member k v)) (rest m more))
+
     -- ---- values and conditions
 
     mutual
@@ -269,24 +289,6 @@ module _ (S : SceneData) (other : List KnownFacts) where
       all_but_alike l but (member k d ms) n told =
           unless_alike l but k d ms (bytes_eq k but) n (λ m more. all_but_alike l but ms m more)
           (value_alike l d n) told
-
-      unless_alike : (l : ℕ) (but k : List ℕ) (d : Data) (ms : Members) (b : Bool) (n : ℕ)
-          → ((m : ℕ) → Told (all_but_reads X R S l but ms m)
-          → all_but_outcome X S l but ms m ≡ all_but_outcome Y T l but ms m)
-          → (Told (value_reads X R S l d n) → value_outcome X S l d n ≡ value_outcome Y T l d n)
-          → Told (if b then all_but_reads X R S l but ms n else value_reads X R S l d n
-          ++ reads_behind (value_outcome X S l d n) (λ v m. all_but_reads X R S l but ms m))
-          → and_then (if b then Gives d n else under (Key k) (value_outcome X S l d n))
-          (λ v m. made_into (member k v) (all_but_outcome X S l but ms m))
-          ≡ and_then (if b then Gives d n else under (Key k) (value_outcome Y T l d n))
-          (λ v m. made_into (member k v) (all_but_outcome Y T l but ms m))
-      unless_alike l but k d ms true n rest value told = ap (made_into (member k d)) (rest n told)
-      unless_alike l but k d ms false n rest value told =
-          next_alike (λ p. Key k ∷ p) (value_outcome X S l d n) (value_outcome Y T l d n)
-          (λ v m. made_into (member k v) (all_but_outcome X S l but ms m))
-          (λ v m. made_into (member k v) (all_but_outcome Y T l but ms m)) (λ v m. all_but_reads X R S l but ms m)
-          (value (front (value_reads X R S l d n) _ told)) (back (value_reads X R S l d n) _ told)
-          (λ v m more. ap (made_into (member k v)) (rest m more))
 
       if_alike : (l : ℕ) (d : Data) (n : ℕ) → Told (if_reads X R S l d n) → if_outcome X S l d n ≡ if_outcome Y T l d n
       if_alike l null n told = refl

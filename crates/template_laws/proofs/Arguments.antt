@@ -63,7 +63,7 @@ module _ (S : SceneData) (X : Leveled) (l : ℕ) where
     pub condition : is_condition d ≡ true → IsFormed S as_condition d → (n : ℕ)
         → Holds IsFlag (MayFault as_condition d) (condition_outcome X S l d n)
     pub conditions : has_form form.Combined d ≡ true → IsFormed S as_conditions d → (n : ℕ)
-        → Holds (ComesTo manner.Conditions d) (MayFault as_conditions d) (condition_parts_outcome X S l l d n)
+        → Holds (ComesTo manner.Conditions d) (MayFault as_conditions d) (condition_parts_outcome X S l d n)
 
   -- the argument of each function
   argued : (k : List ℕ) (d : Data) (f : Function) → Evaluated d → has_form (form_for f) d ≡ true
