@@ -194,7 +194,7 @@ module _ (params : Members) (a b : List Condition) where
               condition = condition_stays l d;
               conditions = condition_parts_stay l d;
             }) plain n
-        object_stays l (member k d (member l e ms)) o p plain n = plain
+        object_stays l (member k d (member j e ms)) o p plain n = plain
 
         parts_stay : (l : ℕ) (d : Data) (n : ℕ) → Stays (parts_outcome X S l d n) (parts_outcome Y T l d n)
         parts_stay l null n = λ fits. refl
@@ -278,7 +278,7 @@ module _ (params : Members) (a b : List Condition) where
               condition = condition_stays l d;
               conditions = condition_parts_stay l d;
             }) plain n
-        object_condition_stays l (member k d (member l e ms)) o p plain n = plain
+        object_condition_stays l (member k d (member j e ms)) o p plain n = plain
 
         condition_parts_stay : (l : ℕ) (d : Data) (n : ℕ)
             → StaysIf (λ a. HasFlags (listed a)) (condition_parts_outcome X S l d n) (condition_parts_outcome Y T l d n)
