@@ -140,7 +140,7 @@ module _ (o : Opening) (h : List Entry) (s : StateData) (x : Sound o h s) (e : �
   begun_from =
       let told = x.tells.stacks k.job.letter.stack k.stack k.names.in_table in
       elim (newest_from k.stack.name (option_map latest_of (stack_at o.state.stacks k.stack.name)) h
-          (latest_of k.stack) told.traversal) [
+      (latest_of k.stack) told.traversal) [
         | inl c ↦ heard c
         | inr (none, is) ↦ opened none (opening_stack (stack_at o.state.stacks k.stack.name) (latest_of k.stack) is)
       ]
