@@ -1,14 +1,12 @@
 //! The list against the rows.
 ghost use Rattle.std.specs.Prelude.{◌≡◌, ◌↔◌, IsTrue, option_map};
-ghost use Rattle.workable_laws.specs.Admitted.{IsKnown};
-ghost use Rattle.opening_check.specs.Findings.{IsOurs};
+ghost use Rattle.step_relation.specs.Compared.{IsExpected, IsKnown};
 ghost use Rattle.opening_check.specs.Places.{IsIndex};
 ghost use Rattle.opening_check.specs.Strangers.{IsStranger};
 
 use crate::listed::Listed;
 use core_state::State;
-use heat_plan::{Act, Token};
-use heat_value::Equals;
+use heat_plan::{Act, Equals, Token};
 use keyed_table::Table;
 use provider::Alive;
 
@@ -22,7 +20,7 @@ pub(crate) fn first_stranger<'a>(
     ensures { IsStranger s.now.state all.now (option_map (λ a. a.now) result) }
 {
     for alive in all {
-        if !is_ours(s, given_up, &alive.token) {
+        if !is_expected(s, given_up, &alive.token) {
             return Some(alive);
         }
     }
@@ -30,9 +28,9 @@ pub(crate) fn first_stranger<'a>(
 }
 
 // Whether a token is that of a row that isn't at INIT, or was given up.
-fn is_ours(s: &State, given_up: &Table<Listed>, token: &Token) -> bool
+fn is_expected(s: &State, given_up: &Table<Listed>, token: &Token) -> bool
     requires { IsIndex s.now.state.released given_up.now.items }
-    ensures { IsTrue result ↔ IsOurs s.now.state token.now }
+    ensures { IsTrue result ↔ IsExpected s.now.state token.now }
 {
     is_known(s, token) || given_up.get(token).is_some()
 }

@@ -1,15 +1,18 @@
-use Rattle.std.proofs.Common.{◌≡◌, ◌∙◌, ◌++◌, ◌∷◌, All, List, None, Option, Some, [], ap}
-use Rattle.heat_plan.specs.Tables.{at}
+use Rattle.std.proofs.Common.{◌≡◌, ◌∙◌, ◌++◌, ◌∷◌, List, [], ap, sym, subst}
+use Rattle.std.specs.Prelude.{All, false}
 use Rattle.heat_plan.specs.declared.token.Token.{Token as token_type}
 use Rattle.provider.specs.Same.{same_token}
-use Rattle.opening_check.specs.Places.{or_else, place_in, token_of_listed}
 use Rattle.opening_check.specs.declared.listed.Listed.{Listed}
-use Rattle.opening_check.proofs.PlacesLemmas.{all_apart, pushed, stays}
+use Rattle.opening_check.proofs.PlacesLemmas.{all_apart, pushed, unentered}
 use Rattle.opening_check.proofs.index.enter.Goals as goal
 
 -- src/index.rt:45:5
 pub push-requires-clause-new_key : goal.push-requires-clause-new_key
-push-requires-clause-new_key c = search (all_apart)
+push-requires-clause-new_key c =
+    subst (λ (xs : List Listed). All (λ (l : Listed). same_token l.token c.in_ok-copy.field-0 ≡ false) xs) (sym c.in_ok-reserve.ensures.same)
+    (subst (λ (t : token_type). All (λ (l : Listed). same_token l.token t ≡ false) c.args.index.now.items) (sym c.in_ok-copy.ensures)
+        (all_apart c.args.index.now.items c.args.token.now
+            (unentered c.args.index.now.items c.args.token.now c.get.result c.get.ensures (sym c.is_some.ensures ∙ c.if-is_some.false))))
 
 -- src/index.rt:37:1
 pub returns : goal.returns

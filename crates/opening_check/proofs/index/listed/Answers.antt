@@ -1,14 +1,13 @@
-use Rattle.std.proofs.Common.{rules, ◌≡◌, [], IfOk, OnOk, find, option_map, ℕ, ◌+◌, ◌-◌, ◌*◌, ◌<◌, ◌≤◌, length, ◌/◌, ◌%◌, Bool, true, false, nat_eq, nat_lt, List, ◌∷◌, ◌++◌, slice_index_or, slice_set, bit_and, bit_or, Fits, w8, w32, w64, Bor, MutBor}
-use Rattle.heat_plan.specs.declared.token.Token.{Token as token_type}
-use Rattle.provider.specs.Same.{same_token}
-use Rattle.opening_check.specs.Places.{IsIndex, or_else, place_in, tokens_of}
-use Rattle.opening_check.specs.Rows.{listed_of}
+use Rattle.std.proofs.Common.{◌∙◌, sym}
+use Rattle.opening_check.proofs.PlacesLemmas.{got, listed_at, unlisted}
 use Rattle.opening_check.proofs.index.listed.Goals as goal
 
 -- src/index.rt:53:1
 pub returns-in-Some : goal.returns-in-Some
-returns-in-Some c = ?
+returns-in-Some c =
+    got c.args.all.now c.in-Some.entry.now.place c.get-in-Some.result c.get-in-Some.ensures.lookup.0 c.get-in-Some.ensures.lookup.1
+    ∙ listed_at c.args.all.now c.args.index.now.items c.args.token.now c.in-Some.entry.now c.requires (sym c.in-Some.ensures)
 
 -- src/index.rt:53:1
 pub returns-in-None : goal.returns-in-None
-returns-in-None c = ?
+returns-in-None c = sym (unlisted c.args.all.now c.args.index.now.items c.args.token.now c.requires (sym c.in-None.ensures))

@@ -1,14 +1,8 @@
-use Rattle.std.proofs.Common.{rules, ◌≡◌, ◌↔◌, Bool, IfOk, IfSome, IsTrue, option_map, ℕ, ◌+◌, ◌-◌, ◌*◌, ◌<◌, ◌≤◌, length, ◌/◌, ◌%◌, true, false, nat_eq, nat_lt, List, [], ◌∷◌, ◌++◌, slice_index_or, slice_set, bit_and, bit_or, Fits, w8, w32, w64, Bor, MutBor}
-use Rattle.step_relation.specs.Agrees.{IsAliveAs}
-use Rattle.workable_laws.specs.Admitted.{IsListedReady}
-use Rattle.opening_check.specs.Places.{IsIndex, tokens_of}
-use Rattle.opening_check.specs.Rows.{IsLowest, IsShown, listed_of, shown_of}
+use Rattle.opening_check.proofs.ShownLemmas.{begun, complete_shown}
 use Rattle.opening_check.proofs.rows.is_shown.Goals as goal
 
--- src/rows.rt:49:1
-pub returns-else-eq : goal.returns-else-eq
-returns-else-eq c = ?
-
--- src/rows.rt:49:1
-pub returns-in-Update : goal.returns-in-Update
-returns-in-Update c = ?
+-- src/rows.rt:90:1
+pub returns-in-Create : goal.returns-in-Create
+returns-in-Create c leaving =
+    (λ h. complete_shown c.args.row.now _ c.in-Complete.is ((c.is_ready.ensures leaving).0 h),
+     λ is. (c.is_ready.ensures leaving).1 (is.ready c.in-Complete.is (begun c.args.row.now.act c.in-Create.is)))
