@@ -1,0 +1,74 @@
+-- What a restart makes of a book: the keeper is read again, the cloud lists what is alive, all engines stop, and others
+-- are enlisted.
+use Rattle.std.specs.Prelude.{Bool, IsTrue, List, Some, [], ℕ, ◌++◌, ◌+◌, ◌<◌, ◌^◌, ◌∷◌, ◌≡◌, ◌≤◌}
+use Rattle.heat_value.specs.Counts.{Rose}
+use Rattle.heat_plan.specs.declared.token.Token.{Token}
+use Rattle.provider.specs.Calls.{Lists, ListsNone}
+use Rattle.provider.specs.Changes.{IsAsBefore}
+use Rattle.provider.specs.Cloud.{Cloud}
+use Rattle.provider.specs.declared.alive.Alive.{Alive}
+use Rattle.core_state.specs.Changes.{applied}
+use Rattle.core_state.specs.State.{StateData}
+use Rattle.core_state.specs.declared.entry.Actor.TheVariants.{Main}
+use Rattle.core_state.specs.declared.entry.EngineChange.TheVariants as engine
+use Rattle.core_state.specs.declared.entry.Entry.{Entry}
+use Rattle.core_state.specs.declared.entry.What.TheVariants as what
+use Rattle.step_relation.specs.Laws.{opening_at}
+use Rattle.step_relation.specs.Steps.{restart_changes}
+use Rattle.step_relation.specs.Writes.{entry_of}
+use Rattle.workable_laws.specs.Admitted.{FindsNothing}
+use Rattle.record_keeper.specs.Calls.{IsUnfit}
+use Rattle.record_keeper.specs.Shown.{ShownKeeper}
+use Rattle.opening_check.specs.Findings.{HasFound}
+use Rattle.opening_check.specs.declared.finding.Finding.{Finding}
+use Rattle.book.specs.Openings.{MayList}
+use Rattle.book.specs.Kept.{Shown}
+use Rattle.book.specs.Scenes.{Scene, scene_of}
+use Rattle.book.specs.declared.halting.Halt.TheVariants as halt
+use Rattle.book.specs.declared.halting.Halt.{Halt}
+use Rattle.book.specs.declared.restarting.Unrestarted.{Unrestarted}
+use Rattle.book.specs.declared.restarting.Unrestarted.TheVariants as why
+
+-- the entry of a restart with so many engines
+abbrev pub restart_entry : StateData → ℕ → Entry
+restart_entry s count = entry_of Main (what.Engine (engine.Restart s.next.engine count))
+
+-- so many engines stand in the place of those that were live
+pub record RestartDoes (count : ℕ) (old new : Scene) : Type 0 where
+  pub all : List Alive
+  pub listed : Lists all old.cloud new.cloud
+  pub nothing : FindsNothing (opening_at old.state new.cloud)
+  pub below : old.state.next.engine + count ≤ 2 ^ 62
+  pub state : new.state ≡ applied (restart_changes old.state count) old.state
+  pub entries : new.entries ≡ old.entries ++ restart_entry old.state count ∷ []
+
+-- Why it is refused. Foreign comes, where the keeper recalls, only where the book's state lacks what an image has.
+pub data RestartBreaks (recalls : Bool) (count : ℕ) (old new : Scene) : Unrestarted → Type 0 where
+  foreign : (IsTrue recalls → IsUnfit old.state) → IsAsBefore old.cloud new.cloud
+      → RestartBreaks recalls count old new why.Foreign
+  disagree : (all : List Alive) (token : Token) (finding : Finding) → Lists all old.cloud new.cloud
+      → HasFound (opening_at old.state new.cloud) token finding
+      → RestartBreaks recalls count old new (why.Disagree token finding)
+  cloud_fault : ListsNone old.cloud new.cloud → RestartBreaks recalls count old new why.CloudFault
+  worn : (all : List Alive) → Lists all old.cloud new.cloud → 2 ^ 62 < old.state.next.engine + count
+      → RestartBreaks recalls count old new why.Worn
+  disk_fault : MayList old.cloud new.cloud → RestartBreaks recalls count old new why.DiskFault
+  memory : MayList old.cloud new.cloud → RestartBreaks recalls count old new why.Memory
+
+-- what halts a book whose restart is refused
+abbrev pub halt_of : Unrestarted → Halt
+halt_of why.Foreign = halt.Refused
+halt_of (why.Disagree token finding) = halt.Refused
+halt_of why.CloudFault = halt.Refused
+halt_of why.Worn = halt.Refused
+halt_of why.DiskFault = halt.DiskFault
+halt_of why.Memory = halt.Refused
+
+-- a refusal, which leaves state and history, and halts the book
+pub record IsHaltedBy {K P : Type 0} (shown : K → ShownKeeper) (faults_of : K → ℕ) (cloud_of : P → Cloud) (count : ℕ)
+    (old new : Shown K P) (w : Unrestarted) : Type 0 where
+  pub state : new.state ≡ old.state
+  pub entries : new.entries ≡ old.entries
+  pub breaks : RestartBreaks (shown old.keeper).recalls count (scene_of cloud_of old) (scene_of cloud_of new) w
+  pub halted : new.halt ≡ Some (halt_of w)
+  pub rose : w ≡ why.DiskFault → Rose (faults_of old.keeper) (faults_of new.keeper)
