@@ -1,6 +1,5 @@
 -- When a book may be halted, and what its calls then come to.
 use Rattle.std.specs.Prelude.{None, Option, Some, ℕ, ◌≡◌, ◌≢◌}
-use Rattle.heat_value.specs.Counts.{Rose}
 use Rattle.core_state.specs.State.{StateData}
 use Rattle.book.specs.Kept.{Shown}
 use Rattle.book.specs.Turned.{IsWornBy}
@@ -12,18 +11,11 @@ pub record HasWorn (s : StateData) : Type 0 where
   pub engine : ℕ
   pub worn : IsWornBy s engine
 
--- this may have halted a book
-abbrev pub MayHalt : {K P : Type 0} → (K → ℕ) → Shown K P → Option Halt → Type 0
-MayHalt faults_of b None = Unit {0}
-MayHalt faults_of b (Some halt.Worn) = HasWorn b.state
-MayHalt faults_of b (Some halt.Memory) = Unit {0}
-MayHalt faults_of b (Some halt.DiskFault) = Rose (faults_of b.origin.keeper) (faults_of b.keeper)
-MayHalt faults_of b (Some halt.Refused) = Unit {0}
-
--- what halts a book from outside: not the keeper, and not a restart
-pub record IsForeignCause (why : Halt) : Type 0 where
-  pub not_fault : why ≢ halt.DiskFault
-  pub not_refused : why ≢ halt.Refused
+-- this may have halted a book of this state
+abbrev pub MayHalt : StateData → Option Halt → Type 0
+MayHalt s None = Unit {0}
+MayHalt s (Some halt.Worn) = HasWorn s
+MayHalt s (Some halt.Memory) = Unit {0}
 
 -- the first cause stays
 abbrev pub first_cause : Option Halt → Halt → Option Halt
@@ -31,15 +23,5 @@ first_cause None why = Some why
 first_cause (Some first) why = Some first
 
 -- where the book is halted, nothing changes, and this is answered
-abbrev pub IsRefused : {K P A : Type 0} → Shown K P → Shown K P → A → A → Type 0
+abbrev pub IsRefused : {P A : Type 0} → Shown P → Shown P → A → A → Type 0
 IsRefused old new answer result = old.halt ≢ None → (new ≡ old) × (result ≡ answer)
-
--- the keeper failed in this call, which halts the book
-pub record HasFaulted {K P : Type 0} (faults_of : K → ℕ) (old new : Shown K P) : Type 0 where
-  pub rose : Rose (faults_of old.keeper) (faults_of new.keeper)
-  pub halted : new.halt ≡ Some halt.DiskFault
-
--- such an answer comes of a fault of the keeper, and no other halts the book
-pub record Halts {K P A : Type 0} (faults_of : K → ℕ) (fault : A) (old new : Shown K P) (result : A) : Type 0 where
-  pub faulted : result ≡ fault → HasFaulted faults_of old new
-  pub same : result ≢ fault → new.halt ≡ old.halt

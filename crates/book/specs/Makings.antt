@@ -1,5 +1,5 @@
 -- A step that was thought out is made, or nothing is.
-use Rattle.std.specs.Prelude.{Err, List, Ok, Result, [], ℕ, ◌≡◌, ◌≢◌}
+use Rattle.std.specs.Prelude.{Err, List, Ok, Result, ℕ, ◌≡◌}
 use Rattle.heat_plan.specs.declared.refusal.Refusal.{Refusal}
 use Rattle.heat_plan.specs.declared.refusal.Refusal.TheVariants as refusal
 use Rattle.core_state.specs.State.{StateData}
@@ -15,22 +15,18 @@ use Rattle.book.specs.Turned.{IsQuiet, IsWornBy}
 use Rattle.book.specs.declared.turning.Turn.TheVariants as turn
 use Rattle.book.specs.declared.turning.Turn.{Turn as Turn_answer}
 
--- the step was made; or it was refused, wasn't kept, or found no memory, and nothing has changed
+-- the step was made; or it was refused, or there was no memory for it, and nothing has changed
 pub data MadeAs (made : Result Made Refusal) (old new : Page) (result : Result (Unit {0}) Refusal) : Type 0 where
   done : (m : Made) → made ≡ Ok m → Writes m.changes m.entries old new → result ≡ Ok tt → MadeAs made old new result
   refused : (r : Refusal) → made ≡ Err r → new ≡ old → result ≡ Err r → MadeAs made old new result
-  unkept : (m : Made) → made ≡ Ok m → m.changes ≢ [] → new ≡ old → result ≡ Err refusal.DiskFault
-      → MadeAs made old new result
   memory : new ≡ old → result ≡ Err refusal.Memory → MadeAs made old new result
 
--- one of these steps was made, and this was answered; or it was refused so, wasn't kept, or found no memory
+-- one of these steps was made, and this was answered; or it was refused so, or there was no memory
 pub data Does {A : Type 0} (Is : List Change → List Entry → Type 0) (Refuses : Refusal → Type 0) (answer : A)
     (old new : Page) (result : Result A Refusal) : Type 0 where
   done : (cs : List Change) (es : List Entry) → Is cs es → Writes cs es old new → result ≡ Ok answer
       → Does Is Refuses answer old new result
   refused : (r : Refusal) → Refuses r → new ≡ old → result ≡ Err r → Does Is Refuses answer old new result
-  unkept : (cs : List Change) (es : List Entry) → Is cs es → cs ≢ [] → new ≡ old → result ≡ Err refusal.DiskFault
-      → Does Is Refuses answer old new result
   memory : new ≡ old → result ≡ Err refusal.Memory → Does Is Refuses answer old new result
 
 -- a turn of the engine that asks nobody
@@ -51,6 +47,4 @@ pub data MadeQuietly (made : Result Made Refusal) (old new : Page) (result : Tur
   stepped : (m : Made) → made ≡ Ok m → Writes m.changes m.entries old new → result ≡ turn.Stepped
       → MadeQuietly made old new result
   worn : made ≡ Err refusal.Worn → new ≡ old → result ≡ turn.Worn → MadeQuietly made old new result
-  unkept : (m : Made) → made ≡ Ok m → m.changes ≢ [] → new ≡ old → result ≡ turn.DiskFault
-      → MadeQuietly made old new result
   unmade : new ≡ old → result ≡ turn.Memory → MadeQuietly made old new result

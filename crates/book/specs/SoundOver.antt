@@ -1,0 +1,13 @@
+-- A sound state over a cloud that is in a state which its history allows.
+use Rattle.std.specs.Prelude.{List}
+use Rattle.provider.specs.Cloud.{Cloud}
+use Rattle.core_state.specs.State.{StateData}
+use Rattle.core_state.specs.declared.entry.Entry.{Entry}
+use Rattle.step_relation.specs.Could.{Allows}
+use Rattle.step_relation.specs.Opening.{Opening, first_of}
+use Rattle.step_relation.specs.Sound.{Sound}
+
+pub record IsSoundOver (s : StateData) (h : List Entry) (c : Cloud) : Type 0 where
+  pub opening : Opening
+  pub sound : Sound opening h s
+  pub shows : Allows (first_of opening) h c
