@@ -153,7 +153,7 @@ at_end [] it t = by (same_token it.token t) where
 at_end (l ∷ index) it t = by (same_token l.token t) (at_end index it t) where
   by : (b : Bool) → place_in (index ++ it ∷ []) t ≡ or_else (place_in index t) (same_token it.token t) it.place
       → option_map (λ (l : Listed). l.place) (cond b (Some l) (at same_token token_of_listed (index ++ it ∷ []) t))
-          ≡ or_else (option_map (λ (l : Listed). l.place) (cond b (Some l) (at same_token token_of_listed index t))) (same_token it.token t) it.place
+      ≡ or_else (option_map (λ (l : Listed). l.place) (cond b (Some l) (at same_token token_of_listed index t))) (same_token it.token t) it.place
   by true e = refl
   by false e = e
 

@@ -89,8 +89,9 @@ module _ (all : List Alive) (rows : List Row) (k : ℕ) (x : Row) (there : slice
       → ((r : Row) → row_at rows x.no ≡ Some r → P r → IsShownIn all r)
       → (m : ℕ) (r : Row) → m < k + 1 → slice_get rows m ≡ Some r → row_at rows r.no ≡ Some r → P r → IsShownIn all r
   onward P before next m r lt found its p = elim (below_or_at m k lt) [
-    inl below ↦ before m r below found its p
-    | inr same ↦ next r (its_own m r same found its) p ]
+    | inl below ↦ before m r below found its p
+    | inr same ↦ next r (its_own m r same found its) p
+  ]
 
   stays_found : (f : Token × Finding) → ((r : Row) → row_at rows x.no ≡ Some r → r.no < f.0.row → IsShownIn all r)
       → IsFound all rows k f → IsFound all rows (k + 1) f
@@ -230,7 +231,7 @@ module _ (s : StateData) (all : List Alive) (leaving : Token → Bool) where
       first = λ m q e lt. let (k, below, there) = row_place s.rows m q e in
           let no : q.no ≡ m = row-has m s.rows q e in
           listed_as q (is.lowest k q below there (subst (λ (n : ℕ). row_at s.rows n ≡ Some q) (sym no) e)
-              (subst (λ (n : ℕ). n < found.0.row) (sym no) lt) (leaving (token_of q)));
+          (subst (λ (n : ℕ). n < found.0.row) (sym no) lt) (leaving (token_of q)));
     }
 
     by : (listed : Option Alive) (f : Finding) → listed_of all found.0 ≡ listed → f ≡ finding_of (listed_of all found.0) → HasFound o found.0 f
@@ -259,4 +260,3 @@ module _ (s : StateData) (all : List Alive) (leaving : Token → Bool) where
     all_rows n r e = let (m, lt, there) = row_place s.rows n r e in
         let own : row_at s.rows r.no ≡ Some r = subst (λ (k : ℕ). row_at s.rows k ≡ Some r) (sym (row-has n s.rows r e)) e in
         listed_as r (rows.none refl m r lt there own (leaving (token_of r)))
-

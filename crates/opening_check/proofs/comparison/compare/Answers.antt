@@ -16,7 +16,7 @@ returns-in-Some-clause-found c t finding e leaving =
     let all = c.args.all.now in
     let lowest = subst (IsLowest all s.rows (length s.rows)) c.in-Some.is c.in_ok-found.ensures in
     subst (λ (found : Token × Finding). HasFound (record { state = s; alive = all; leaving = leaving }) found.0 found.1)
-        (inner c.in-Some.found (t, finding) e) (found_has s all leaving c.in-Some.found lowest.some)
+    (inner c.in-Some.found (t, finding) e) (found_has s all leaving c.in-Some.found lowest.some)
 
 -- src/comparison.rt:30:1
 pub returns-in-Some-first_stranger-clause-found : goal.returns-in-Some-first_stranger-clause-found
@@ -27,9 +27,9 @@ returns-in-Some-first_stranger-clause-found c t finding e leaving =
     let lowest = subst (IsLowest all s.rows (length s.rows)) c.in_default.is c.in_ok-found.ensures in
     let first = c.first_stranger.ensures.some it (ap (option_map (λ (a : Bor Alive). a.now)) c.in-Some-first_stranger.is) in
     subst (λ (found : Token × Finding). HasFound (record { state = s; alive = all; leaving = leaving }) found.0 found.1)
-        (inner (c.in_ok-copy-in-Some-first_stranger.field-0, Stranger) (t, finding) e)
-        (subst (λ (token : Token). HasFound (record { state = s; alive = all; leaving = leaving }) token Stranger)
-            (sym c.in_ok-copy-in-Some-first_stranger.ensures) (stranger_found s all leaving it lowest first))
+    (inner (c.in_ok-copy-in-Some-first_stranger.field-0, Stranger) (t, finding) e)
+    (subst (λ (token : Token). HasFound (record { state = s; alive = all; leaving = leaving }) token Stranger)
+    (sym c.in_ok-copy-in-Some-first_stranger.ensures) (stranger_found s all leaving it lowest first))
 
 -- src/comparison.rt:24:1
 pub returns-clause-nothing : goal.returns-clause-nothing
@@ -37,4 +37,4 @@ returns-clause-nothing c e leaving =
     let s = c.args.s.now.state in
     let all = c.args.all.now in
     nothing_found s all leaving (subst (IsLowest all s.rows (length s.rows)) c.in_default.is c.in_ok-found.ensures)
-        (subst (IsStranger s all) (ap (option_map (λ (a : Bor Alive). a.now)) c.in-None.is) c.first_stranger.ensures)
+    (subst (IsStranger s all) (ap (option_map (λ (a : Bor Alive). a.now)) c.in-None.is) c.first_stranger.ensures)

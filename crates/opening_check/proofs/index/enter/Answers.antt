@@ -11,8 +11,8 @@ pub push-requires-clause-new_key : goal.push-requires-clause-new_key
 push-requires-clause-new_key c =
     subst (λ (xs : List Listed). All (λ (l : Listed). same_token l.token c.in_ok-copy.field-0 ≡ false) xs) (sym c.in_ok-reserve.ensures.same)
     (subst (λ (t : token_type). All (λ (l : Listed). same_token l.token t ≡ false) c.args.index.now.items) (sym c.in_ok-copy.ensures)
-        (all_apart c.args.index.now.items c.args.token.now
-            (unentered c.args.index.now.items c.args.token.now c.get.result c.get.ensures (sym c.is_some.ensures ∙ c.if-is_some.false))))
+    (all_apart c.args.index.now.items c.args.token.now
+    (unentered c.args.index.now.items c.args.token.now c.get.result c.get.ensures (sym c.is_some.ensures ∙ c.if-is_some.false))))
 
 -- src/index.rt:37:1
 pub returns : goal.returns

@@ -14,5 +14,5 @@ loop-place-preserved c = entered (tokens_of c.args.all.now) c.loop-place.place
     (get_or c.args.all.now c.loop-place.place c.index-all-place.result).token
     c.loop-place.index.items c.enter.new.index.items
     (token_at c.args.all.now c.loop-place.place (get_or c.args.all.now c.loop-place.place c.index-all-place.result)
-        (slice_get-get_or c.args.all.now c.loop-place.place c.index-all-place.result c.loop-place-test.true))
+    (slice_get-get_or c.args.all.now c.loop-place.place c.index-all-place.result c.loop-place-test.true))
     c.loop-place.invariant c.in_ok-enter.ensures

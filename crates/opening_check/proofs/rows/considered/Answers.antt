@@ -13,8 +13,8 @@ returns c =
     let row = c.in-Some.row.now in
     let found = c.listed-found.ensures ∙ ap (listed_of c.args.all.now) c.in_ok-token.ensures in
     differs row (sym c.in-Some.ensures)
-        (λ leaving is. untrue ((c.if-is_shown.ensures leaving).1
-            (subst (λ (f : Option Alive). IsShown row (shown_of leaving f)) (sym found) is)))
-        (ap Some (c.lower.ensures
-            ∙ ap (λ (t : Token). lower_of c.args.first (t, c.finding.result)) c.in_ok-token.ensures
-            ∙ ap (λ (f : Finding). lower_of c.args.first (token_of row, f)) (c.finding.ensures ∙ ap finding_of found)))
+    (λ leaving is. untrue ((c.if-is_shown.ensures leaving).1
+    (subst (λ (f : Option Alive). IsShown row (shown_of leaving f)) (sym found) is)))
+    (ap Some (c.lower.ensures
+    ∙ ap (λ (t : Token). lower_of c.args.first (t, c.finding.result)) c.in_ok-token.ensures
+    ∙ ap (λ (f : Finding). lower_of c.args.first (token_of row, f)) (c.finding.ensures ∙ ap finding_of found)))
