@@ -42,13 +42,16 @@ abbrev mutual
 
   pub sole_reads : Leveled → LeveledReading → SceneData → ℕ → Members → Option (Sole × SoleReads)
   sole_reads again reads scene levels no_members = None
-  sole_reads again reads scene levels (member k d no_members) = Some (sole_of again scene levels k d, record {
-    each = parts_reads again reads scene levels d;
-    all_but_template = repeat_reads again reads scene levels d;
-    chosen_branch = if_reads again reads scene levels d;
-    condition = condition_reads again reads scene levels d;
-    conditions = condition_parts_reads again reads scene levels d;
-  })
+  sole_reads again reads scene levels (member k d no_members) = Some (
+    sole_of again scene levels k d,
+    record {
+      each = parts_reads again reads scene levels d;
+      all_but_template = repeat_reads again reads scene levels d;
+      chosen_branch = if_reads again reads scene levels d;
+      condition = condition_reads again reads scene levels d;
+      conditions = condition_parts_reads again reads scene levels d;
+    },
+  )
   sole_reads again reads scene levels (member k d (member l e ms)) = None
 
   pub parts_reads : Leveled → LeveledReading → SceneData → ℕ → Data → ℕ → Looks

@@ -19,7 +19,10 @@ loop-step-preserved c =
       path_goes_on (choice_of c.args.choice.now) (data_of c.loop-step.at.now) (data_of c.in-Some.inner.now) c.loop-step.path
           c.push.new.self _ _ _ c.step-item.result c.in-Some.step split c.in_ok-push-in-Some.ensures.ok (sym told)
           c.loop-step.invariant.0,
-      omega (arith, c.loop-step.invariant.1,
-          step_within (choice_of c.args.choice.now) (data_of c.loop-step.at.now) c.step-item.result c.in-Some.step
-          (data_of c.in-Some.inner.now) (sym told)),
+      omega (
+        arith,
+        c.loop-step.invariant.1,
+        step_within (choice_of c.args.choice.now) (data_of c.loop-step.at.now) c.step-item.result c.in-Some.step
+            (data_of c.in-Some.inner.now) (sym told),
+      ),
     )
