@@ -2,6 +2,7 @@ pub mod Sames
 pub mod Parts
 pub mod Places
 pub mod Joins
+pub mod Seeing
 pub mod Contained
 pub mod Renames
 pub mod Replacements

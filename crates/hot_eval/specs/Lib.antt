@@ -1,3 +1,4 @@
 pub mod Repeats
 pub mod Rooms
+pub mod Seen
 pub mod Answers

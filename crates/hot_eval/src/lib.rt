@@ -18,6 +18,7 @@ mod needs;
 mod placing;
 mod replacing;
 mod resolving;
+mod seen;
 mod setting;
 mod sorts;
 mod sum;

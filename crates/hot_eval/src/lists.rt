@@ -1,8 +1,9 @@
 //! What the functions of lists give, and equality.
-ghost use Rattle.std.specs.Prelude.{◌≡◌, ◌++◌, OnOk, IfOk, option_map, map};
-ghost use Rattle.heat_value.specs.Data.{no_nodes};
+ghost use Rattle.std.specs.Prelude.{◌≡◌, ◌++◌, OnOk, IfOk, MatchBool, option_map, map};
+ghost use Rattle.heat_value.specs.Data.{no_nodes, node_last};
 ghost use Rattle.heat_value.specs.Meaning.{data_of, nodes_of};
 ghost use Rattle.hot_eval.specs.Answers.{IsAnswer};
+ghost use Rattle.hot_eval.specs.Seen.{HoldsAll};
 ghost use Rattle.eval_words.specs.Lists.{list_concat as the_list_concat, list_concat_unique as the_list_concat_unique};
 ghost use Rattle.eval_words.specs.Lists.{filter as the_filter, contains as the_contains, equals as the_equals};
 ghost use Rattle.eval_words.specs.Lists.{concatenated as the_concatenated, new_ones as the_new_ones, without as the_without};
@@ -11,9 +12,11 @@ ghost use Rattle.hot_strings.specs.Answers.{is_part};
 ghost use Rattle.eval_words.specs.Sameness.{is_same as the_is_same, has as the_has};
 
 use crate::FunctionFault;
+use crate::seen::{Ordered, see, seen_of, was_seen};
 use crate::sorts::{list_in, list_or_null, parts, text_in, two_of, wanted};
 use heat_value::{Equals, Items, Text, TryCopy, Value};
 use std::alloc::{AllocError, Global};
+use std::collections::BTreeSet;
 
 /// The items of all lists in order; none where one is no list and not null.
 pub fn concatenated<'a>(
@@ -76,12 +79,27 @@ fn new_ones(alloc: Global, values: &[&Value]) -> Result<Items, AllocError>
     ensures { IfOk result (λ ns. ns ≡ the_new_ones no_nodes (nodes_of (map (λ v. v.now) values.now))) }
 {
     let mut items = Items::new(alloc);
+    let mut seen = BTreeSet::new(alloc);
     for value in values {
-        if !has(value, items.as_slice()) {
-            items.push(value.copy()?)?;
-        }
+        add_new(value, &mut seen, &mut items)?;
     }
     Ok(items)
+}
+
+// A value behind the last, unless it was seen.
+fn add_new<'a>(
+    value: &'a Value,
+    seen: &mut BTreeSet<Ordered<'a>>,
+    items: &mut Items,
+) -> Result<(), AllocError>
+    ensures { HoldsAll seen.old items.old → OnOk result (HoldsAll seen.new items.new
+        × MatchBool (the_has (data_of value.now) items.old) (items.new ≡ items.old)
+        (items.new ≡ node_last items.old (data_of value.now))) }
+{
+    if see(value, seen)? {
+        items.push(value.copy()?)?;
+    }
+    Ok(())
 }
 
 /// filter: the second list without the members of the first.
@@ -95,12 +113,17 @@ pub fn filter(alloc: Global, argument: &Value) -> Result<Value, FunctionFault>
 }
 
 // A list without these.
-fn without(alloc: Global, out: &[Value], from: &[Value]) -> Result<Items, AllocError>
+fn without<'a>(
+    alloc: Global,
+    out: &'a [Value],
+    from: &'a [Value],
+) -> Result<Items, AllocError>
     ensures { IfOk result (λ ns. ns ≡ the_without (nodes_of out.now) (nodes_of from.now)) }
 {
     let mut items = Items::new(alloc);
+    let seen = seen_of(alloc, out)?;
     for item in from {
-        if !has(item, out) {
+        if !was_seen(item, &seen) {
             items.push(item.copy()?)?;
         }
     }
