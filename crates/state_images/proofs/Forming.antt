@@ -1,11 +1,12 @@
 -- Every change that applies keeps what a state has that changes made of nothing.
-use Rattle.std.proofs.Common.{◌≡◌, ◌≢◌, inl, inr, ℕ, Bool, true, false, cond, List, [], ◌∷◌, ◌++◌, Some, None, refl, sym, ap, ◌∙◌, subst, arith}
+use Rattle.std.proofs.Common.{◌≡◌, ◌≢◌, inl, inr, ◌+◌, length, suc, ℕ, Bool, true, false, cond, List, [], ◌∷◌, ◌++◌, Some, None, refl, sym, ap, ◌∙◌, subst, arith}
 use Rattle.std.specs.Prelude.{Decides, IsSome, not, nat_eq, slice_set}
 use Rattle.std.specs.List.{AllByRecursion}
 use Rattle.std.specs.Str.{bytes_eq}
 use Rattle.std.proofs.lemmas.Bool.Decides.{Decides-eqb}
 use Rattle.std.proofs.lemmas.Slice.Eq.{bytes_eq-Decides}
 use Rattle.heat_plan.specs.Tables.{at}
+use Rattle.traversal_graph.specs.declared.shape.Node.{Node}
 use Rattle.traversal_graph.specs.declared.shape.TravGraph.{TravGraph}
 use Rattle.row_table.specs.Rows.{row_key}
 use Rattle.mail_table.specs.Mails.{job_key, letter_key}
@@ -22,7 +23,7 @@ use Rattle.core_state.specs.declared.stack.Stack.{Stack}
 use Rattle.step_relation.specs.Images.{IsMade}
 use Rattle.step_relation.specs.Opening.{bare}
 use Rattle.history_laws.proofs.tables.Tables.{at-cut_other, cases, some_put}
-use Rattle.state_images.specs.Formed.{AreByNode, AreNew, HasKeysOnce, IsFormed, IsLaid, IsOfThese, StacksStand}
+use Rattle.state_images.specs.Formed.{AreByNode, AreNew, HasKeysOnce, IsAligned, IsFormed, IsLaid, IsOfThese, StacksStand}
 use Rattle.state_images.proofs.Keys.{once_cut, once_put}
 use Rattle.state_images.proofs.News.{new_filter, new_push}
 use Rattle.state_images.proofs.Alls.{all_cut, all_put, all_weaker}
@@ -253,3 +254,15 @@ formed_applied (c ∷ cs) s a f = formed_applied cs (apply c s) a.1 (formed_appl
 
 pub made_formed : (s : StateData) → IsMade s → IsFormed s
 made_formed s m = subst IsFormed (sym m.replayed) (formed_applied m.written bare m.applies formed_bare)
+
+-- as many points as nodes
+lengths : (stack : List ℕ) (place : ℕ) (nodes : List Node) (ps : List Point) → AreByNode stack place nodes ps
+    → length ps ≡ length nodes
+lengths stack place [] [] h = refl
+lengths stack place [] (p ∷ ps) h = absurd h
+lengths stack place (node ∷ nodes) [] h = absurd h
+lengths stack place (node ∷ nodes) (p ∷ ps) h = ap suc (lengths stack (place + 1) nodes ps h.2)
+
+pub made_aligned : (s : StateData) → IsMade s → AllByRecursion IsAligned s.graphs
+made_aligned s m = all_weaker (IsLaid s.stacks) IsAligned s.graphs
+    (λ g l. lengths g.stack 0 g.graph.nodes g.points l.points) (made_formed s m).stacks.laid

@@ -3,6 +3,9 @@ pub mod News
 pub mod Alls
 pub mod Points
 pub mod Forming
-pub mod Writing
+pub mod Written
 pub mod Snapping
 pub mod Found
+pub mod Making
+pub mod Pointing
+pub mod Snapshotting

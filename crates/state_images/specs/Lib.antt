@@ -1,3 +1,4 @@
 pub mod Formed
 pub mod Snapshots
+pub mod Replays
 pub mod Laws
