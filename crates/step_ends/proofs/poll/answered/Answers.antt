@@ -14,4 +14,4 @@ refused-requires-in-Failed-clause-fails c = failing c.args.answer.now c.in-Faile
 
 pub returns-in_ok-told-in-NotYet-clause-made : goal.returns-in_ok-told-in-NotYet-clause-made
 returns-in_ok-told-in-NotYet-clause-made c =
-    told_turn _ _ _ _ _ _ c.requires.call c.requires.answer c.in_ok-told-in-NotYet.ensures c.in_ok-refused-in-NotYet.ensures.lasts
+    told_turn _ _ _ _ _ _ c.requires.call c.requires.answer c.in_ok-told-in-NotYet.ensures c.in_ok-lasting-in-NotYet.ensures.lasts
