@@ -80,7 +80,7 @@ pub fn refused_creates(alloc: Global, s: &State, e: EngineNo) -> Result<(Made, M
     requires creates { (k : Calls s.now.state e Asking) → k.row.act ≡ Create }
     ensures quota { IfOk result (λ both. IsTurn s.now.state e (Answer answers.Quota) both.0) }
     ensures failed { IfOk result (λ both. IsTurn s.now.state e (Answer answers.Failed) both.1) }
-    ensures cause { IfErr result (IsCallRefusal s.now.state e) }
+    ensures cause { IfErr result (IsTurnRefusal s.now.state e (Answer answers.Failed)) }
 {
     let job = job_at(s, e);
     let row = row_at(s, job);
