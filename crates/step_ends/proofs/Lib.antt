@@ -8,5 +8,5 @@ pub mod Refusing
 pub mod Fallen
 pub mod Called
 pub mod LostLemmas
-pub mod Sparing
+pub mod SpareLemmas
 pub mod Twice

@@ -1,6 +1,6 @@
 -- Enough numbers are left, or the failure lasts.
 use Rattle.std.proofs.lemmas.Bool.{OnTrue_at}
-use Rattle.step_ends.proofs.Sparing.{spare_lasts}
+use Rattle.step_ends.proofs.SpareLemmas.{spare_lasts}
 use Rattle.step_ends.proofs.poll.lasting.Goals as goal
 
 pub returns-then-has_spare-clause-lasts : goal.returns-then-has_spare-clause-lasts
