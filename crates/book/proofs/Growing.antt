@@ -20,7 +20,7 @@ use Rattle.core_state.specs.declared.entry.Actor.TheVariants.{Main}
 use Rattle.core_state.specs.declared.entry.Entry.{Entry}
 use Rattle.core_state.specs.declared.entry.What.{What}
 use Rattle.step_relation.specs.Runs.{ClosesOnce, IsTiedStep, Run, begins, goes_on}
-use Rattle.step_relation.specs.Steps.{IsNote, Step, note, shows, notes, ran, turned}
+use Rattle.step_relation.specs.Steps.{IsNote, note, notes, previews, ran, shows, Step, turned}
 use Rattle.step_relation.specs.Writes.{entry_of}
 use Rattle.step_relation.specs.Could.{Allows, could}
 use Rattle.step_relation.specs.Laws.{opening_at}
@@ -44,6 +44,7 @@ uncalled_note _ (shows it stack) = tt
 uncalled_note _ (notes line code path) = tt
 uncalled_note _ (ran idle turns) = tt
 uncalled_note _ (turned e lost) = tt
+uncalled_note _ (previews stack forecast) = tt
 
 module _ (first : StateData) (origin : Cloud) where
   -- a step that tells of no call

@@ -35,6 +35,7 @@ call_of-silent (what.Show it stack) silent = refl
 call_of-silent (what.Note line code path) silent = refl
 call_of-silent (what.Ran idle turns) silent = refl
 call_of-silent (what.Turned engine lost) silent = refl
+call_of-silent (what.Preview stack forecast) silent = refl
 call_of-silent what.Closed silent = refl
 
 pub calls_of-silent : (es : List Entry) → AreUncalling es → calls_of es ≡ []
