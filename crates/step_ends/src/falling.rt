@@ -71,6 +71,7 @@ pub(crate) fn fallen_twice(
     ensures lasts { IfOk result (λ both. ¬ IsWorn both.0.changes) }
     ensures cause { IfErr result (OrWorn (IsFallen s.now.state e job.now row.now why)) }
 {
+    let _ = next_letter(s);
     match running(s, job) {
         Some(stack) => mark_twice(alloc, s, e, row, stack, why, other),
         None => paired(
@@ -108,6 +109,7 @@ fn mark_twice(
     requires row { row_at s.now.state.rows row.now.no ≡ Some row.now }
     requires found { stack_at s.now.state.stacks stack.now.name ≡ Some stack.now }
     requires running { stack.now.status ≡ InProgress }
+    requires range { s.now.state.next.letter ≤ 2 ^ 62 }
     ensures first { IfOk result (λ both. IsEnded s.now.state e row.now [] (Some stack.now) why
         both.0.changes both.0.entries) }
     ensures second { IfOk result (λ both. IsEnded s.now.state e row.now [] (Some stack.now) other
