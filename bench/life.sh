@@ -2,7 +2,8 @@
 # Prints processor seconds, growth and peak memory of the life of one stack: a create, an update that changes
 # nothing, one that changes a third in place and replaces a seventh, and a delete, each run to its end. The
 # resources stand in a chain, in a fan (one needs all others) or in a binary tree; a tree also under 64
-# engines. It judges nothing. python3 makes the scripts.
+# engines. Then of the create of a tree of 125, 250, 500 and 1,000 whose failures are to be rolled back, beside the same
+# without. It judges nothing. python3 makes the scripts.
 # Use: bench/life.sh [RESOURCES], a quarter of them first; 200 where nothing is said.
 set -e
 cd "$(dirname "$0")/../crates/heat_converge"
@@ -16,14 +17,15 @@ NEEDS = {
     "tree": lambda i, count: [(i - 1) // 2] if i else [],
 }
 
-def template(shape, count, is_changed):
+def template(shape, count, is_changed, rolls_back=False):
     resources = {}
     for i in range(count):
         zone = "b" if is_changed and i % 7 == 0 else "a"
         size = 2 if is_changed and i % 3 == 0 else 1
         needs = [f"r{n:04}" for n in NEEDS[shape](i, count)]
         resources[f"r{i:04}"] = {"type": "Test::Box", "properties": {"size": size, "zone": zone}, "depends_on": needs}
-    return json.dumps({"template": {"heat_template_version": "2018-08-31", "resources": resources}})
+    asked = {"template": {"heat_template_version": "2018-08-31", "resources": resources}}
+    return json.dumps({**asked, "disable_rollback": not rolls_back})
 
 def life(shape, count):
     first, other = template(shape, count, False), template(shape, count, True)
@@ -45,4 +47,13 @@ for shape, workers in (("chain", 1), ("fan", 1), ("tree", 1), ("tree", 64)):
         growth = f"{seconds / before:6.1f}" if before else "     -"
         print(f"{shape:5}  {workers:7}  {count:9}  {seconds:7.2f}  {growth}  {peak:8.1f}  {turns:5}")
         before = seconds
+
+print("rollback  resources  seconds  growth  without  peak MiB")
+before = 0
+for count in (125, 250, 500, 1000):
+    off, _, _ = measure(f"create s {template('tree', count, False)}\nrun\n", 1)
+    seconds, peak, _ = measure(f"create s {template('tree', count, False, True)}\nrun\n", 1)
+    growth = f"{seconds / before:6.1f}" if before else "     -"
+    print(f"tree      {count:9}  {seconds:7.2f}  {growth}  {off:7.2f}  {peak:8.1f}")
+    before = seconds
 END

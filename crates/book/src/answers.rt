@@ -1,5 +1,7 @@
 //! The turn of an engine whose request was answered.
-ghost use Rattle.std.specs.Prelude.{IfErr, IfOk};
+ghost use Rattle.std.specs.Prelude.{◌≡◌, IfErr, IfOk};
+ghost use Rattle.heat_plan.specs.declared.calls.Answered.TheVariants as answers;
+ghost use Rattle.heat_plan.specs.declared.phase.Act.TheVariants.{Create};
 ghost use Rattle.mail_table.specs.declared.mail.Stage.TheVariants.{Asking, Polling};
 ghost use Rattle.step_relation.specs.Asks.{Calls};
 ghost use Rattle.takeover_steps.specs.Answers.{AnswersAsk, AnswersPoll};
@@ -9,7 +11,7 @@ ghost use Rattle.book.specs.Outcomes.{IsAnswered};
 use core_state::{Made, State};
 use heat_plan::{Answered, EngineNo, Refusal};
 use std::alloc::Global;
-use takeover_steps::{asked, polled};
+use takeover_steps::{asked, polled, refused_creates};
 
 /// The turn that an ask's answer brings.
 pub(crate) fn ask_answered(
@@ -24,6 +26,21 @@ pub(crate) fn ask_answered(
     ensures cause { IfErr result (IsQuietRefusal state.now.state e) }
 {
     asked(alloc, state, e, answer)
+}
+
+/// The turns that a quota and a failure bring, where a create is asked.
+pub(crate) fn create_refused(
+    alloc: Global,
+    state: &State,
+    e: EngineNo,
+) -> Result<(Made, Made), Refusal>
+    requires calls { Calls state.now.state e Asking }
+    requires creates { (k : Calls state.now.state e Asking) → k.row.act ≡ Create }
+    ensures quota { IfOk result (λ both. IsAnswered state.now.state e answers.Quota both.0) }
+    ensures failed { IfOk result (λ both. IsAnswered state.now.state e answers.Failed both.1) }
+    ensures cause { IfErr result (IsQuietRefusal state.now.state e) }
+{
+    refused_creates(alloc, state, e)
 }
 
 /// The turn that a poll's answer brings.

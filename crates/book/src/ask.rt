@@ -12,7 +12,7 @@ ghost use Rattle.book.specs.Scenes.{scene};
 ghost use Rattle.book.specs.SoundOver.{IsSoundOver};
 ghost use Rattle.book.specs.Turned.{Turned};
 
-use crate::answers::ask_answered;
+use crate::answers::{ask_answered, create_refused};
 use crate::called::called_row;
 use crate::making::{make_room, make_within};
 use crate::requests::ask;
@@ -83,29 +83,40 @@ fn outcomes_of(alloc: Global, state: &State, e: EngineNo) -> Result<AskOutcomes,
     ensures cause { IfErr result (IsQuietRefusal state.now.state e) }
 {
     let row = called_row(state, e);
+    let token = token_of(row)?;
+    let begun = ask_answered(alloc, state, e, &Answered::Begun)?;
+    let (quota, failed) = refused(alloc, state, e, row)?;
     Ok(AskOutcomes {
-        token: token_of(row)?,
-        begun: ask_answered(alloc, state, e, &Answered::Begun)?,
-        quota: refused(alloc, state, e, row)?,
-        failed: ask_answered(alloc, state, e, &Answered::Failed)?,
+        token,
+        begun,
+        quota,
+        failed,
     })
 }
 
-// The step of a quota, where a create is asked; else none, since no quota then comes.
-fn refused(alloc: Global, state: &State, e: EngineNo, row: &Row) -> Result<Made, Refusal>
+// The steps of a quota, where a create is asked, and of a failure: of one layout of the rollback. Where
+// something else is asked, none of a quota, since none then comes.
+fn refused(
+    alloc: Global,
+    state: &State,
+    e: EngineNo,
+    row: &Row,
+) -> Result<(Made, Made), Refusal>
     requires calls { Calls state.now.state e Asking }
+    requires stands { Standing state.now.state }
     requires row { IsCalled state.now.state e row.now }
-    ensures made { IfOk result (λ m. row.now.act ≡ Create
-        → IsAnswered state.now.state e answers.Quota m) }
+    ensures quota { IfOk result (λ both. row.now.act ≡ Create
+        → IsAnswered state.now.state e answers.Quota both.0) }
+    ensures failed { IfOk result (λ both. IsAnswered state.now.state e answers.Failed both.1) }
     ensures cause { IfErr result (IsQuietRefusal state.now.state e) }
 {
     match row.act {
-        Act::Create => ask_answered(alloc, state, e, &Answered::Quota),
-        Act::Init | Act::Update | Act::Delete | Act::Rollback => Ok(Made::new(
-            alloc,
-            Batch::new(alloc),
-            Batch::new(alloc),
-        )?),
+        Act::Create => create_refused(alloc, state, e),
+        Act::Init | Act::Update | Act::Delete | Act::Rollback => {
+            let none = Made::new(alloc, Batch::new(alloc), Batch::new(alloc))?;
+            let failed = ask_answered(alloc, state, e, &Answered::Failed)?;
+            Ok((none, failed))
+        }
     }
 }
 

@@ -23,17 +23,17 @@ use Rattle.command_steps.proofs.Members.{cons_cases, no_member}
 use Rattle.core_state.specs.declared.change.Change.TheVariants as change_to
 
 -- none of the changes overflows
-abbrev Lasting : List Change → Type 0
+abbrev pub Lasting : List Change → Type 0
 Lasting cs = AllByRecursion (λ (c : Change). ¬ Overflows c) cs
 
-unworn : (cs : List Change) → Lasting cs → ¬ IsWorn cs
+pub unworn : (cs : List Change) → Lasting cs → ¬ IsWorn cs
 unworn [] all w = no_member w.change w.among
 unworn (c ∷ cs) all w = elim (cons_cases cs c w.change w.among) [
   | inl same ↦ all.0 (rw (← same) w.overflows)
   | inr later ↦ unworn cs all.1 (record { change = w.change; among = later; overflows = w.overflows })
 ]
 
-lasting-append : (cs ds : List Change) → Lasting cs → Lasting ds → Lasting (cs ++ ds)
+pub lasting-append : (cs ds : List Change) → Lasting cs → Lasting ds → Lasting (cs ++ ds)
 lasting-append [] ds all more = more
 lasting-append (c ∷ cs) ds all more = (all.0, lasting-append cs ds all.1 more)
 
@@ -45,7 +45,7 @@ lasting-rows s name t next items chosen rows (current n item its r ch rs is more
 lasting-rows s name t next items chosen rows (fresh n item its ch rs is more) =
     (λ o. omega (arith, leb-true (2 ^ 62) 0 ((row_wears _ _ refl).1 o)), lasting-rows s name t (n + 1) its ch rs more)
 
-lasting-sends : (letters : List Letter) → Lasting (map Send letters)
+pub lasting-sends : (letters : List Letter) → Lasting (map Send letters)
 lasting-sends [] = tt
 lasting-sends (l ∷ letters) = (no_other (Send l) (inr (inr (inr (inr (inr (inl (l, refl))))))), lasting-sends letters)
 
@@ -63,7 +63,7 @@ lasting-settles : (nodes : List Node) (s : StateData) (name : List ℕ) (it : Se
 lasting-settles [] s name it = lasting-mark (stack_set s name it InProgress)
 lasting-settles (node ∷ nodes) s name it = tt
 
-lasting-numbers : (n : Numbers) → n.stack ≤ 2 ^ 62 → n.trav ≤ 2 ^ 62 → n.row ≤ 2 ^ 62 → n.engine ≤ 2 ^ 62
+pub lasting-numbers : (n : Numbers) → n.stack ≤ 2 ^ 62 → n.trav ≤ 2 ^ 62 → n.row ≤ 2 ^ 62 → n.engine ≤ 2 ^ 62
     → n.letter ≤ 2 ^ 62
     → ¬ Overflows (change_to.Numbers n)
 lasting-numbers n a b c d e (stack q over) = omega (arith, a, over)

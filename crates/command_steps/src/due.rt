@@ -6,7 +6,9 @@ ghost use Rattle.core_state.specs.State.{past_at};
 ghost use Rattle.step_relation.specs.Freshness.{plan_of};
 ghost use Rattle.step_relation.specs.Orders.{IsForward, past_of, row_limit};
 ghost use Rattle.step_relation.specs.Turns.{IsDue};
+ghost use Rattle.command_steps.specs.Layouts.{HasNumbers};
 
+use crate::numbers::has_numbers;
 use core_state::{Stack, State};
 use heat_plan::{Act, StackName, Status};
 
@@ -22,6 +24,14 @@ pub fn is_due(s: &State, stack: &Stack) -> bool
     is_forward(stack.act)
         && rolls_back(s, &stack.name)
         && has_room_for(s, items_back(s, &stack.name))
+}
+
+/// Whether the numbers suffice for whatever rollback is due: it makes no more rows than it has items, and
+/// sends no more letters than its graph has nodes, which are items and rows.
+pub fn can_roll_back(s: &State) -> bool
+    ensures { IsTrue result ↔ HasNumbers s.now.state.next 0 row_limit row_limit }
+{
+    has_numbers(s.next(), 0, ROW_LIMIT, ROW_LIMIT)
 }
 
 /// Whether a traversal is one that a rollback may follow.

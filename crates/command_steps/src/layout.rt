@@ -24,6 +24,18 @@ pub struct Layout {
     pub leaves: Seq<u32>,
 }
 
+impl TryCopy for Layout {
+    fn copy(&self) -> Result<Layout, AllocError> {
+        let found = Vec::from_slice(self.found.allocator(), self.found.as_slice())?;
+        let leaves = Vec::from_slice(self.leaves.allocator(), self.leaves.as_slice())?;
+        Ok(Layout {
+            found: Seq::from_vec(found),
+            graph: self.graph.copy()?,
+            leaves: Seq::from_vec(leaves),
+        })
+    }
+}
+
 /// What a command of these items lays out, where the numbers suffice: so many of stacks, one of a
 /// traversal, and one of each row and each letter that is made. Refuses `Worn` where they don't.
 pub(crate) fn numbered_layout(

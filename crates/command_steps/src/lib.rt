@@ -21,8 +21,8 @@ mod updating;
 pub use cancelling::cancel;
 pub use creating::create;
 pub use deleting::delete;
-pub use due::is_due;
-pub use rolling_back::roll_back;
+pub use due::{can_roll_back, is_due};
+pub use rolling_back::{roll_back, roll_back_twice};
 pub use step_parts::{
     begun_changes, begun_entries, call_entry, cause_at, draw_letters, ended_and_sent, failed_mark,
     failed_row, final_props, joined, letter_to, made_within, mail_entry, mark_failed, may_all_rise,

@@ -8,3 +8,5 @@ pub mod Refusing
 pub mod Fallen
 pub mod Called
 pub mod LostLemmas
+pub mod SpareLemmas
+pub mod Twice

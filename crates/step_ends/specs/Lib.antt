@@ -2,4 +2,5 @@ pub mod Answers
 pub mod Releases
 pub mod Marks
 pub mod Falls
+pub mod Spares
 pub mod Lost

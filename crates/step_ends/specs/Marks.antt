@@ -41,6 +41,11 @@ IsBehind s e st None = (q : Row) → IsRewritten s.rows q → ¬ IsDue (applied 
 IsBehind s e st (Some made) = ((q : Row) → IsRewritten s.rows q → RollsBehind s e q st made.changes made.entries)
     × (¬ IsWorn made.changes)
 
+-- the same of two, each behind the mark by itself
+abbrev pub AreBehind : StateData → ℕ → Stack → Option (Made × Made) → Type 0
+AreBehind s e st None = IsBehind s e st None
+AreBehind s e st (Some both) = IsBehind s e st (Some both.0) × IsBehind s e st (Some both.1)
+
 -- want of memory, or the rollback would wear something out
 pub data IsBehindRefusal (s : StateData) (e : ℕ) (st : Stack) (r : Refusal) : Type 0 where
   memory : r ≡ Memory → IsBehindRefusal s e st r

@@ -1,18 +1,18 @@
 //! Fail: what follows from a job's failure, by whether it still has work and its stack has a mark.
 ghost use Rattle.std.specs.Prelude.{◌≡◌, ◌≤◌, ◌+◌, ◌^◌, ◌⊎◌, ◌∷◌, ◌++◌, [], IfErr};
-ghost use Rattle.std.specs.Prelude.{IfOk, None, Some, length, option_map};
+ghost use Rattle.std.specs.Prelude.{Err, IfOk, IfSome, None, Ok, Some, length, option_map};
 ghost use Rattle.heat_plan.specs.declared.phase.Status.TheVariants.{InProgress};
 ghost use Rattle.heat_plan.specs.declared.refusal.Refusal.TheVariants.{Memory, Worn};
 ghost use Rattle.row_table.specs.Rows.{row_at};
 ghost use Rattle.core_state.specs.State.{stack_at};
-ghost use Rattle.step_relation.specs.Asks.{failed_changes, failed_entries};
+ghost use Rattle.step_relation.specs.Asks.{Falls, failed_changes, failed_entries};
 ghost use Rattle.step_relation.specs.Turns.{IsWorn};
 ghost use Rattle.command_steps.specs.Rooms.{MayRise};
 ghost use Rattle.step_ends.specs.Falls.{IsEnded, IsFallen, OrWorn};
 
 use crate::again::{letters_again, next_letter};
 use crate::failing::{failed_changes, failed_entries};
-use crate::rolling::rolled_behind;
+use crate::rolling::{rolled_behind, rolled_behind_twice};
 use command_steps::{freshness, joined, made_within, may_rise, with_first};
 use core_state::{Batch, Entry, Job, Letter, Made, Row, Stack, State, Why};
 use heat_plan::{EngineNo, Refusal, Status};
@@ -51,6 +51,96 @@ pub fn fallen(
             leave(alloc, s, e, row, letters, why)
         }
     }
+}
+
+/// What follows from it under two answers, of one layout.
+pub(crate) fn fallen_twice(
+    alloc: Global,
+    s: &State,
+    e: EngineNo,
+    job: &Job,
+    row: &Row,
+    why: Failure,
+    other: Failure,
+) -> Result<(Made, Made), Refusal>
+    requires { row_at s.now.state.rows job.now.row ≡ Some row.now }
+    ensures first { IfOk result (λ both.
+        IsFallen s.now.state e job.now row.now why both.0.changes both.0.entries) }
+    ensures second { IfOk result (λ both.
+        IsFallen s.now.state e job.now row.now other both.1.changes both.1.entries) }
+    ensures lasts { IfOk result (λ both. ¬ IsWorn both.0.changes) }
+    ensures cause { IfErr result (OrWorn (IsFallen s.now.state e job.now row.now why)) }
+{
+    let _ = next_letter(s);
+    match running(s, job) {
+        Some(stack) => mark_twice(alloc, s, e, row, stack, why, other),
+        None => paired(
+            fallen(alloc, s, e, job, row, why),
+            fallen(alloc, s, e, job, row, other),
+        ),
+    }
+}
+
+// The stack that the failure of a job marks; none where it marks none.
+fn running<'a>(s: &'a State, job: &Job) -> Option<&'a Stack>
+    ensures { IfSome result (λ stack. (stack.now.status ≡ InProgress)
+        × Falls s.now.state job.now [] (Some stack.now)
+        × (stack_at s.now.state.stacks stack.now.name ≡ Some stack.now)) }
+{
+    match freshness(s, job) {
+        Some(fresh) => match fresh.stack.status {
+            Status::InProgress => Some(fresh.stack),
+            Status::Complete | Status::Failed => None,
+        },
+        None => None,
+    }
+}
+
+// The row fails, the job ends, and the stack is marked, under two answers; a rollback is laid out once.
+fn mark_twice(
+    alloc: Global,
+    s: &State,
+    e: EngineNo,
+    row: &Row,
+    stack: &Stack,
+    why: Failure,
+    other: Failure,
+) -> Result<(Made, Made), Refusal>
+    requires row { row_at s.now.state.rows row.now.no ≡ Some row.now }
+    requires found { stack_at s.now.state.stacks stack.now.name ≡ Some stack.now }
+    requires running { stack.now.status ≡ InProgress }
+    requires range { s.now.state.next.letter ≤ 2 ^ 62 }
+    ensures first { IfOk result (λ both. IsEnded s.now.state e row.now [] (Some stack.now) why
+        both.0.changes both.0.entries) }
+    ensures second { IfOk result (λ both. IsEnded s.now.state e row.now [] (Some stack.now) other
+        both.1.changes both.1.entries) }
+    ensures lasts { IfOk result (λ both. ¬ IsWorn both.0.changes) }
+    ensures cause { IfErr result (λ r.
+        OrWorn (IsEnded s.now.state e row.now [] (Some stack.now) why) r
+        ⊎ OrWorn (IsEnded s.now.state e row.now [] (Some stack.now) other) r) }
+{
+    match rolled_behind_twice(alloc, s, e, stack) {
+        Ok(Some((last, again))) => paired(
+            rolled(alloc, s, e, row, stack, last, why),
+            rolled(alloc, s, e, row, stack, again, other),
+        ),
+        Ok(None) => paired(
+            marked(alloc, s, e, row, stack, why),
+            marked(alloc, s, e, row, stack, other),
+        ),
+        Err(refusal) => Err(refusal),
+    }
+}
+
+// Both steps, or the first refusal.
+fn paired(
+    first: Result<Made, Refusal>,
+    second: Result<Made, Refusal>,
+) -> Result<(Made, Made), Refusal>
+    ensures ok { IfOk result (λ both. (first ≡ Ok both.0) × (second ≡ Ok both.1)) }
+    ensures err { IfErr result (λ r. (first ≡ Err r) ⊎ (second ≡ Err r)) }
+{
+    Ok((first?, second?))
 }
 
 // The row fails and the job ends, with these letters and no mark.

@@ -14,8 +14,9 @@ mod falling;
 mod overruns;
 mod poll;
 mod rolling;
+mod sparing;
 
-pub use ask::asked;
+pub use ask::{asked, refused_creates};
 pub use overruns::{begin_overrun, finish_overrun, takeover_overrun};
 pub use poll::polled;
 pub use rolling::rolled_behind;

@@ -1,5 +1,5 @@
 //! The answer to a poll: not yet, ready, gone, or it fails.
-ghost use Rattle.std.specs.Prelude.{◌≡◌, ◌∷◌, [], IfErr, IfOk};
+ghost use Rattle.std.specs.Prelude.{◌≡◌, ◌∷◌, [], IfErr, IfOk, OnOk};
 ghost use Rattle.mail_table.specs.declared.mail.Stage.TheVariants.{Ending, Polling};
 ghost use Rattle.step_relation.specs.Asks.{Calls};
 ghost use Rattle.step_relation.specs.Begins.{begun_changes, begun_entries};
@@ -11,6 +11,7 @@ ghost use Rattle.step_ends.specs.Answers.{AnswersPoll, CallLasts, IsCall, IsCall
 
 use crate::calls::{polled_by, reason_of};
 use crate::falling::{Failure, fallen};
+use crate::sparing::has_spare;
 use command_steps::{
     begun_changes, begun_entries, call_entry, job_at, one, purged_changes, purged_entries,
     ready_row, row_at, with_last,
@@ -49,11 +50,25 @@ fn answered(
     match answer {
         Answered::Failed | Answered::Broken(_) => refused(alloc, s, e, job, row, answer),
         Answered::NotYet | Answered::Ready(_) | Answered::Gone => {
-            refused(alloc, s, e, job, row, &Answered::Failed)?;
+            lasting(alloc, s, e, job, row)?;
             Ok(told(alloc, e, job, row, answer)?)
         }
         Answered::Begun | Answered::Quota => unreachable!(),
     }
+}
+
+// Refuses where an answer would wear something out. That none does is told by how many numbers are left, and
+// only where few are by what a failure would change.
+fn lasting(alloc: Global, s: &State, e: EngineNo, job: &Job, row: &Row) -> Result<(), Refusal>
+    requires { IsCall s.now.state e Polling job.now row.now }
+    ensures lasts { OnOk result (CallLasts s.now.state e) }
+    ensures cause { IfErr result (IsCallRefusal s.now.state e) }
+{
+    if has_spare(s, row) {
+        return Ok(());
+    }
+    refused(alloc, s, e, job, row, &Answered::Failed)?;
+    Ok(())
 }
 
 // The poll fails.

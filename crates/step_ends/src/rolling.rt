@@ -3,9 +3,9 @@
 ghost use Rattle.std.specs.Prelude.{◌≡◌, IfErr, IfOk, Some};
 ghost use Rattle.heat_plan.specs.declared.phase.Status.TheVariants.{InProgress};
 ghost use Rattle.core_state.specs.State.{stack_at};
-ghost use Rattle.step_ends.specs.Marks.{IsBehind, IsBehindRefusal};
+ghost use Rattle.step_ends.specs.Marks.{AreBehind, IsBehind, IsBehindRefusal};
 
-use command_steps::{is_due, roll_back};
+use command_steps::{is_due, roll_back, roll_back_twice};
 use core_state::{Made, Stack, State};
 use heat_plan::{EngineNo, Refusal};
 use std::alloc::Global;
@@ -28,4 +28,23 @@ pub fn rolled_behind(
     }
     let made = roll_back(alloc, s, e, stack)?;
     Ok(Some(made))
+}
+
+/// The same twice, of one layout.
+pub(crate) fn rolled_behind_twice(
+    alloc: Global,
+    s: &State,
+    e: EngineNo,
+    stack: &Stack,
+) -> Result<Option<(Made, Made)>, Refusal>
+    requires found { stack_at s.now.state.stacks stack.now.name ≡ Some stack.now }
+    requires running { stack.now.status ≡ InProgress }
+    ensures made { IfOk result (AreBehind s.now.state e stack.now) }
+    ensures cause { IfErr result (IsBehindRefusal s.now.state e stack.now) }
+{
+    if !is_due(s, stack) {
+        return Ok(None);
+    }
+    let both = roll_back_twice(alloc, s, e, stack)?;
+    Ok(Some(both))
 }

@@ -1,9 +1,13 @@
+-- A create may be past the quota, and whatever is asked may fail.
 use Rattle.std.proofs.Common.{ap, refl, ◌∙◌}
 use Rattle.row_table.specs.declared.row.Row.{Row}
 use Rattle.mail_table.specs.declared.mail.Stage.TheVariants.{Asking}
-use Rattle.takeover_steps.specs.Answers.{quota}
+use Rattle.takeover_steps.specs.Answers.{failed}
+use Rattle.book.proofs.Calling.{asking_of}
 use Rattle.book.proofs.ask.refused.Goals as goal
 
-pub ask_answered-requires-clause-answer : goal.ask_answered-requires-clause-answer
-ask_answered-requires-clause-answer c k = quota
-    (ap (λ (r : Row). r.act) (c.requires.row Asking k) ∙ c.in-Create.is) refl
+pub create_refused-requires-clause-creates : goal.create_refused-requires-clause-creates
+create_refused-requires-clause-creates c k = ap (λ (r : Row). r.act) (c.requires.row Asking k) ∙ c.in-Create.is
+
+pub ask_answered-failed-requires-clause-answer : goal.ask_answered-failed-requires-clause-answer
+ask_answered-failed-requires-clause-answer c k = failed (asking_of c.args.state.now.state c.args.e c.requires.stands k) refl

@@ -9,9 +9,9 @@ failing : (given : Answered) → (given ≡ answer.Failed) ⊎ ((code : List ℕ
 failing given (inl is) = by_failure is
 failing given (inr (code, is)) = by_code code is
 
-pub refused-requires-in-Failed-clause-fails : goal.refused-requires-in-Failed-clause-fails
-refused-requires-in-Failed-clause-fails c = failing c.args.answer.now c.in-Failed.is
+pub refused-requires-clause-fails : goal.refused-requires-clause-fails
+refused-requires-clause-fails c = failing c.args.answer.now c.in-Failed.is
 
 pub returns-in_ok-told-in-NotYet-clause-made : goal.returns-in_ok-told-in-NotYet-clause-made
 returns-in_ok-told-in-NotYet-clause-made c =
-    told_turn _ _ _ _ _ _ c.requires.call c.requires.answer c.in_ok-told-in-NotYet.ensures c.in_ok-refused-in-NotYet.ensures.lasts
+    told_turn _ _ _ _ _ _ c.requires.call c.requires.answer c.in_ok-told-in-NotYet.ensures c.in_ok-lasting-in-NotYet.ensures.lasts
