@@ -145,57 +145,97 @@ formed_apply (change.PutPast p) s a f = let k = f.stacks in record {
   work = f.work;
   lists = f.lists;
 }
-formed_apply (change.PutRow r) s a f = record { stacks = f.stacks; lists = f.lists; work = record {
-  rows_once = once_put nat_eq Decides-eqb row_key r s.rows f.work.rows_once;
-  letters_once = f.work.letters_once;
-  jobs_once = f.work.jobs_once;
-} }
-formed_apply (change.DropRow n) s a f = record { stacks = f.stacks; lists = f.lists; work = record {
-  rows_once = once_cut nat_eq Decides-eqb row_key n s.rows f.work.rows_once;
-  letters_once = f.work.letters_once;
-  jobs_once = f.work.jobs_once;
-} }
-formed_apply (change.Send l) s a f = record { stacks = f.stacks; lists = f.lists; work = record {
-  rows_once = f.work.rows_once;
-  letters_once = once_put nat_eq Decides-eqb letter_key l s.letters f.work.letters_once;
-  jobs_once = f.work.jobs_once;
-} }
-formed_apply (change.Drop n) s a f = record { stacks = f.stacks; lists = f.lists; work = record {
-  rows_once = f.work.rows_once;
-  letters_once = once_cut nat_eq Decides-eqb letter_key n s.letters f.work.letters_once;
-  jobs_once = f.work.jobs_once;
-} }
-formed_apply (change.PutJob j) s a f = record { stacks = f.stacks; lists = f.lists; work = record {
-  rows_once = f.work.rows_once;
-  letters_once = f.work.letters_once;
-  jobs_once = once_put nat_eq Decides-eqb job_key j s.jobs f.work.jobs_once;
-} }
-formed_apply (change.EndJob e) s a f = record { stacks = f.stacks; lists = f.lists; work = record {
-  rows_once = f.work.rows_once;
-  letters_once = f.work.letters_once;
-  jobs_once = once_cut nat_eq Decides-eqb job_key e s.jobs f.work.jobs_once;
-} }
-formed_apply (change.Enlist e) s a f = record { stacks = f.stacks; work = f.work; lists = record {
-  live_once = new_push [] s.live e f.lists.live_once a;
-  released_once = f.lists.released_once;
-  begun = f.lists.begun;
-} }
-formed_apply (change.Stop e) s a f = record { stacks = f.stacks; work = f.work; lists = record {
-  live_once = new_filter (λ x. not (nat_eq x e)) [] [] s.live (λ x c. c) f.lists.live_once;
-  released_once = f.lists.released_once;
-  begun = f.lists.begun;
-} }
-formed_apply (change.Numbers n) s a f = record { stacks = f.stacks; work = f.work; lists = record {
-  live_once = f.lists.live_once;
-  released_once = f.lists.released_once;
-  begun = let b = f.lists.begun in
-      record { stack = omega arith; trav = omega arith; row = omega arith; engine = omega arith; letter = omega arith };
-} }
-formed_apply (change.Release t) s a f = record { stacks = f.stacks; work = f.work; lists = record {
-  live_once = f.lists.live_once;
-  released_once = new_push [] s.released t f.lists.released_once a;
-  begun = f.lists.begun;
-} }
+formed_apply (change.PutRow r) s a f = record {
+  stacks = f.stacks;
+  lists = f.lists;
+  work = record {
+    rows_once = once_put nat_eq Decides-eqb row_key r s.rows f.work.rows_once;
+    letters_once = f.work.letters_once;
+    jobs_once = f.work.jobs_once;
+  };
+}
+formed_apply (change.DropRow n) s a f = record {
+  stacks = f.stacks;
+  lists = f.lists;
+  work = record {
+    rows_once = once_cut nat_eq Decides-eqb row_key n s.rows f.work.rows_once;
+    letters_once = f.work.letters_once;
+    jobs_once = f.work.jobs_once;
+  };
+}
+formed_apply (change.Send l) s a f = record {
+  stacks = f.stacks;
+  lists = f.lists;
+  work = record {
+    rows_once = f.work.rows_once;
+    letters_once = once_put nat_eq Decides-eqb letter_key l s.letters f.work.letters_once;
+    jobs_once = f.work.jobs_once;
+  };
+}
+formed_apply (change.Drop n) s a f = record {
+  stacks = f.stacks;
+  lists = f.lists;
+  work = record {
+    rows_once = f.work.rows_once;
+    letters_once = once_cut nat_eq Decides-eqb letter_key n s.letters f.work.letters_once;
+    jobs_once = f.work.jobs_once;
+  };
+}
+formed_apply (change.PutJob j) s a f = record {
+  stacks = f.stacks;
+  lists = f.lists;
+  work = record {
+    rows_once = f.work.rows_once;
+    letters_once = f.work.letters_once;
+    jobs_once = once_put nat_eq Decides-eqb job_key j s.jobs f.work.jobs_once;
+  };
+}
+formed_apply (change.EndJob e) s a f = record {
+  stacks = f.stacks;
+  lists = f.lists;
+  work = record {
+    rows_once = f.work.rows_once;
+    letters_once = f.work.letters_once;
+    jobs_once = once_cut nat_eq Decides-eqb job_key e s.jobs f.work.jobs_once;
+  };
+}
+formed_apply (change.Enlist e) s a f = record {
+  stacks = f.stacks;
+  work = f.work;
+  lists = record {
+    live_once = new_push [] s.live e f.lists.live_once a;
+    released_once = f.lists.released_once;
+    begun = f.lists.begun;
+  };
+}
+formed_apply (change.Stop e) s a f = record {
+  stacks = f.stacks;
+  work = f.work;
+  lists = record {
+    live_once = new_filter (λ x. not (nat_eq x e)) [] [] s.live (λ x c. c) f.lists.live_once;
+    released_once = f.lists.released_once;
+    begun = f.lists.begun;
+  };
+}
+formed_apply (change.Numbers n) s a f = record {
+  stacks = f.stacks;
+  work = f.work;
+  lists = record {
+    live_once = f.lists.live_once;
+    released_once = f.lists.released_once;
+    begun = let b = f.lists.begun in
+        record { stack = omega arith; trav = omega arith; row = omega arith; engine = omega arith; letter = omega arith };
+  };
+}
+formed_apply (change.Release t) s a f = record {
+  stacks = f.stacks;
+  work = f.work;
+  lists = record {
+    live_once = f.lists.live_once;
+    released_once = new_push [] s.released t f.lists.released_once a;
+    begun = f.lists.begun;
+  };
+}
 
 pub formed_bare : IsFormed bare
 formed_bare = record {
