@@ -57,15 +57,15 @@ node_or_not s p = by (graph_at s.graphs p.stack) refl where
 falls_or_not : (old new : Numbers) → NoneFalls old new ⊎ ¬ NoneFalls old new
 falls_or_not old new = by (below_or_not new.stack old.stack) (below_or_not new.trav old.trav) (below_or_not new.row old.row)
     (below_or_not new.engine old.engine) (below_or_not new.letter old.letter) where
-  by : ((new.stack < old.stack) ⊎ (old.stack ≤ new.stack)) → ((new.trav < old.trav) ⊎ (old.trav ≤ new.trav))
-      → ((new.row < old.row) ⊎ (old.row ≤ new.row)) → ((new.engine < old.engine) ⊎ (old.engine ≤ new.engine))
-      → ((new.letter < old.letter) ⊎ (old.letter ≤ new.letter)) → NoneFalls old new ⊎ ¬ NoneFalls old new
-  by (inr a) (inr b) (inr c) (inr d) (inr e) = inl (record { stack = a; trav = b; row = c; engine = d; letter = e })
-  by (inl a) b c d e = inr (λ f. let le = f.stack in omega (arith, a, le))
-  by (inr a) (inl b) c d e = inr (λ f. let le = f.trav in omega (arith, b, le))
-  by (inr a) (inr b) (inl c) d e = inr (λ f. let le = f.row in omega (arith, c, le))
-  by (inr a) (inr b) (inr c) (inl d) e = inr (λ f. let le = f.engine in omega (arith, d, le))
-  by (inr a) (inr b) (inr c) (inr d) (inl e) = inr (λ f. let le = f.letter in omega (arith, e, le))
+      by : ((new.stack < old.stack) ⊎ (old.stack ≤ new.stack)) → ((new.trav < old.trav) ⊎ (old.trav ≤ new.trav))
+          → ((new.row < old.row) ⊎ (old.row ≤ new.row)) → ((new.engine < old.engine) ⊎ (old.engine ≤ new.engine))
+          → ((new.letter < old.letter) ⊎ (old.letter ≤ new.letter)) → NoneFalls old new ⊎ ¬ NoneFalls old new
+      by (inr a) (inr b) (inr c) (inr d) (inr e) = inl (record { stack = a; trav = b; row = c; engine = d; letter = e })
+      by (inl a) b c d e = inr (λ f. let le = f.stack in omega (arith, a, le))
+      by (inr a) (inl b) c d e = inr (λ f. let le = f.trav in omega (arith, b, le))
+      by (inr a) (inr b) (inl c) d e = inr (λ f. let le = f.row in omega (arith, c, le))
+      by (inr a) (inr b) (inr c) (inl d) e = inr (λ f. let le = f.engine in omega (arith, d, le))
+      by (inr a) (inr b) (inr c) (inr d) (inl e) = inr (λ f. let le = f.letter in omega (arith, e, le))
 
 same_parts : (xa xb ya yb : List ℕ) (m n : ℕ) → xa ≡ xb → ya ≡ yb → m ≡ n → token_at xa ya m ≡ token_at xb yb n
 same_parts xa xb ya yb m n stacks names rows = rw (stacks, names, rows) refl

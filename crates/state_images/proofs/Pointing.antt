@@ -11,6 +11,6 @@ pub point_more : (points : List Point) (i : ℕ) (p : Point) (front old new : Li
     → old ≡ front ++ map PutPoint (take i points) → new ≡ old ++ PutPoint p ∷ [] → new ≡ front ++ map PutPoint (take (i + 1) points)
 point_more points i p front old new at was is =
     let more : take (i + 1) points ≡ take i points ++ p ∷ [] = take_more points i p (slice_get_within points i p at)
-        ∙ ap (λ (q : Point). take i points ++ q ∷ []) (get_or_from_slice_get points i p p at) in
+    ∙ ap (λ (q : Point). take i points ++ q ∷ []) (get_or_from_slice_get points i p p at) in
     is ∙ (ap (λ (cs : List Change). cs ++ PutPoint p ∷ []) was ∙ (append_assoc front (map PutPoint (take i points)) (PutPoint p ∷ [])
     ∙ ap (λ (cs : List Change). front ++ cs) (sym (map-append PutPoint (take i points) (p ∷ [])) ∙ ap (map PutPoint) (sym more))))

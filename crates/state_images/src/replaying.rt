@@ -11,10 +11,7 @@ use std::alloc::{AllocError, Global};
 
 /// The state that the lists make of nothing, or none where a change among them doesn't apply.
 #[tactic(auto, using(crate::proofs::Making::replay_made))]
-pub fn replay(
-    alloc: Global,
-    lists: Batch<Batch<Change>>,
-) -> Result<Option<State>, AllocError>
+pub fn replay(alloc: Global, lists: Batch<Batch<Change>>) -> Result<Option<State>, AllocError>
     ensures exact { IfOk result (λ o. IsReplayed lists o) }
     ensures made { IfOk result (λ o. IfSome o (λ s. IsMade s.state)) }
 {
@@ -27,11 +24,7 @@ pub fn replay(
 }
 
 // Makes the changes of each list in turn. `Bad` comes exactly where they don't all apply.
-fn make_all(
-    alloc: Global,
-    state: &mut State,
-    lists: Batch<Batch<Change>>,
-) -> Result<(), ApplyFault>
+fn make_all(alloc: Global, state: &mut State, lists: Batch<Batch<Change>>) -> Result<(), ApplyFault>
     ensures ok { OnOk result (AllApply (joined lists) state.old.state) }
     ensures gives { OnOk result (state.new.state ≡ applied (joined lists) state.old.state) }
     ensures bad { result ≡ Err Bad → ¬ AllApply (joined lists) state.old.state }

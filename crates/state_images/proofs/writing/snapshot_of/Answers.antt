@@ -6,5 +6,5 @@ use Rattle.state_images.proofs.writing.snapshot_of.Goals as goal
 pub returns-clause-made : goal.returns-clause-made
 returns-clause-made c =
     let e : c.add_last.new.changes ≡ snapshot c.args.s.now.state =
-        rw (c.in_ok-add_last.ensures, c.in_ok-add_work.ensures, c.in_ok-add_stacks.ensures, c.new-changes.ensures) (simp append_assoc) in
+    rw (c.in_ok-add_last.ensures, c.in_ok-add_work.ensures, c.in_ok-add_stacks.ensures, c.new-changes.ensures) (simp append_assoc) in
     subst (IsSnapshot c.args.s.now.state) (sym e) (made_snapshot c.args.s.now.state c.requires)
