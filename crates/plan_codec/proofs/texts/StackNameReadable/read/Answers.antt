@@ -1,0 +1,26 @@
+use Rattle.std.proofs.lemmas.Result.{err_from_is_err_and}
+use Rattle.heat_plan.specs.Names.{IsStackName}
+use Rattle.plan_codec.specs.Numbers.{spelled_bytes, IsShort}
+use Rattle.plan_codec.specs.Laws.{bytes_unique, stack_name_is_short}
+use Rattle.plan_codec.proofs.Readings.{refused_more, taken_more, not_taken_if}
+use Rattle.plan_codec.proofs.texts.StackNameReadable.read.Goals as goal
+
+pub returns-in_err-front-clause-err : goal.returns-in_err-front-clause-err
+returns-in_err-front-clause-err c =
+    let p = err_from_is_err_and c.from_residual.result c.from_residual.ensures.1 in
+    rw (p.1, p.2)
+    (refused_more spelled_bytes IsShort IsStackName c.args.bytes.now c.in_err-front.field-0.0
+    stack_name_is_short c.in_err-front.ensures.err)
+
+pub returns-in_err-name-clause-err : goal.returns-in_err-name-clause-err
+returns-in_err-name-clause-err c =
+    let p = err_from_is_err_and c.from_residual-in_err-name.result c.from_residual-in_err-name.ensures.1 in
+    rw (p.1, p.2)
+    (not_taken_if IsStackName c.args.bytes.now c.in_ok-front.rest.now c.in_ok-front.front.now
+    c.in_err-name.field-0.0 bytes_unique stack_name_is_short c.in_ok-front.ensures.ok
+    c.in_err-name.ensures.err)
+
+pub returns-clause-ok : goal.returns-clause-ok
+returns-clause-ok c = rw c.in_ok-name.ensures.value
+    (taken_more spelled_bytes IsShort IsStackName c.args.bytes.now c.in_ok-front.rest.now c.in_ok-front.front.now
+    c.in_ok-name.ensures.ok c.in_ok-front.ensures.ok)
