@@ -1,8 +1,8 @@
-//! Where an evaluation ends: at the sum of its costs, at the size of its result, and where it goes too deep.
+//! Where an evaluation ends: at the sum of its costs, at the size of its result, and where it repeats itself.
 use crate::cases::{Case, Count, Counter, Teller, all_counted, all_told, value_of};
 use crate::plans::{eval_fault_words, plan_of};
 use heat_value::Value;
-use hot_eval::{EvalFault, eval};
+use hot_eval::eval;
 use std::alloc::{AllocError, Global};
 
 // What a value comes to: that it is made, or the fault.
@@ -71,14 +71,7 @@ fn results_have_a_limit(rt: HostRuntime) -> Result<(), AllocError> {
     all_told(&rt, &Concatenated, LAST)
 }
 
-// Whether an evaluation ends for want of memory.
-fn ending(alloc: Global, given: &Value) -> Result<String, AllocError> {
-    let plan = plan_of(alloc)?;
-    let ends = matches!(eval(alloc, given, &plan, &[]), Err(EvalFault::Memory));
-    String::from_str(alloc, if ends { "no memory" } else { "another end" })
-}
-
-// The same of a repeat of this template, in single quotes, whose choices are the parameter `again`.
+// What a repeat comes to of this template, in single quotes, whose choices are the parameter `again`.
 struct Endless;
 
 impl Teller for Endless {
@@ -86,15 +79,15 @@ impl Teller for Endless {
         let text = format!(in alloc;
             "{{'repeat':{{'template':{given},'for_each':{{'x':{{'get_param':'again'}}}}}}}}"
         )?;
-        match value_of(alloc, text.as_str())? {
-            Some(value) => ending(alloc, &value),
-            None => String::from_str(alloc, "no value"),
-        }
+        made_of(alloc, text.as_str())
     }
 }
 
-// One that grows without end, and one that nests too deep for the stack.
-const ENDLESS: &[Case] = &[("'x'", "no memory"), ("{'y':'x'}", "no memory")];
+// One that repeats itself, and one that nests deeper each time.
+const ENDLESS: &[Case] = &[
+    ("'x'", "F07 ['repeat','template']"),
+    ("{'y':'x'}", "F07 ['repeat','template','y']"),
+];
 
 #[test]
 fn a_template_that_repeats_itself_ends(rt: HostRuntime) -> Result<(), AllocError> {
