@@ -9,5 +9,5 @@ use Rattle.book.proofs.ask.refused.Goals as goal
 pub create_refused-requires-clause-creates : goal.create_refused-requires-clause-creates
 create_refused-requires-clause-creates c k = ap (λ (r : Row). r.act) (c.requires.row Asking k) ∙ c.in-Create.is
 
-pub ask_answered-failed-requires-clause-answer : goal.ask_answered-failed-requires-clause-answer
-ask_answered-failed-requires-clause-answer c k = failed (asking_of c.args.state.now.state c.args.e c.requires.stands k) refl
+pub ask_answered-requires-clause-answer : goal.ask_answered-requires-clause-answer
+ask_answered-requires-clause-answer c k = failed (asking_of c.args.state.now.state c.args.e c.requires.stands k) refl
