@@ -96,12 +96,7 @@ fn outcomes_of(alloc: Global, state: &State, e: EngineNo) -> Result<AskOutcomes,
 
 // The steps of a quota, where a create is asked, and of a failure: of one layout of the rollback. Where
 // something else is asked, none of a quota, since none then comes.
-fn refused(
-    alloc: Global,
-    state: &State,
-    e: EngineNo,
-    row: &Row,
-) -> Result<(Made, Made), Refusal>
+fn refused(alloc: Global, state: &State, e: EngineNo, row: &Row) -> Result<(Made, Made), Refusal>
     requires calls { Calls state.now.state e Asking }
     requires stands { Standing state.now.state }
     requires row { IsCalled state.now.state e row.now }

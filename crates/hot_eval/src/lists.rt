@@ -113,11 +113,7 @@ pub fn filter(alloc: Global, argument: &Value) -> Result<Value, FunctionFault>
 }
 
 // A list without these.
-fn without<'a>(
-    alloc: Global,
-    out: &'a [Value],
-    from: &'a [Value],
-) -> Result<Items, AllocError>
+fn without<'a>(alloc: Global, out: &'a [Value], from: &'a [Value]) -> Result<Items, AllocError>
     ensures { IfOk result (λ ns. ns ≡ the_without (nodes_of out.now) (nodes_of from.now)) }
 {
     let mut items = Items::new(alloc);
