@@ -1,8 +1,10 @@
-pub mod Numbers
-pub mod Listed
+pub mod Silent
 pub mod Histories
 pub mod Growing
 pub mod Headlines
+pub mod Images
+pub mod Keepers
+pub mod Held
 pub mod Conditions
 pub mod Telling
 pub mod Lefts
@@ -13,6 +15,7 @@ pub mod Calling
 pub mod Engined
 pub mod Rising
 pub mod Doing
+pub mod Recorded
 pub mod Beginnings
 pub mod Fences
 pub mod Unhalted

@@ -1,17 +1,12 @@
 -- The step that a turn made, or tried to have kept, and what it leaves with the keeper.
-use Rattle.std.specs.Prelude.{List, [], ℕ, ◌∷◌, ◌≡◌, ◌≢◌}
-use Rattle.heat_value.specs.Counts.{Rose}
+use Rattle.std.specs.Prelude.{List, [], ℕ, ◌≡◌}
 use Rattle.heat_plan.specs.declared.calls.Answered.{Answered}
-use Rattle.core_state.specs.Changes.{applied}
-use Rattle.core_state.specs.State.{StateData}
 use Rattle.core_state.specs.declared.change.Change.{Change}
-use Rattle.core_state.specs.declared.entry.Entry.{Entry}
-use Rattle.step_relation.specs.Writes.{call_entry}
 use Rattle.check_steps.specs.declared.looks.Work.{Work}
 use Rattle.record_keeper.specs.Shown.{ShownKeeper}
 use Rattle.book.specs.Commits.{Commits}
 use Rattle.book.specs.Commits as commits
-use Rattle.book.specs.Keeping.{IsReady, Keeps}
+use Rattle.book.specs.Keeping.{KeptBy}
 use Rattle.book.specs.Scenes.{Scene}
 use Rattle.book.specs.Turned.{Turned, WhyAlone, alone, called, failed, idle, lacking, lost, quiet, unkept, unmade, worn}
 use Rattle.book.specs.declared.turning.Turn.TheVariants as turn
@@ -37,9 +32,7 @@ tried_by (worn is by same) = []
 pub record Turns (e : ℕ) (old new : Scene) (before after : ShownKeeper) (faults now : ℕ) (result : Turn_answer)
     : Type 0 where
   pub turned : Turned e old new result
-  pub keeps : Keeps before after faults now old.state (applied (tried_by turned) old.state)
-  pub ready : result ≢ turn.DiskFault → IsReady after new.state
-  pub rose : result ≡ turn.DiskFault → Rose faults now
+  pub kept : KeptBy before after faults now old.state new.state (tried_by turned) (result ≡ turn.DiskFault)
 
 -- the changes that the commit of an older look made, or tried to have kept
 abbrev pub tried_at : {e : ℕ} {w : Work} {old new : Scene} {result : Turn_answer} → Commits e w old new result
@@ -52,6 +45,4 @@ tried_at (commits.unmade is same) = []
 pub record CommitsTo (e : ℕ) (w : Work) (old new : Scene) (before after : ShownKeeper) (faults now : ℕ)
     (result : Turn_answer) : Type 0 where
   pub committed : Commits e w old new result
-  pub keeps : Keeps before after faults now old.state (applied (tried_at committed) old.state)
-  pub ready : result ≢ turn.DiskFault → IsReady after new.state
-  pub rose : result ≡ turn.DiskFault → Rose faults now
+  pub kept : KeptBy before after faults now old.state new.state (tried_at committed) (result ≡ turn.DiskFault)

@@ -1,6 +1,8 @@
 -- What a step needs of the keeper, and what it leaves with it.
-use Rattle.std.specs.Prelude.{IsTrue, List, [], false, length, ℕ, ◌≡◌, ◌≤◌}
+use Rattle.std.specs.Prelude.{IsTrue, List, false, length, ℕ, ◌≡◌, ◌≤◌}
+use Rattle.heat_value.specs.Counts.{Rose}
 use Rattle.core_state.specs.Applies.{AllApply}
+use Rattle.core_state.specs.Changes.{applied}
 use Rattle.core_state.specs.State.{StateData}
 use Rattle.core_state.specs.declared.change.Change.{Change}
 use Rattle.core_state.specs.declared.made.Made.{Made}
@@ -28,3 +30,10 @@ pub record HasRoom (has_room : List Change → Type 0) (room pages : ℕ) (made 
 pub record Keeps (old new : ShownKeeper) (before now : ℕ) (s t : StateData) : Type 0 where
   pub leaves : IsTrue old.tells → LeavesOnly old new (IsLeftOf s t)
   pub goes_on : GoesOn old new before now
+
+-- a call that had the keeper keep these changes, or tried to where it failed
+pub record KeptBy (old new : ShownKeeper) (before now : ℕ) (s t : StateData) (cs : List Change) (failed : Type 0)
+    : Type 0 where
+  pub keeps : Keeps old new before now s (applied cs s)
+  pub ready : ¬ failed → IsReady new t
+  pub rose : failed → Rose before now

@@ -1,9 +1,7 @@
 -- What is made of a poll's answer of unknown size.
 use Rattle.std.specs.Prelude.{List, [], ℕ, ◌∷◌, ◌≡◌, ◌≢◌}
-use Rattle.heat_value.specs.Counts.{Rose}
 use Rattle.heat_plan.specs.declared.calls.Answered.{Answered}
 use Rattle.mail_table.specs.declared.mail.Stage.TheVariants.{Polling}
-use Rattle.core_state.specs.Changes.{applied}
 use Rattle.core_state.specs.declared.change.Change.{Change}
 use Rattle.core_state.specs.declared.entry.Entry.{Entry}
 use Rattle.core_state.specs.declared.made.Made.{Made}
@@ -14,7 +12,7 @@ use Rattle.step_relation.specs.Writes.{call_entry}
 use Rattle.heat_plan.specs.declared.calls.Request.TheVariants as request
 use Rattle.record_keeper.specs.Shown.{ShownKeeper}
 use Rattle.book.specs.Behind.{alone_changes}
-use Rattle.book.specs.Keeping.{IsReady, Keeps}
+use Rattle.book.specs.Keeping.{KeptBy}
 use Rattle.book.specs.Outcomes.{IsAnswered}
 use Rattle.book.specs.Quiet.{Page, Writes}
 use Rattle.book.specs.Turned.{WhyAlone}
@@ -45,6 +43,4 @@ tried_in (told k cs es rest why some it lasts first writes) = alone_changes why 
 pub record Learns (e : ℕ) (given : Answered) (old new : Page) (before after : ShownKeeper) (faults now : ℕ)
     (result : Turn_answer) : Type 0 where
   pub learned : HasLearned e given old new result
-  pub keeps : Keeps before after faults now old.state (applied (tried_in learned) old.state)
-  pub ready : result ≢ turn.DiskFault → IsReady after new.state
-  pub rose : result ≡ turn.DiskFault → Rose faults now
+  pub kept : KeptBy before after faults now old.state new.state (tried_in learned) (result ≡ turn.DiskFault)

@@ -17,4 +17,6 @@ pub mod Commands
 pub mod Recording
 pub mod Compactions
 pub mod Restarts
+pub mod Starting
+pub mod Halting
 pub mod Closing

@@ -1,6 +1,6 @@
 -- What a restart makes of a book: the keeper is read again, the cloud lists what is alive, all engines stop, and others
 -- are enlisted.
-use Rattle.std.specs.Prelude.{Bool, IsTrue, List, Some, [], ℕ, ◌++◌, ◌+◌, ◌<◌, ◌^◌, ◌∷◌, ◌≡◌, ◌≤◌}
+use Rattle.std.specs.Prelude.{Bool, Err, IfErr, IsTrue, List, Ok, Result, Some, [], ℕ, ◌++◌, ◌+◌, ◌<◌, ◌^◌, ◌∷◌, ◌≡◌, ◌≢◌, ◌≤◌}
 use Rattle.heat_value.specs.Counts.{Rose}
 use Rattle.heat_plan.specs.declared.token.Token.{Token}
 use Rattle.provider.specs.Calls.{Lists, ListsNone}
@@ -8,6 +8,7 @@ use Rattle.provider.specs.Changes.{IsAsBefore}
 use Rattle.provider.specs.Cloud.{Cloud}
 use Rattle.provider.specs.declared.alive.Alive.{Alive}
 use Rattle.core_state.specs.Changes.{applied}
+use Rattle.core_state.specs.State.{StateData}
 use Rattle.core_state.specs.State.{StateData}
 use Rattle.core_state.specs.declared.entry.Actor.TheVariants.{Main}
 use Rattle.core_state.specs.declared.entry.EngineChange.TheVariants as engine
@@ -19,8 +20,11 @@ use Rattle.step_relation.specs.Writes.{entry_of}
 use Rattle.workable_laws.specs.Admitted.{FindsNothing}
 use Rattle.record_keeper.specs.Calls.{IsUnfit}
 use Rattle.record_keeper.specs.Shown.{ShownKeeper}
+use Rattle.record_keeper.specs.declared.open_fault.OpenFault.{OpenFault}
+use Rattle.record_keeper.specs.declared.open_fault.OpenFault.TheVariants as open_fault
 use Rattle.opening_check.specs.Findings.{HasFound}
 use Rattle.opening_check.specs.declared.finding.Finding.{Finding}
+use Rattle.book.specs.Keeping.{IsReady, KeptBy, Keeps}
 use Rattle.book.specs.Openings.{MayList}
 use Rattle.book.specs.Kept.{Shown}
 use Rattle.book.specs.Scenes.{Scene, scene_of}
@@ -72,3 +76,34 @@ pub record IsHaltedBy {K P : Type 0} (shown : K → ShownKeeper) (faults_of : K 
   pub breaks : RestartBreaks (shown old.keeper).recalls count (scene_of cloud_of old) (scene_of cloud_of new) w
   pub halted : new.halt ≡ Some (halt_of w)
   pub rose : w ≡ why.DiskFault → Rose (faults_of old.keeper) (faults_of new.keeper)
+
+-- what a restart reads again
+abbrev pub unread_for : OpenFault → Unrestarted
+unread_for open_fault.Foreign = why.Foreign
+unread_for open_fault.DiskFault = why.DiskFault
+unread_for open_fault.Memory = why.Memory
+
+-- the keeper is read again as this state, and stands as before; or not, for one of these causes
+pub data WhyUnread (recalls : Bool) (s : StateData) (before now : ℕ) (w : Unrestarted) : Type 0 where
+  foreign : (IsTrue recalls → IsUnfit s) → w ≡ why.Foreign → WhyUnread recalls s before now w
+  fault : Rose before now → w ≡ why.DiskFault → WhyUnread recalls s before now w
+  memory : w ≡ why.Memory → WhyUnread recalls s before now w
+
+pub record Rereads (s : StateData) (old new : ShownKeeper) (before now : ℕ) (result : Result (Unit {0}) Unrestarted)
+    : Type 0 where
+  pub keeps : Keeps old new before now s s
+  pub ready : result ≢ Err why.DiskFault → IsReady new s
+  pub why_ : IfErr result (WhyUnread old.recalls s before now)
+
+-- so many engines stand in the place of others, or nothing is changed for such a cause
+pub data RestartsAs (recalls : Bool) (count : ℕ) (old new : Scene) (result : Result (Unit {0}) Unrestarted) : Type 0 where
+  done : RestartDoes count old new → result ≡ Ok tt → RestartsAs recalls count old new result
+  refused : (w : Unrestarted) → RestartBreaks recalls count old new w → new.state ≡ old.state
+      → new.entries ≡ old.entries → result ≡ Err w → RestartsAs recalls count old new result
+
+-- and what it leaves with the keeper
+pub record Restarts (count : ℕ) (old new : Scene) (before after : ShownKeeper) (faults now : ℕ)
+    (result : Result (Unit {0}) Unrestarted) : Type 0 where
+  pub does : RestartsAs before.recalls count old new result
+  pub kept : KeptBy before after faults now old.state new.state (restart_changes old.state count)
+      (result ≡ Err why.DiskFault)

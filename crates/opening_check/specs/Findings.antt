@@ -1,6 +1,7 @@
 -- What the comparison of an image with the cloud's list comes upon first: rows by rising number, then the list in order.
-use Rattle.std.specs.Prelude.{Contains, IsSome, List, None, Some, ℕ, ◌++◌, ◌<◌, ◌∷◌, ◌≡◌, ◌⊎◌}
+use Rattle.std.specs.Prelude.{All, Contains, IsSome, List, None, Some, ℕ, ◌++◌, ◌<◌, ◌∷◌, ◌≡◌, ◌⊎◌}
 use Rattle.heat_plan.specs.declared.token.Token.{Token}
+use Rattle.provider.specs.Table.{Living}
 use Rattle.provider.specs.declared.alive.Alive.{Alive}
 use Rattle.row_table.specs.Rows.{row_at}
 use Rattle.row_table.specs.declared.row.Row.{Row}
@@ -11,29 +12,46 @@ use Rattle.workable_laws.specs.Admitted.{IsKnown, IsListed}
 use Rattle.opening_check.specs.declared.finding.Finding.{Finding}
 use Rattle.opening_check.specs.declared.finding.Finding.TheVariants.{Differs, Missing, Stranger}
 
--- a row with which the list disagrees, and the first such
-pub record IsFirstRow (o : Opening) (r : Row) : Type 0 where
-  pub number : ℕ
-  pub found : row_at o.state.rows number ≡ Some r
-  pub unlike : ¬ IsListed o r
-  pub first : (n : ℕ) (q : Row) → n < number → row_at o.state.rows n ≡ Some q → IsListed o q
-
 -- a row's token, or one that was given up
-abbrev pub IsOurs : StateData → Token → Type 0
-IsOurs s t = IsKnown s t ⊎ Contains s.released t
+abbrev pub IsExpected : StateData → Token → Type 0
+IsExpected s t = IsKnown s t ⊎ Contains s.released t
 
--- a resource of the list that is nobody's, and the first such
-pub record IsFirstStranger (o : Opening) (a : Alive) : Type 0 where
+-- each row of a lower number is listed as it has to be
+abbrev pub ListsBelow : Opening → ℕ → Type 0
+ListsBelow o n = (m : ℕ) (q : Row) → row_at o.state.rows m ≡ Some q → m < n → IsListed o q
+
+-- by rising number, this row is the first that isn't listed as it has to be
+pub record IsFirstUnlisted (o : Opening) (t : Token) : Type 0 where
+  pub row : Row
+  pub found : row_at o.state.rows t.row ≡ Some row
+  pub its : token_of row ≡ t
+  pub unlisted : ¬ IsListed o row
+  pub first : ListsBelow o t.row
+
+-- the first finding is a row that has to be listed and isn't
+pub record FindsMissing (o : Opening) (t : Token) : Type 0 where
+  pub row : IsFirstUnlisted o t
+  pub absent : first_of o t ≡ None
+
+-- it is a row that is listed as another
+pub record FindsDiffering (o : Opening) (t : Token) : Type 0 where
+  pub row : IsFirstUnlisted o t
+  pub listed : Living
+  pub differs : first_of o t ≡ Some listed
+
+-- each row is listed as it has to be, and the first finding is what stands in the list for no row
+pub record FindsStranger (o : Opening) (t : Token) : Type 0 where
+  pub rows : (n : ℕ) (r : Row) → row_at o.state.rows n ≡ Some r → IsListed o r
   pub before : List Alive
-  pub after : List Alive
-  pub list : o.alive ≡ before ++ a ∷ after
-  pub nobodys : ¬ IsOurs o.state a.token
-  pub first : (b : Alive) → Contains before b → IsOurs o.state b.token
+  pub it : Alive
+  pub behind : List Alive
+  pub list : o.alive ≡ before ++ it ∷ behind
+  pub its : it.token ≡ t
+  pub strange : ¬ IsExpected o.state t
+  pub first : All (λ (a : Alive). IsExpected o.state a.token) before
 
--- What is found first, with its token: a row's resource isn't listed, though it must be; it is listed, but not as the
--- row says; or, where the list agrees with each row, one is listed that is nobody's.
-pub data HasFound (o : Opening) (t : Token) : Finding → Type 0 where
-  missing : (r : Row) → IsFirstRow o r → t ≡ token_of r → first_of o t ≡ None → HasFound o t Missing
-  differs : (r : Row) → IsFirstRow o r → t ≡ token_of r → IsSome (first_of o t) → HasFound o t Differs
-  stranger : (a : Alive) → ((n : ℕ) (r : Row) → row_at o.state.rows n ≡ Some r → IsListed o r)
-      → IsFirstStranger o a → t ≡ a.token → HasFound o t Stranger
+-- what is found first, with its token
+abbrev pub HasFound : Opening → Token → Finding → Type 0
+HasFound o t Missing = FindsMissing o t
+HasFound o t Differs = FindsDiffering o t
+HasFound o t Stranger = FindsStranger o t
