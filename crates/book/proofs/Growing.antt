@@ -41,7 +41,7 @@ unasked cloud = record {
 }
 
 -- a note is silent
-silent_note : (it : What) → IsNote it → IsSilent it
+pub silent_note : (it : What) → IsNote it → IsSilent it
 silent_note _ (shows it stack) = tt
 silent_note _ (notes line code path) = tt
 silent_note _ (ran idle turns) = tt

@@ -1,5 +1,5 @@
 -- The keeper of a book, through its calls.
-use Rattle.std.proofs.Common.{arith, inl, inr, refl, subst, sym, ◌∙◌, ◌≡◌, ℕ}
+use Rattle.std.proofs.Common.{ap, arith, inl, inr, refl, subst, sym, ◌∙◌, ◌≡◌, ℕ}
 use Rattle.std.specs.Prelude.{Err, List, None, Ok, Option, Result, Some, min, ◌+◌, ◌-◌, ◌^◌, ◌≢◌, ◌≤◌}
 use Rattle.heat_value.specs.Counts.{Rose}
 use Rattle.heat_plan.specs.declared.refusal.Refusal.{Refusal}
@@ -9,9 +9,9 @@ use Rattle.core_state.specs.declared.change.Change.{Change}
 use Rattle.record_keeper.specs.Calls.{GoesOn}
 use Rattle.record_keeper.specs.Shown.{ShownKeeper}
 use Rattle.book.specs.Halting.{halt_after, halt_by, halt_for}
-use Rattle.book.specs.Halts.{IsHaltedAs}
+use Rattle.book.specs.Halts.{Halts, IsHaltedAs}
 use Rattle.book.specs.Keeping.{IsReady, KeptBy}
-use Rattle.book.specs.Kept.{IsHeld}
+use Rattle.book.specs.Kept.{IsHeld, Shown}
 use Rattle.book.specs.declared.halting.Halt.{Halt}
 use Rattle.book.specs.declared.halting.Halt.TheVariants as halt
 use Rattle.book.specs.declared.turning.Turn.TheVariants as turn
@@ -126,3 +126,59 @@ step_fine (Ok a) ne = refl
 step_fine {A} (Err e) ne = refusal_fine e (λ is. ne (ap_err e refusal.DiskFault is)) where
   ap_err : (a b : Refusal) → a ≡ b → ◌≡◌ {A = Result A Refusal} (Err a) (Err b)
   ap_err a b is = rw is refl
+
+-- what is kept of the keeper through a turn and through a step, by what they answer
+module _ (origin : ShownKeeper) (first : ℕ) (k l : ShownKeeper) (mid now : ℕ) (s t : StateData) (cs : List Change)
+    (h : Option Halt) (held : IsHeld origin k first mid s None) where
+  pub turned_held : (r : Turn) → h ≡ halt_by r → KeptBy k l mid now s t cs (r ≡ turn.DiskFault)
+      → IsHeld origin l first now t h × IsHaltedAs first now t h
+  turned_held r is kept = (
+    held_on origin first k l mid now s t cs (r ≡ turn.DiskFault) h held kept
+        (λ ne. fine_turn r (λ same. ne (is ∙ same))),
+    subst (λ (x : Option Halt). IsHaltedAs first now t x) (sym is)
+        (turn_halts first now t r (λ f. rose_since first mid now held.goes_on.later (kept.rose f))),
+  )
+
+  pub stepped_held : {A : Type 0} (r : Result A Refusal) → h ≡ halt_after r
+      → KeptBy k l mid now s t cs (r ≡ Err refusal.DiskFault)
+      → IsHeld origin l first now t h × IsHaltedAs first now t h
+  stepped_held r is kept = (
+    held_on origin first k l mid now s t cs (r ≡ Err refusal.DiskFault) h held kept
+        (λ ne. fine_step r (λ same. ne (is ∙ same))),
+    subst (λ (x : Option Halt). IsHaltedAs first now t x) (sym is)
+        (step_halts first now t r (λ f. rose_since first mid now held.goes_on.later (kept.rose f))),
+  )
+
+-- and why it is halted
+module _ {K P : Type 0} (faults_of : K → ℕ) (old new : Shown K P) (none : old.halt ≡ None) (k l : ShownKeeper)
+    (s t : StateData) (cs : List Change) where
+  pub turned_halts : (r : Turn) → new.halt ≡ halt_by r
+      → KeptBy k l (faults_of old.keeper) (faults_of new.keeper) s t cs (r ≡ turn.DiskFault)
+      → Halts faults_of turn.DiskFault old new r
+  turned_halts r is kept = record {
+    later = kept.keeps.goes_on.later;
+    faulted = λ f. record { rose = kept.rose f; halted = is ∙ turn_fault r f };
+    same = λ ne. is ∙ turn_fine r ne ∙ sym none;
+  }
+
+  pub stepped_halts : {A : Type 0} (r : Result A Refusal) → new.halt ≡ halt_after r
+      → KeptBy k l (faults_of old.keeper) (faults_of new.keeper) s t cs (r ≡ Err refusal.DiskFault)
+      → Halts faults_of (Err refusal.DiskFault) old new r
+  stepped_halts r is kept = record {
+    later = kept.keeps.goes_on.later;
+    faulted = λ f. record { rose = kept.rose f; halted = is ∙ step_fault r f };
+    same = λ ne. is ∙ step_fine r ne ∙ sym none;
+  }
+
+-- the keeper with which a book begins
+pub held_at_first : (origin k : ShownKeeper) (before now : ℕ) (s : StateData) → origin ≡ k → before ≡ now → IsReady k s
+    → IsHeld origin k before now s None
+held_at_first origin k before now s same count ready = record {
+  goes_on = record {
+    tells = ap (λ (x : ShownKeeper). x.tells) (sym same);
+    recalls = ap (λ (x : ShownKeeper). x.recalls) (sym same);
+    later = omega (arith, count);
+  };
+  stands = λ ne. ready.stands;
+  young = λ ne. ready.young;
+}

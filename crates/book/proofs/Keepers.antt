@@ -1,15 +1,18 @@
 -- What a keeper shows between the calls of a step.
 use Rattle.std.proofs.Common.{arith, inl, inr, refl, subst, sym, ◌∙◌, ◌≡◌}
-use Rattle.std.specs.Prelude.{IsTrue, List, Option, [], ℕ}
+use Rattle.std.specs.Prelude.{Bool, Err, IsTrue, List, Option, Some, [], length, nat_eq, true, ℕ, ◌∷◌}
 use Rattle.heat_value.specs.Counts.{Rose}
 use Rattle.core_state.specs.Changes.{applied}
 use Rattle.core_state.specs.State.{StateData}
 use Rattle.core_state.specs.declared.change.Change.{Change}
 use Rattle.record_keeper.proofs.Moments.{LeavesOnly-same}
-use Rattle.record_keeper.specs.Calls.{GoesOn, IsLeftOf, before}
+use Rattle.core_state.specs.Applies.{AllApply}
+use Rattle.record_keeper.specs.Calls.{GoesOn, HasAppended, IsLeftOf, before}
 use Rattle.record_keeper.specs.Laws.{IsLawful}
-use Rattle.record_keeper.specs.Shown.{Left, LeavesOnly, SameKeeper, ShownKeeper, StandsFor}
-use Rattle.book.specs.Keeping.{IsReady, Keeps, KeptBy}
+use Rattle.record_keeper.specs.Shown.{Left, LeavesOnly, SameKeeper, ShownKeeper, StandsFor, at_rest}
+use Rattle.book.specs.Compactions.{Shortens}
+use Rattle.book.specs.declared.compacting.Uncompacted.TheVariants as why
+use Rattle.book.specs.Keeping.{IsReady, IsStorable, Keeps, KeptBy}
 
 -- a keeper that nobody has called
 pub itself : (k : ShownKeeper) → SameKeeper k k
@@ -93,3 +96,56 @@ module _ (old new : ShownKeeper) (same : SameKeeper old new) where
     ready = λ none. subst (IsReady new) (sym stays) (same_ready s ready);
     rose = λ f. absurd (never f);
   }
+
+-- nothing was to be kept
+pub kept_nothing : (k : ShownKeeper) (may_open : StateData → Type 0) (n : ℕ) (s : StateData) (cs : List Change)
+    → cs ≡ [] → IsLawful may_open k → IsReady k s → Keeps k k n n s (applied cs s)
+kept_nothing k may_open n s cs is lawful ready = subst (λ (xs : List Change). Keeps k k n n s (applied xs s)) (sym is)
+    (same_keeps k k (itself k) may_open lawful n n s refl ready.stands)
+
+pub ready_nothing : (k : ShownKeeper) (s : StateData) (cs : List Change) → cs ≡ [] → IsReady k s
+    → IsReady k (applied cs s)
+ready_nothing k s cs is ready = subst (λ (xs : List Change). IsReady k (applied xs s)) (sym is) ready
+
+-- the changes were appended
+module _ (old new : ShownKeeper) (s : StateData) (cs : List Change) (ready : IsReady old s) where
+  pub kept_appended : (before now : ℕ)
+      → (IsTrue old.tells → (t : StateData) → old.stands t → LeavesOnly old new (IsLeftOf t (applied cs t)))
+      → GoesOn old new before now → Keeps old new before now s (applied cs s)
+  kept_appended before now crash goes = record {
+    leaves = λ tells. crash tells s (ready.stands.told tells);
+    goes_on = goes;
+  }
+
+  pub ready_appended : HasAppended cs old new → IsReady new (applied cs s)
+  ready_appended it = record { stands = it.stands s ready.stands; young = it.young }
+
+  pub may_append : IsStorable s cs → (t : StateData) → old.stands t → AllApply cs t
+  may_append storable t stands = subst (AllApply cs) (sym (ready.stands.only t stands)) storable.applies
+
+-- a list of no elements
+pub empty_by : {A : Type 0} (xs : List A) {b : Bool} → b ≡ nat_eq (length xs) 0 → b ≡ true → xs ≡ []
+empty_by [] is yes_ = refl
+empty_by (x ∷ xs) is yes_ = cc
+
+-- where nothing was written, and a crash leaves the state at rest
+pub rests_same : (old new : ShownKeeper) (may_open : StateData → Type 0) → IsLawful may_open old → SameKeeper old new
+    → (s : StateData) → StandsFor old s → IsTrue old.tells → LeavesOnly old new (λ l. l ≡ Some (at_rest s))
+rests_same old new may_open lawful same s it tells =
+    let told = lawful.told tells in
+    LeavesOnly-same may_open old new (λ l. l ≡ Some (at_rest s)) told same
+    (λ l left. told.durable s l (it.told tells) left)
+
+-- no memory for a compaction
+pub shortens_not : (old new : ShownKeeper) (may_open : StateData → Type 0) → IsLawful may_open old
+    → SameKeeper old new → (before now : ℕ) → now ≡ before → (s : StateData) → StandsFor old s
+    → Shortens s old new before now (Err why.Memory)
+shortens_not old new may_open lawful same before_ now is s it = record {
+  leaves = λ tells. rests_same old new may_open lawful same s it tells;
+  goes_on = same_goes old new same before_ now is;
+  stands = λ ne. same_stands old new same s it;
+  young = λ ne young. same.is_old ∙ young;
+  short = λ f. cc;
+  rose = λ f. cc;
+  same = λ f. same;
+}

@@ -4,6 +4,8 @@ pub mod Growing
 pub mod Headlines
 pub mod Images
 pub mod Keepers
+pub mod Settings
+pub mod Stepping
 pub mod Held
 pub mod Conditions
 pub mod Telling
@@ -16,6 +18,9 @@ pub mod Engined
 pub mod Rising
 pub mod Doing
 pub mod Recorded
+pub mod Openers
+pub mod Restarted
+pub mod Relisted
 pub mod Beginnings
 pub mod Fences
 pub mod Unhalted

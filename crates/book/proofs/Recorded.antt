@@ -33,7 +33,8 @@ use Rattle.book.specs.declared.halting.Halt.TheVariants as halt
 use Rattle.book.specs.declared.turning.Turn.TheVariants.{DiskFault}
 use Rattle.book.specs.declared.turning.Turn.{Turn as Turn_answer}
 use Rattle.book.proofs.Doing.{IsSilentStep, done_silent, done_state, done_step, done_told, told_to}
-use Rattle.book.proofs.Growing.{unasked}
+use Rattle.book.proofs.Growing.{silent_note}
+use Rattle.book.proofs.Silent.{silent_uncalling}
 use Rattle.book.proofs.Histories.{silence_allows}
 use Rattle.book.proofs.Keepers.{itself, same_keeps}
 use Rattle.book.proofs.KeptTurned.{step_to, told_by, turned_allows, turned_state, turned_step, turned_told}
@@ -113,3 +114,33 @@ module _ {K P : Type 0} (shown : K → ShownKeeper) (cloud_of : P → Cloud) (ol
     entries = λ h. done_told Is Refuses answer old.state new.state old.entries new.entries result steps it.does
         (fine h);
   }
+
+  -- the keeper wasn't called
+  module _ (may_open : StateData → Type 0) (lawful : IsLawful may_open (shown old.keeper))
+      (stands : StandsFor (shown old.keeper) old.state) where
+    pub recorded_note : (it : What) → IsNote it → new ≡ record old { entries = old.entries ++ entry_of Main it ∷ [] }
+        → Records shown cloud_of old new
+    recorded_note it noted is = subst (λ (x : Shown K P). Records shown cloud_of old x) (sym is) (record {
+      behind = old.state;
+      told = entry_of Main it ∷ [];
+      step = step_to old.entries old.state [] (entry_of Main it ∷ []) (note it noted refl refl) tt tt;
+      agrees = silence_allows (opening_of cloud_of old) old.entries (cloud_of old.cloud) (cloud_of old.cloud) allows
+          (entry_of Main it ∷ []) (silent_uncalling _ (silent_note it noted, tt)) (λ token. refl);
+      leaves = (same_keeps (shown old.keeper) (shown old.keeper) (itself (shown old.keeper)) may_open lawful 0 0 old.state
+          refl stands).leaves;
+      state = λ h. refl;
+      entries = λ h. refl;
+    })
+
+    pub recorded_still : new ≡ old → Records shown cloud_of old new
+    recorded_still is = subst (λ (x : Shown K P). Records shown cloud_of old x) (sym is) (record {
+      behind = old.state;
+      told = [];
+      step = none refl refl;
+      agrees = silence_allows (opening_of cloud_of old) old.entries (cloud_of old.cloud) (cloud_of old.cloud) allows
+          [] tt (λ token. refl);
+      leaves = (same_keeps (shown old.keeper) (shown old.keeper) (itself (shown old.keeper)) may_open lawful 0 0 old.state
+          refl stands).leaves;
+      state = λ h. refl;
+      entries = λ h. sym (append-nil old.entries);
+    })

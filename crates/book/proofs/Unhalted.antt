@@ -1,5 +1,5 @@
 -- A book that isn't halted, and one that is.
-use Rattle.std.proofs.Common.{List, Option, ap, false, refl, subst, true, ℕ, ◌≡◌}
+use Rattle.std.proofs.Common.{List, Option, ap, false, refl, subst, sym, true, ℕ, ◌≡◌}
 use Rattle.std.specs.Prelude.{None, Some, is_some, ◌≢◌}
 use Rattle.provider.specs.Cloud.{Cloud}
 use Rattle.core_state.specs.State.{StateData}
@@ -8,7 +8,7 @@ use Rattle.check_steps.specs.declared.looks.Work.{Work}
 use Rattle.record_keeper.specs.Shown.{ShownKeeper}
 use Rattle.book.specs.Commits.{Commits}
 use Rattle.book.specs.Commits as commits
-use Rattle.book.specs.Halts.{first_cause}
+use Rattle.book.specs.Halts.{IsForeignCause, first_cause}
 use Rattle.book.specs.Kept.{IsHeld, IsKept, Shown}
 use Rattle.book.specs.Scenes.{Scene}
 use Rattle.book.specs.Turned.{Turned}
@@ -16,6 +16,7 @@ use Rattle.book.specs.Turned as turned
 use Rattle.book.specs.declared.halting.Halt.{Halt}
 use Rattle.book.specs.declared.turning.Turn.TheVariants.{Memory}
 use Rattle.book.proofs.Fences.{unmade_at}
+use Rattle.book.proofs.Growing.{stays, unasked}
 
 pub unhalted : (h : Option Halt) → is_some h ≡ false → h ≡ None
 unhalted None none = refl
@@ -60,3 +61,24 @@ halted_still {K} {P} b h same = ap (λ (x : Option Halt). record b { halt = x })
 pub halted_as : {K P : Type 0} (b : Shown K P) (h i : Option Halt) → h ≡ i
     → ◌≡◌ {A = Shown K P} (record b { halt = h }) (record b { halt = i })
 halted_as {K} {P} b h i same = ap (λ (x : Option Halt). record b { halt = x }) same
+
+-- a book that is halted from outside keeps what it kept
+pub kept_outside : (first : StateData) (origin : Cloud) (s : StateData) (es : List Entry) (c : Cloud) (h i : Option Halt)
+    → is_some h ≡ false → IsKept first origin s es c h → IsKept first origin s es c i
+kept_outside first origin s es c h i none kept =
+    stays first origin s s es es c c i (kept_unhalted first origin s es c h none kept) refl refl (unasked c)
+
+pub halt_again : (first : StateData) (origin : Cloud) (s : StateData) (es : List Entry) (c : Cloud) (h : Option Halt)
+    → is_some h ≡ false → IsKept first origin s es c None → IsKept first origin s es c h
+halt_again first origin s es c h none kept =
+    subst (λ (x : Option Halt). IsKept first origin s es c x) (sym (unhalted h none)) kept
+
+pub held_outside : (origin keeper : ShownKeeper) (before now : ℕ) (s : StateData) (h : Option Halt) (why : Halt)
+    → is_some h ≡ false → IsForeignCause why → IsHeld origin keeper before now s h
+    → IsHeld origin keeper before now s (Some why)
+held_outside origin keeper before now s h why none outside held =
+    let free = held_unhalted origin keeper before now s h none held in record {
+      goes_on = free.goes_on;
+      stands = λ ne. free.stands (λ is. cc);
+      young = λ ne. free.young (λ is. cc);
+    }

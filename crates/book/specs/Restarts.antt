@@ -1,7 +1,9 @@
 -- What a restart makes of a book: the keeper is read again, the cloud lists what is alive, all engines stop, and others
 -- are enlisted.
-use Rattle.std.specs.Prelude.{Bool, Err, IfErr, IsTrue, List, Ok, Result, Some, [], ℕ, ◌++◌, ◌+◌, ◌<◌, ◌^◌, ◌∷◌, ◌≡◌, ◌≢◌, ◌≤◌}
+use Rattle.std.specs.Prelude.{Bool, Err, IfErr, IsTrue, List, Ok, Result, Some, [], ℕ, ◌++◌, ◌+◌, ◌<◌, ◌^◌, ◌∷◌, ◌≡◌, ◌≢◌, ◌≤◌, ◌⊎◌}
 use Rattle.heat_value.specs.Counts.{Rose}
+use Rattle.heat_plan.specs.declared.refusal.Refusal.{Refusal}
+use Rattle.heat_plan.specs.declared.refusal.Refusal.TheVariants as refusal
 use Rattle.heat_plan.specs.declared.token.Token.{Token}
 use Rattle.provider.specs.Calls.{Lists, ListsNone}
 use Rattle.provider.specs.Changes.{IsAsBefore}
@@ -10,6 +12,7 @@ use Rattle.provider.specs.declared.alive.Alive.{Alive}
 use Rattle.core_state.specs.Changes.{applied}
 use Rattle.core_state.specs.State.{StateData}
 use Rattle.core_state.specs.State.{StateData}
+use Rattle.core_state.specs.declared.change.Change.{Change}
 use Rattle.core_state.specs.declared.entry.Actor.TheVariants.{Main}
 use Rattle.core_state.specs.declared.entry.EngineChange.TheVariants as engine
 use Rattle.core_state.specs.declared.entry.Entry.{Entry}
@@ -18,13 +21,13 @@ use Rattle.step_relation.specs.Laws.{opening_at}
 use Rattle.step_relation.specs.Steps.{restart_changes}
 use Rattle.step_relation.specs.Writes.{entry_of}
 use Rattle.workable_laws.specs.Admitted.{FindsNothing}
-use Rattle.record_keeper.specs.Calls.{IsUnfit}
-use Rattle.record_keeper.specs.Shown.{ShownKeeper}
+use Rattle.record_keeper.specs.Calls.{GoesOn, IsUnfit}
+use Rattle.record_keeper.specs.Shown.{LeavesOnly, ShownKeeper, at_rest}
 use Rattle.record_keeper.specs.declared.open_fault.OpenFault.{OpenFault}
 use Rattle.record_keeper.specs.declared.open_fault.OpenFault.TheVariants as open_fault
 use Rattle.opening_check.specs.Findings.{HasFound}
 use Rattle.opening_check.specs.declared.finding.Finding.{Finding}
-use Rattle.book.specs.Keeping.{IsReady, KeptBy, Keeps}
+use Rattle.book.specs.Keeping.{IsReady, KeptBy}
 use Rattle.book.specs.Openings.{MayList}
 use Rattle.book.specs.Kept.{Shown}
 use Rattle.book.specs.Scenes.{Scene, scene_of}
@@ -91,9 +94,10 @@ pub data WhyUnread (recalls : Bool) (s : StateData) (before now : ℕ) (w : Unre
 
 pub record Rereads (s : StateData) (old new : ShownKeeper) (before now : ℕ) (result : Result (Unit {0}) Unrestarted)
     : Type 0 where
-  pub keeps : Keeps old new before now s s
+  pub leaves : IsTrue old.tells → LeavesOnly old new (λ l. l ≡ Some (at_rest s))
+  pub goes_on : GoesOn old new before now
   pub ready : result ≢ Err why.DiskFault → IsReady new s
-  pub why_ : IfErr result (WhyUnread old.recalls s before now)
+  pub cause : IfErr result (WhyUnread old.recalls s before now)
 
 -- so many engines stand in the place of others, or nothing is changed for such a cause
 pub data RestartsAs (recalls : Bool) (count : ℕ) (old new : Scene) (result : Result (Unit {0}) Unrestarted) : Type 0 where
@@ -101,9 +105,31 @@ pub data RestartsAs (recalls : Bool) (count : ℕ) (old new : Scene) (result : R
   refused : (w : Unrestarted) → RestartBreaks recalls count old new w → new.state ≡ old.state
       → new.entries ≡ old.entries → result ≡ Err w → RestartsAs recalls count old new result
 
+-- the changes that it made, or tried to have kept: none, where it was refused before
+pub data Tries (s : StateData) (count : ℕ) (result : Result (Unit {0}) Unrestarted) (cs : List Change) : Type 0 where
+  none : result ≢ Ok tt → cs ≡ [] → Tries s count result cs
+  all : (result ≡ Ok tt) ⊎ (result ≡ Err why.DiskFault) → s.next.engine + count ≤ 2 ^ 62
+      → cs ≡ restart_changes s count → Tries s count result cs
+
 -- and what it leaves with the keeper
 pub record Restarts (count : ℕ) (old new : Scene) (before after : ShownKeeper) (faults now : ℕ)
     (result : Result (Unit {0}) Unrestarted) : Type 0 where
   pub does : RestartsAs before.recalls count old new result
-  pub kept : KeptBy before after faults now old.state new.state (restart_changes old.state count)
-      (result ≡ Err why.DiskFault)
+  pub tried : List Change
+  pub tries : Tries old.state count result tried
+  pub kept : KeptBy before after faults now old.state new.state tried (result ≡ Err why.DiskFault)
+
+-- what a restart's step came to
+abbrev pub restarted_for : Result (Unit {0}) Refusal → Result (Unit {0}) Unrestarted
+restarted_for (Ok u) = Ok tt
+restarted_for (Err refusal.StackExists) = Err why.Memory
+restarted_for (Err refusal.NoStack) = Err why.Memory
+restarted_for (Err refusal.Deleting) = Err why.Memory
+restarted_for (Err refusal.TooManyStacks) = Err why.Memory
+restarted_for (Err refusal.TooManyRows) = Err why.Memory
+restarted_for (Err refusal.Worn) = Err why.Worn
+restarted_for (Err refusal.NoEngine) = Err why.Memory
+restarted_for (Err refusal.TooManyEngines) = Err why.Memory
+restarted_for (Err refusal.NotRunning) = Err why.Memory
+restarted_for (Err refusal.DiskFault) = Err why.DiskFault
+restarted_for (Err refusal.Memory) = Err why.Memory

@@ -1,12 +1,13 @@
 //! The book: what it shows, and its calls.
-ghost use Rattle.std.specs.Prelude.{◌≡◌, ◌++◌, ◌∷◌, ◌↔◌, ◌-◌, ◌^◌, ◌≤◌, ◌<◌, [], ℕ, Bool, List};
-ghost use Rattle.std.specs.Prelude.{min, None, Err, Some, IfErr, IfOk, IsTrue, OnOk, OnErr, Contains};
+ghost use Rattle.std.specs.Prelude.{◌≡◌, ◌≢◌, ◌++◌, ◌∷◌, ◌↔◌, ◌-◌, ◌^◌, ◌≤◌, ◌<◌, [], ℕ, Bool, List};
+ghost use Rattle.std.specs.Prelude.{min, None, Err, Some, IsErr, IfErr, IfOk, IsTrue, OnOk, OnErr, Contains};
 ghost use Rattle.dep_graph.specs.Lists.{IsRising};
 ghost use Rattle.heat_plan.specs.Plans.{PlanData};
 ghost use Rattle.heat_plan.specs.declared.token.Token.{Token as token_type};
 ghost use Rattle.core_state.specs.declared.entry.Actor.TheVariants.{Main};
 ghost use Rattle.step_relation.specs.Refusals.{RefusesCancel, RefusesCreate, RefusesDelete};
 ghost use Rattle.step_relation.specs.Refusals.{RefusesEnlist, RefusesStop, RefusesUpdate};
+ghost use Rattle.step_relation.specs.Images.{IsMade};
 ghost use Rattle.step_relation.specs.Steps.{IsNote, engine_limit};
 ghost use Rattle.command_steps.specs.Answers.{Cancels, Creates, Deletes, Updates};
 ghost use Rattle.check_steps.specs.Looks.{HasNext, IsLook, IsWork};
@@ -357,7 +358,7 @@ impl<K: Keeper, P: Provider> Book<K, P> {
             ≡ record self.old { entries = self.old.entries ++ record { by = Main; what = what } ∷ [] }) }
         ensures err { OnErr result (self.new ≡ self.old) }
         ensures records { self.old.halt ≡ None → Records K.shown P.cloud self.old self.new }
-        ensures halted { IsRefused self.old self.new (Err AllocError) result }
+        ensures halted { self.old.halt ≢ None → IsErr result }
     {
         if self.halt.is_some() {
             return Err(AllocError);
@@ -379,6 +380,7 @@ impl<K: Keeper, P: Provider> Book<K, P> {
         ensures image { HasImage P.cloud self.now }
         ensures held { IsHeld (K.shown self.now.origin.keeper) (K.shown self.now.keeper)
             (K.faults self.now.origin.keeper) (K.faults self.now.keeper) self.now.state self.now.halt }
+        ensures made { IsMade self.now.state }
         ensures sound { IsSoundOpening P.cloud self.now → IsSoundBook P.cloud self.now }
         ensures headline { IsSoundOpening P.cloud self.now → HasHeadline P.cloud self.now }
     {

@@ -124,8 +124,6 @@ fn tell_first(entries: &mut Roomed<Entry>, told: Batch<Entry>)
     requires some { told ≢ [] }
     ensures { entries.new.items ≡ entries.old.items ++ take 1 told }
 {
-    for entry in told.into_vec() {
-        entries.push(entry);
-        return;
-    }
+    let mut all = told.into_vec();
+    entries.push(all.remove(0));
 }

@@ -79,7 +79,7 @@ pub(crate) fn open_with<K: Keeper, P: Provider>(
     match keeper.open(alloc) {
         Ok(image) => {
             admit(alloc, &image, cloud)?;
-            start(alloc, image, keeper, workers)
+            begin_with(alloc, image, keeper, workers)
         }
         Err(fault) => Err(unread(fault)),
     }
@@ -87,7 +87,7 @@ pub(crate) fn open_with<K: Keeper, P: Provider>(
 
 // Enlists so many engines in place of an image's, and has the keeper keep that. Where the keeper is old
 // it is compacted first.
-fn start<K: Keeper>(
+fn begin_with<K: Keeper>(
     alloc: Global,
     image: State,
     keeper: &mut K,
@@ -99,7 +99,7 @@ fn start<K: Keeper>(
     requires made { IsMade image.state }
     requires keepable { HasKeepableRows image.state }
     requires storable { (n : ℕ) → IsStorable image.state (restart_changes image.state n) }
-    ensures { Starts workers image.state (K.shown keeper.old) (K.shown keeper.new)
+    ensures { Starts image.state workers (K.shown keeper.old) (K.shown keeper.new)
         (K.faults keeper.old) (K.faults keeper.new) result }
 {
     let made = restarted(alloc, &image, workers)?;

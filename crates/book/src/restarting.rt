@@ -3,7 +3,7 @@
 ghost use Rattle.std.specs.Prelude.{◌≡◌, ◌≤◌};
 ghost use Rattle.step_relation.specs.Steps.{engine_limit};
 ghost use Rattle.book.specs.Keeping.{IsReady};
-ghost use Rattle.book.specs.Restarts.{Rereads, Restarts, halt_of, unread_for};
+ghost use Rattle.book.specs.Restarts.{Rereads, Restarts, halt_of, restarted_for, unread_for};
 ghost use Rattle.book.specs.Scenes.{scene};
 ghost use Rattle.book.specs.WorkableOver.{IsWorkable};
 
@@ -66,7 +66,14 @@ pub(crate) fn restart_with<K: Keeper, P: Provider>(
     reread(keeper, state)?;
     admit(alloc, state, cloud)?;
     let made = takeover_steps::restart(alloc, state, workers);
-    match make_step(state, entries, keeper, made) {
+    restarted(make_step(state, entries, keeper, made))
+}
+
+// What the step of a restart came to.
+fn restarted(done: Result<(), Refusal>) -> Result<(), Unrestarted>
+    ensures { result ≡ restarted_for done }
+{
+    match done {
         Ok(()) => Ok(()),
         Err(Refusal::DiskFault) => Err(Unrestarted::DiskFault),
         Err(Refusal::Worn) => Err(Unrestarted::Worn),
