@@ -7,7 +7,8 @@ use Rattle.core_state.specs.State.{StateData}
 use Rattle.core_state.specs.declared.change.Change.{Change}
 use Rattle.record_keeper.proofs.Moments.{LeavesOnly-same}
 use Rattle.core_state.specs.Applies.{AllApply}
-use Rattle.record_keeper.specs.Calls.{GoesOn, HasAppended, IsLeftOf, before}
+use Rattle.record_keeper.specs.Calls.{GoesOn, HasAppended, IsLeftOf}
+use Rattle.record_keeper.specs.Calls as left
 use Rattle.record_keeper.specs.Laws.{IsLawful}
 use Rattle.record_keeper.specs.Shown.{Left, LeavesOnly, SameKeeper, ShownKeeper, StandsFor, at_rest}
 use Rattle.book.specs.Compactions.{Shortens}
@@ -85,7 +86,7 @@ module _ (old new : ShownKeeper) (same : SameKeeper old new) where
     leaves = λ tells.
         let told = lawful.told tells in
         LeavesOnly-same may_open old new (IsLeftOf s s) told same
-        (λ l left. before (told.durable s l (it.told tells) left));
+        (λ l may. left.before (told.durable s l (it.told tells) may));
     goes_on = same_goes first now is;
   }
 
@@ -126,7 +127,7 @@ module _ (old new : ShownKeeper) (s : StateData) (cs : List Change) (ready : IsR
 -- a list of no elements
 pub empty_by : {A : Type 0} (xs : List A) {b : Bool} → b ≡ nat_eq (length xs) 0 → b ≡ true → xs ≡ []
 empty_by [] is yes_ = refl
-empty_by (x ∷ xs) is yes_ = cc
+empty_by (x ∷ xs) is yes_ = let both = sym is ∙ yes_ in cc
 
 -- where nothing was written, and a crash leaves the state at rest
 pub rests_same : (old new : ShownKeeper) (may_open : StateData → Type 0) → IsLawful may_open old → SameKeeper old new

@@ -21,6 +21,7 @@ pub mod Recorded
 pub mod Openers
 pub mod Restarted
 pub mod Relisted
+pub mod Startings
 pub mod Beginnings
 pub mod Fences
 pub mod Unhalted

@@ -281,3 +281,10 @@ module _ (count : ℕ) (s t : StateData) (h i : List Entry) (c d : Cloud) (k l m
         }
     by (made_as.memory same ends) kept = not_made why.Memory (ap restarted_for ends) (λ f. cc) (restarts.memory may)
         same kept.keeps (kept.ready (λ f. let both = sym ends ∙ f in cc))
+
+-- what is read as this fault
+pub read_as : {A : Type 0} (r : Result A OpenFault) (v w : OpenFault) → r ≡ Err v → v ≡ w → r ≡ Err w
+read_as {A} r v w is same_ = subst (λ (x : OpenFault). r ≡ Err x) same_ is
+
+pub fault_one : {A : Type 0} (r : Result A OpenFault) (v w : OpenFault) → r ≡ Err v → r ≡ Err w → v ≡ w
+fault_one r v w a b = let both = sym a ∙ b in cc

@@ -2,6 +2,7 @@
 //! they are made, and the entries told.
 ghost use Rattle.std.specs.Prelude.{◌≡◌, ◌≢◌, ◌<◌, ◌≤◌, ◌++◌, [], Err, List, IfOk, OnOk, OnErr, length, take};
 ghost use Rattle.heat_value.specs.Counts.{Rose};
+ghost use Rattle.core_state.specs.Applies.{AllApply};
 ghost use Rattle.core_state.specs.Changes.{applied};
 ghost use Rattle.core_state.specs.State.{StateData};
 ghost use Rattle.core_state.specs.declared.change.Change.{Change as change_type};
@@ -43,7 +44,8 @@ pub(crate) fn make_room<K: Keeper>(
 /// Has the keeper keep a step's changes, of which there may be none. It takes no memory.
 pub(crate) fn keep<K: Keeper>(keeper: &mut K, changes: &[Ready]) -> Result<(), KeepFailed>
     requires ready { (s : StateData) × IsReady (K.shown keeper.old) s }
-    requires storable { (s : StateData) → IsReady (K.shown keeper.old) s → IsStorable s changes.now }
+    requires keepable { AreKeepable changes.now }
+    requires applies { (s : StateData) → (K.shown keeper.old).stands s → AllApply changes.now s }
     requires room { K.has_room keeper.old changes.now }
     ensures keeps { (s : StateData) → IsReady (K.shown keeper.old) s
         → Keeps (K.shown keeper.old) (K.shown keeper.new) (K.faults keeper.old) (K.faults keeper.new)
@@ -86,8 +88,13 @@ pub(crate) fn make_step<K: Keeper>(
         (page state.new.state entries.new.items) (K.shown keeper.old) (K.shown keeper.new)
         (K.faults keeper.old) (K.faults keeper.new) result }
 {
-    let made = made?;
-    make_room(state, entries, keeper, &made)?;
+    let made = match made {
+        Ok(made) => made,
+        Err(refusal) => return Err(refusal),
+    };
+    if make_room(state, entries, keeper, &made).is_err() {
+        return Err(Refusal::Memory);
+    }
     if keep(keeper, made.changes.as_slice()).is_err() {
         return Err(Refusal::DiskFault);
     }

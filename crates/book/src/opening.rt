@@ -78,8 +78,10 @@ pub(crate) fn open_with<K: Keeper, P: Provider>(
 {
     match keeper.open(alloc) {
         Ok(image) => {
-            admit(alloc, &image, cloud)?;
-            begin_with(alloc, image, keeper, workers)
+            match admit(alloc, &image, cloud) {
+                Ok(()) => begin_with(alloc, image, keeper, workers),
+                Err(why) => Err(why),
+            }
         }
         Err(fault) => Err(unread(fault)),
     }
@@ -102,9 +104,18 @@ fn begin_with<K: Keeper>(
     ensures { Starts image.state workers (K.shown keeper.old) (K.shown keeper.new)
         (K.faults keeper.old) (K.faults keeper.new) result }
 {
-    let made = restarted(alloc, &image, workers)?;
-    renew(keeper, &image)?;
-    let start = start_of(alloc, image, workers)?;
+    let made = match restarted(alloc, &image, workers) {
+        Ok(made) => made,
+        Err(why) => return Err(why),
+    };
+    match renew(keeper, &image) {
+        Ok(()) => {}
+        Err(why) => return Err(why),
+    }
+    let start = match start_of(alloc, image, workers) {
+        Ok(start) => start,
+        Err(why) => return Err(why),
+    };
     if keeper.reserve(made.changes.as_slice()).is_err() {
         return Err(Unrestarted::Memory);
     }

@@ -63,8 +63,14 @@ pub(crate) fn restart_with<K: Keeper, P: Provider>(
         (scene state.new.state entries.new.items (P.cloud cloud.new))
         (K.shown keeper.old) (K.shown keeper.new) (K.faults keeper.old) (K.faults keeper.new) result }
 {
-    reread(keeper, state)?;
-    admit(alloc, state, cloud)?;
+    match reread(keeper, state) {
+        Ok(()) => {}
+        Err(why) => return Err(why),
+    }
+    match admit(alloc, state, cloud) {
+        Ok(()) => {}
+        Err(why) => return Err(why),
+    }
     let made = takeover_steps::restart(alloc, state, workers);
     restarted(make_step(state, entries, keeper, made))
 }
