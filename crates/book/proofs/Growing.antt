@@ -20,7 +20,7 @@ use Rattle.core_state.specs.declared.entry.Actor.TheVariants.{Main}
 use Rattle.core_state.specs.declared.entry.Entry.{Entry}
 use Rattle.core_state.specs.declared.entry.What.{What}
 use Rattle.step_relation.specs.Runs.{ClosesOnce, IsTiedStep, Run, begins, goes_on}
-use Rattle.step_relation.specs.Steps.{IsNote, Step, note, shows, notes, ran, turned}
+use Rattle.step_relation.specs.Steps.{IsNote, Step, note, notes, previews, ran, shows, turned}
 use Rattle.step_relation.specs.Writes.{entry_of}
 use Rattle.step_relation.specs.Could.{Allows, could}
 use Rattle.step_relation.specs.Laws.{opening_at}
@@ -46,6 +46,7 @@ silent_note _ (shows it stack) = tt
 silent_note _ (notes line code path) = tt
 silent_note _ (ran idle turns) = tt
 silent_note _ (turned e lost) = tt
+silent_note _ (previews stack forecast) = tt
 
 -- where nothing halts a book, its cloud's trace is its history's
 pub whole_trace : (origin : Cloud) (h : List Entry) (c : Cloud) → IsTraced origin h c None

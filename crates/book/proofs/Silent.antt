@@ -30,6 +30,7 @@ IsSilent (what.Show it stack) = Unit {0}
 IsSilent (what.Note line code path) = Unit {0}
 IsSilent (what.Ran idle turns) = Unit {0}
 IsSilent (what.Turned engine lost) = Unit {0}
+IsSilent (what.Preview stack forecast) = Unit {0}
 IsSilent what.Closed = Unit {0}
 
 abbrev pub AreSilent : List Entry → Type 0
@@ -48,6 +49,7 @@ uncalling_of (what.Show it stack) h = tt
 uncalling_of (what.Note line code path) h = tt
 uncalling_of (what.Ran idle turns) h = tt
 uncalling_of (what.Turned engine lost) h = tt
+uncalling_of (what.Preview stack forecast) h = tt
 uncalling_of what.Closed h = tt
 
 pub silent_uncalling : (es : List Entry) → AreSilent es → AreUncalling es
@@ -66,6 +68,7 @@ call_of-silent (what.Show it stack) h = refl
 call_of-silent (what.Note line code path) h = refl
 call_of-silent (what.Ran idle turns) h = refl
 call_of-silent (what.Turned engine lost) h = refl
+call_of-silent (what.Preview stack forecast) h = refl
 call_of-silent what.Closed h = refl
 
 pub calls_of-silent : (es : List Entry) → AreSilent es → calls_of es ≡ []

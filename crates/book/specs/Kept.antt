@@ -69,6 +69,7 @@ call_of (what.Show it stack) = []
 call_of (what.Note line code path) = []
 call_of (what.Ran idle turns) = []
 call_of (what.Turned engine lost) = []
+call_of (what.Preview stack forecast) = []
 call_of what.Closed = []
 
 -- the calls of a history, in order

@@ -90,7 +90,7 @@ const PATHS: &[Case<Of>] = &[
     ),
     (
         Of::Text("{'K':{'attributes':['a',1]}}"),
-        "L09 ['K','attributes',1]",
+        "L09 ['K','attributes']",
     ),
     (Of::Text("{'K':{'attributes':{'a':1,'b':null}}}"), "taken"),
     (

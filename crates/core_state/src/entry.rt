@@ -1,12 +1,12 @@
 //! The entries of the history: what each step did, in the order in which it did it.
 
+use crate::forecast::Forecast;
 use heat_plan::{
     Act, Answered, EngineNo, LetterNo, Plan, Request, ResName, RowNo, StackName, Token, TravNo,
 };
-use heat_value::{Path, Seq, Text, TryCopy, copy_option};
+use heat_value::{Path, Seq, Text};
 use mail_table::{Job, Letter};
 use row_table::Row;
-use std::alloc::AllocError;
 
 /// Who made an entry: the reader of commands, or an engine.
 #[derive(Clone, Copy, Debug, PartialEq, Eq)]
@@ -158,6 +158,11 @@ pub enum What {
         engine: EngineNo,
         lost: bool,
     },
+    /// What an update of a stack would do.
+    Preview {
+        stack: StackName,
+        forecast: Forecast,
+    },
     /// No more lines are read.
     Closed,
 }
@@ -195,6 +200,10 @@ impl Drop for What {
             } => {}
             What::Ran { idle: _, turns: _ } => {}
             What::Turned { engine: _, lost: _ } => {}
+            What::Preview {
+                stack: _,
+                forecast: _,
+            } => {}
             What::Closed => {}
         }
     }

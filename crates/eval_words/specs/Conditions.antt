@@ -14,7 +14,7 @@ use Rattle.hot_functions.specs.declared.place.Place.{Place}
 use Rattle.hot_functions.specs.declared.place.Place.TheVariants as place
 use Rattle.eval_words.specs.Evaluation.{evaluation, condition_outcome}
 use Rattle.eval_words.specs.SoFar.{with_value}
-use Rattle.eval_words.specs.Outcomes.{Outcome, Gives, Faults}
+use Rattle.eval_words.specs.Outcomes.{Outcome, Gives, Faults, max_levels}
 use Rattle.eval_words.specs.Scenes.{SceneData}
 use Rattle.eval_words.specs.Sorts.{flag_in}
 
@@ -78,7 +78,7 @@ flag_made (Faults c p) = None
 -- the flag that a condition expression gives, from no cost on, where these conditions have values
 abbrev pub flag_of : Members → List Condition → Data → Option Bool
 flag_of params known d =
-    flag_made (condition_outcome (evaluation (in_conditions params known)) (in_conditions params known) d 0)
+    flag_made (condition_outcome (evaluation (in_conditions params known)) (in_conditions params known) max_levels d 0)
 
 -- the conditions that get a value where these have one
 abbrev pub valued : Members → List Condition → Members → List Condition

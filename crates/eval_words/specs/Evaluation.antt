@@ -1,12 +1,12 @@
 -- Evaluation: a value with functions in it, part by part, with the sum of costs carried from part to part.
-use Rattle.std.specs.Prelude.{ℕ, zero, suc, ◌+◌, List, [], ◌∷◌, Bool, true, false, Option, Some, None}
+use Rattle.std.specs.Prelude.{ℕ, zero, suc, ◌+◌, nat_le, List, [], ◌∷◌, Bool, true, false, Option, Some, None}
 use Rattle.std.specs.Prelude.{Result, Ok, Err, bytes_eq, codes, if◌then◌else◌}
 use Rattle.heat_value.specs.Data.{Data, null, flag, whole, words, items, fields, Nodes, no_nodes, node}
 use Rattle.heat_value.specs.Data.{Members, no_members, member}
 use Rattle.heat_value.specs.declared.path.Step.{Step}
 use Rattle.heat_value.specs.declared.path.Step.TheVariants.{Key, Index}
 use Rattle.eval_words.specs.Choices.{Choice, Repetition, repetition}
-use Rattle.eval_words.specs.Fillings.{filled, literal_path}
+use Rattle.eval_words.specs.Fillings.{filled, filled_size, literal_path}
 use Rattle.eval_words.specs.Functions.{branch, negated, conjoined, disjoined, only_flag}
 use Rattle.eval_words.specs.Lists.{list_concat, list_concat_unique, filter, contains, equals}
 use Rattle.eval_words.specs.Lookups.{parameter, resource, attribute, file, named_condition}
@@ -16,7 +16,7 @@ use Rattle.eval_words.specs.declared.manner.Manner.{Manner}
 use Rattle.eval_words.specs.declared.manner.Manner.TheVariants as manner
 use Rattle.eval_words.specs.Names.{function_of, condition_function_of, is_formed, is_condition_formed}
 use Rattle.eval_words.specs.Outcomes.{Outcome, Gives, Faults, and_then, made_into, seen_from, under, charged, answered}
-use Rattle.eval_words.specs.Outcomes.{size, cost_limit}
+use Rattle.eval_words.specs.Outcomes.{one_level, max_levels, size, cost_limit, greater}
 use Rattle.eval_words.specs.Scenes.{SceneData}
 use Rattle.eval_words.specs.Sorts.{flag_in}
 use Rattle.eval_words.specs.Texts.{list_join, str_split, str_replace, digest}
@@ -29,12 +29,25 @@ use Rattle.eval_words.specs.declared.function.Function.TheVariants as function
 abbrev pub Evaluating : Type 0
 Evaluating = Data → ℕ → Outcome Data
 
+-- the same at any number of levels that are left
+abbrev pub Leveled : Type 0
+Leveled = ℕ → Evaluating
+
 -- ---- repeat
 
--- the replaced template, counted; F05 where two keys of an object became one
-abbrev pub counted : Option Data → ℕ → Outcome Data
-counted None spent = Faults F05 []
-counted (Some r) spent = charged r (size r) spent
+-- what a choice costs: the greatest of 64, the literal template's size and the replaced one's
+abbrev pub choice_cost : Data → Data → ℕ
+choice_cost template r = greater 64 (greater (size template) (size r))
+
+-- F05 where two keys of an object became one; else the choice is counted
+abbrev pub added : Data → Option Data → ℕ → Outcome Data
+added template None spent = Faults F05 []
+added template (Some r) spent = charged r (choice_cost template r) spent
+
+-- the replaced template, counted; F07 before that where its keys and texts alone pass what is left
+abbrev pub counted : Choice → Data → Option Data → ℕ → Outcome Data
+counted c template r spent =
+    if nat_le (spent + filled_size c template) cost_limit then added template r spent else Faults F07 []
 
 -- the place in a repeat's object of what stands at a path of the replaced template
 abbrev pub in_repeat : Choice → Data → List Step → List Step
@@ -43,7 +56,7 @@ in_repeat c template p = Key (codes "repeat") ∷ Key (codes "template") ∷ lit
 -- what a replaced template comes to; its faults stand where the literal template has the place
 abbrev pub choice_outcome : Evaluating → Data → Choice → Option Data → ℕ → Outcome Data
 choice_outcome again template c r spent =
-    and_then (counted r spent) (λ r sum. seen_from (in_repeat c template) (again r sum))
+    and_then (counted c template r spent) (λ r sum. seen_from (in_repeat c template) (again r sum))
 
 -- choice by choice
 abbrev pub choices_outcome : Evaluating → Data → List Choice → ℕ → Outcome Nodes
@@ -143,150 +156,158 @@ object_condition again scene (Some m) plain spent =
 abbrev pub alone : Data → Nodes
 alone d = node d no_nodes
 
+-- a replaced template takes a level itself
+abbrev pub replaced : Leveled → ℕ → Evaluating
+replaced again levels r spent = one_level levels (λ inside. again inside r spent)
+
 -- ---- values, functions and conditions
 
 abbrev mutual
   -- scalars are themselves, lists and objects go part by part, an object with one key may be a function
-  pub value_outcome : Evaluating → SceneData → Data → ℕ → Outcome Data
-  value_outcome again scene null spent = Gives null spent
-  value_outcome again scene (flag b) spent = Gives (flag b) spent
-  value_outcome again scene (whole z) spent = Gives (whole z) spent
-  value_outcome again scene (words s) spent = Gives (words s) spent
-  value_outcome again scene (items ns) spent = made_into items (values_outcome again scene 0 ns spent)
-  value_outcome again scene (fields ms) spent =
-      object_outcome again scene (sole again scene ms) (made_into fields (members_outcome again scene ms spent)) spent
+  pub value_outcome : Leveled → SceneData → ℕ → Data → ℕ → Outcome Data
+  value_outcome again scene levels null spent = Gives null spent
+  value_outcome again scene levels (flag b) spent = Gives (flag b) spent
+  value_outcome again scene levels (whole z) spent = Gives (whole z) spent
+  value_outcome again scene levels (words s) spent = Gives (words s) spent
+  value_outcome again scene levels (items ns) spent =
+      one_level levels (λ inside. made_into items (values_outcome again scene inside 0 ns spent))
+  value_outcome again scene levels (fields ms) spent =
+      one_level levels (λ inside. object_outcome (replaced again inside) scene (sole again scene inside ms)
+      (made_into fields (members_outcome again scene inside ms spent)) spent)
 
   -- the parts of a list from the place i on
-  pub values_outcome : Evaluating → SceneData → ℕ → Nodes → ℕ → Outcome Nodes
-  values_outcome again scene i no_nodes spent = Gives no_nodes spent
-  values_outcome again scene i (node d ns) spent =
-      and_then (under (Index i) (value_outcome again scene d spent)) (λ v sum.
-      made_into (node v) (values_outcome again scene (i + 1) ns sum))
+  pub values_outcome : Leveled → SceneData → ℕ → ℕ → Nodes → ℕ → Outcome Nodes
+  values_outcome again scene levels i no_nodes spent = Gives no_nodes spent
+  values_outcome again scene levels i (node d ns) spent =
+      and_then (under (Index i) (value_outcome again scene levels d spent)) (λ v sum.
+      made_into (node v) (values_outcome again scene levels (i + 1) ns sum))
 
   -- the parts of an object, which itself is no function
-  pub members_outcome : Evaluating → SceneData → Members → ℕ → Outcome Members
-  members_outcome again scene no_members spent = Gives no_members spent
-  members_outcome again scene (member k d ms) spent =
-      and_then (under (Key k) (value_outcome again scene d spent)) (λ v sum.
-      made_into (member k v) (members_outcome again scene ms sum))
+  pub members_outcome : Leveled → SceneData → ℕ → Members → ℕ → Outcome Members
+  members_outcome again scene levels no_members spent = Gives no_members spent
+  members_outcome again scene levels (member k d ms) spent =
+      and_then (under (Key k) (value_outcome again scene levels d spent)) (λ v sum.
+      made_into (member k v) (members_outcome again scene levels ms sum))
 
   -- the only member of an object that has just one
-  pub sole : Evaluating → SceneData → Members → Option Sole
-  sole again scene no_members = None
-  sole again scene (member k d no_members) = Some (record {
+  pub sole : Leveled → SceneData → ℕ → Members → Option Sole
+  sole again scene levels no_members = None
+  sole again scene levels (member k d no_members) = Some (record {
     key = k;
     given = d;
-    each = parts_outcome again scene d;
-    all_but_template = repeat_outcome again scene d;
-    chosen_branch = if_outcome again scene d;
-    condition = condition_outcome again scene d;
-    conditions = condition_parts_outcome again scene d;
+    each = parts_outcome again scene levels d;
+    all_but_template = repeat_outcome again scene levels d;
+    chosen_branch = if_outcome again scene levels d;
+    condition = condition_outcome again scene levels d;
+    conditions = condition_parts_outcome again scene levels d;
   })
-  sole again scene (member k d (member l e ms)) = None
+  sole again scene levels (member k d (member l e ms)) = None
 
   -- each part as a value
-  pub parts_outcome : Evaluating → SceneData → Data → ℕ → Outcome Data
-  parts_outcome again scene null spent = Gives null spent
-  parts_outcome again scene (flag b) spent = Gives (flag b) spent
-  parts_outcome again scene (whole z) spent = Gives (whole z) spent
-  parts_outcome again scene (words s) spent = Gives (words s) spent
-  parts_outcome again scene (items ns) spent = made_into items (values_outcome again scene 0 ns spent)
-  parts_outcome again scene (fields ms) spent = made_into fields (members_outcome again scene ms spent)
+  pub parts_outcome : Leveled → SceneData → ℕ → Data → ℕ → Outcome Data
+  parts_outcome again scene levels null spent = Gives null spent
+  parts_outcome again scene levels (flag b) spent = Gives (flag b) spent
+  parts_outcome again scene levels (whole z) spent = Gives (whole z) spent
+  parts_outcome again scene levels (words s) spent = Gives (words s) spent
+  parts_outcome again scene levels (items ns) spent = made_into items (values_outcome again scene levels 0 ns spent)
+  parts_outcome again scene levels (fields ms) spent = made_into fields (members_outcome again scene levels ms spent)
 
   -- of a repeat
-  pub repeat_outcome : Evaluating → SceneData → Data → ℕ → Outcome Data
-  repeat_outcome again scene null spent = Gives null spent
-  repeat_outcome again scene (flag b) spent = Gives (flag b) spent
-  repeat_outcome again scene (whole z) spent = Gives (whole z) spent
-  repeat_outcome again scene (words s) spent = Gives (words s) spent
-  repeat_outcome again scene (items ns) spent = Gives (items ns) spent
-  repeat_outcome again scene (fields ms) spent =
-      made_into fields (all_but_outcome again scene (codes "template") ms spent)
+  pub repeat_outcome : Leveled → SceneData → ℕ → Data → ℕ → Outcome Data
+  repeat_outcome again scene levels null spent = Gives null spent
+  repeat_outcome again scene levels (flag b) spent = Gives (flag b) spent
+  repeat_outcome again scene levels (whole z) spent = Gives (whole z) spent
+  repeat_outcome again scene levels (words s) spent = Gives (words s) spent
+  repeat_outcome again scene levels (items ns) spent = Gives (items ns) spent
+  repeat_outcome again scene levels (fields ms) spent =
+      made_into fields (all_but_outcome again scene levels (codes "template") ms spent)
 
   -- the parts of an object but the one under this key
-  pub all_but_outcome : Evaluating → SceneData → List ℕ → Members → ℕ → Outcome Members
-  all_but_outcome again scene but no_members spent = Gives no_members spent
-  all_but_outcome again scene but (member k d ms) spent =
-      and_then (if bytes_eq k but then Gives d spent else under (Key k) (value_outcome again scene d spent)) (λ v sum.
-      made_into (member k v) (all_but_outcome again scene but ms sum))
+  pub all_but_outcome : Leveled → SceneData → ℕ → List ℕ → Members → ℕ → Outcome Members
+  all_but_outcome again scene levels but no_members spent = Gives no_members spent
+  all_but_outcome again scene levels but (member k d ms) spent =
+      and_then (if bytes_eq k but then Gives d spent else under (Key k) (value_outcome again scene levels d spent)) (λ v sum.
+      made_into (member k v) (all_but_outcome again scene levels but ms sum))
 
   -- of an `if`
-  pub if_outcome : Evaluating → SceneData → Data → ℕ → Outcome Data
-  if_outcome again scene null spent = Gives null spent
-  if_outcome again scene (flag b) spent = Gives (flag b) spent
-  if_outcome again scene (whole z) spent = Gives (whole z) spent
-  if_outcome again scene (words s) spent = Gives (words s) spent
-  if_outcome again scene (items ns) spent = made_into items (chosen_outcome again scene ns spent)
-  if_outcome again scene (fields ms) spent = Gives (fields ms) spent
+  pub if_outcome : Leveled → SceneData → ℕ → Data → ℕ → Outcome Data
+  if_outcome again scene levels null spent = Gives null spent
+  if_outcome again scene levels (flag b) spent = Gives (flag b) spent
+  if_outcome again scene levels (whole z) spent = Gives (whole z) spent
+  if_outcome again scene levels (words s) spent = Gives (words s) spent
+  if_outcome again scene levels (items ns) spent = made_into items (chosen_outcome again scene levels ns spent)
+  if_outcome again scene levels (fields ms) spent = Gives (fields ms) spent
 
   -- the condition's value, and behind it that of the branch which it chooses
-  pub chosen_outcome : Evaluating → SceneData → Nodes → ℕ → Outcome Nodes
-  chosen_outcome again scene no_nodes spent = Gives no_nodes spent
-  chosen_outcome again scene (node c ns) spent =
-      and_then (under (Index 0) (condition_outcome again scene c spent)) (λ v sum.
-      made_into (node v) (branch_outcome again scene (flag_in v) ns sum))
+  pub chosen_outcome : Leveled → SceneData → ℕ → Nodes → ℕ → Outcome Nodes
+  chosen_outcome again scene levels no_nodes spent = Gives no_nodes spent
+  chosen_outcome again scene levels (node c ns) spent =
+      and_then (under (Index 0) (condition_outcome again scene levels c spent)) (λ v sum.
+      made_into (node v) (branch_outcome again scene levels (flag_in v) ns sum))
 
   -- the first branch where the condition is true, the second or null where it is false, none where it has no value
-  pub branch_outcome : Evaluating → SceneData → Option Bool → Nodes → ℕ → Outcome Nodes
-  branch_outcome again scene None ns spent = Gives no_nodes spent
-  branch_outcome again scene (Some true) no_nodes spent = Gives no_nodes spent
-  branch_outcome again scene (Some true) (node d ns) spent =
-      made_into alone (under (Index 1) (value_outcome again scene d spent))
-  branch_outcome again scene (Some false) no_nodes spent = Gives (alone null) spent
-  branch_outcome again scene (Some false) (node d no_nodes) spent = Gives (alone null) spent
-  branch_outcome again scene (Some false) (node d (node e ns)) spent =
-      made_into alone (under (Index 2) (value_outcome again scene e spent))
+  pub branch_outcome : Leveled → SceneData → ℕ → Option Bool → Nodes → ℕ → Outcome Nodes
+  branch_outcome again scene levels None ns spent = Gives no_nodes spent
+  branch_outcome again scene levels (Some true) no_nodes spent = Gives no_nodes spent
+  branch_outcome again scene levels (Some true) (node d ns) spent =
+      made_into alone (under (Index 1) (value_outcome again scene levels d spent))
+  branch_outcome again scene levels (Some false) no_nodes spent = Gives (alone null) spent
+  branch_outcome again scene levels (Some false) (node d no_nodes) spent = Gives (alone null) spent
+  branch_outcome again scene levels (Some false) (node d (node e ns)) spent =
+      made_into alone (under (Index 2) (value_outcome again scene levels e spent))
 
   -- a flag is itself, a text the condition of that name, an object with one key the function that the key names
-  pub condition_outcome : Evaluating → SceneData → Data → ℕ → Outcome Data
-  condition_outcome again scene null spent = Gives null spent
-  condition_outcome again scene (flag b) spent = Gives (flag b) spent
-  condition_outcome again scene (whole z) spent = Gives (whole z) spent
-  condition_outcome again scene (words s) spent = Gives (named_condition scene s) spent
-  condition_outcome again scene (items ns) spent = Gives (items ns) spent
-  condition_outcome again scene (fields ms) spent =
-      object_condition again scene (sole again scene ms) (Gives (fields ms) spent) spent
+  pub condition_outcome : Leveled → SceneData → ℕ → Data → ℕ → Outcome Data
+  condition_outcome again scene levels null spent = Gives null spent
+  condition_outcome again scene levels (flag b) spent = Gives (flag b) spent
+  condition_outcome again scene levels (whole z) spent = Gives (whole z) spent
+  condition_outcome again scene levels (words s) spent = Gives (named_condition scene s) spent
+  condition_outcome again scene levels (items ns) spent = Gives (items ns) spent
+  condition_outcome again scene levels (fields ms) spent =
+      one_level levels (λ inside. object_condition (replaced again inside) scene (sole again scene inside ms)
+      (Gives (fields ms) spent) spent)
 
   -- of `and` and `or`
-  pub condition_parts_outcome : Evaluating → SceneData → Data → ℕ → Outcome Data
-  condition_parts_outcome again scene null spent = Gives null spent
-  condition_parts_outcome again scene (flag b) spent = Gives (flag b) spent
-  condition_parts_outcome again scene (whole z) spent = Gives (whole z) spent
-  condition_parts_outcome again scene (words s) spent = Gives (words s) spent
-  condition_parts_outcome again scene (items ns) spent = made_into items (conditions_outcome again scene 0 ns spent)
-  condition_parts_outcome again scene (fields ms) spent = Gives (fields ms) spent
+  pub condition_parts_outcome : Leveled → SceneData → ℕ → Data → ℕ → Outcome Data
+  condition_parts_outcome again scene levels null spent = Gives null spent
+  condition_parts_outcome again scene levels (flag b) spent = Gives (flag b) spent
+  condition_parts_outcome again scene levels (whole z) spent = Gives (whole z) spent
+  condition_parts_outcome again scene levels (words s) spent = Gives (words s) spent
+  condition_parts_outcome again scene levels (items ns) spent = made_into items (conditions_outcome again scene levels 0 ns spent)
+  condition_parts_outcome again scene levels (fields ms) spent = Gives (fields ms) spent
 
   -- each part, from the place i on; what is true or false already ends nothing
-  pub conditions_outcome : Evaluating → SceneData → ℕ → Nodes → ℕ → Outcome Nodes
-  conditions_outcome again scene i no_nodes spent = Gives no_nodes spent
-  conditions_outcome again scene i (node d ns) spent =
-      and_then (under (Index i) (condition_outcome again scene d spent)) (λ v sum.
-      made_into (node v) (conditions_outcome again scene (i + 1) ns sum))
+  pub conditions_outcome : Leveled → SceneData → ℕ → ℕ → Nodes → ℕ → Outcome Nodes
+  conditions_outcome again scene levels i no_nodes spent = Gives no_nodes spent
+  conditions_outcome again scene levels i (node d ns) spent =
+      and_then (under (Index i) (condition_outcome again scene levels d spent)) (λ v sum.
+      made_into (node v) (conditions_outcome again scene levels (i + 1) ns sum))
 
 -- a part of an object, as written where its key is this one
-abbrev pub outcome_unless : Evaluating → SceneData → List ℕ → List ℕ → Data → ℕ → Outcome Data
-outcome_unless again scene but k d spent =
-    if bytes_eq k but then Gives d spent else under (Key k) (value_outcome again scene d spent)
+abbrev pub outcome_unless : Leveled → SceneData → ℕ → List ℕ → List ℕ → Data → ℕ → Outcome Data
+outcome_unless again scene levels but k d spent =
+    if bytes_eq k but then Gives d spent else under (Key k) (value_outcome again scene levels d spent)
 
 -- a member that stands alone
-abbrev pub sole_of : Evaluating → SceneData → List ℕ → Data → Sole
-sole_of again scene k d = record {
+abbrev pub sole_of : Leveled → SceneData → ℕ → List ℕ → Data → Sole
+sole_of again scene levels k d = record {
   key = k;
   given = d;
-  each = parts_outcome again scene d;
-  all_but_template = repeat_outcome again scene d;
-  chosen_branch = if_outcome again scene d;
-  condition = condition_outcome again scene d;
-  conditions = condition_parts_outcome again scene d;
+  each = parts_outcome again scene levels d;
+  all_but_template = repeat_outcome again scene levels d;
+  chosen_branch = if_outcome again scene levels d;
+  condition = condition_outcome again scene levels d;
+  conditions = condition_parts_outcome again scene levels d;
 }
 
 -- ---- the whole
 
 -- evaluation where at most so many repeats stand in one another
-abbrev pub evaluation_within : ℕ → SceneData → Data → ℕ → Outcome Data
-evaluation_within zero scene d spent = Faults F07 []
-evaluation_within (suc depth) scene d spent = value_outcome (evaluation_within depth scene) scene d spent
+abbrev pub evaluation_within : ℕ → SceneData → Leveled
+evaluation_within zero scene levels d spent = Faults F07 []
+evaluation_within (suc repeats) scene levels d spent =
+    value_outcome (evaluation_within repeats scene) scene levels d spent
 
--- evaluation: each repeat costs more than nothing, so that the limit of costs comes before any number of them ends it
-unfoldable pub evaluation : SceneData → Evaluating
-evaluation scene = evaluation_within cost_limit scene
+-- evaluation: each replaced template takes a level, so that levels come to an end before any number of repeats ends it
+unfoldable pub evaluation : SceneData → Leveled
+evaluation scene = evaluation_within max_levels scene

@@ -1,5 +1,5 @@
 -- The literal template of a repeat with a choice's items in place of the keys, and where its parts stood.
-use Rattle.std.specs.Prelude.{ℕ, List, [], ◌∷◌, Option, Some, None, map, bytes_eq}
+use Rattle.std.specs.Prelude.{ℕ, ◌+◌, List, [], ◌∷◌, Option, Some, None, map, bytes_eq}
 use Rattle.std.specs.Prelude.{option_map, option_and_then, unwrap_or, if◌then◌else◌}
 use Rattle.heat_value.specs.Coercion.{coerced}
 use Rattle.heat_value.specs.Data.{Data, null, flag, whole, words, items, fields, Nodes, no_nodes, node}
@@ -11,6 +11,7 @@ use Rattle.hot_strings.specs.Pieces.{Params}
 use Rattle.eval_words.specs.Choices.{Choice}
 use Rattle.eval_words.specs.Lookups.{node_at}
 use Rattle.eval_words.specs.Maps.{map_of}
+use Rattle.eval_words.specs.Outcomes.{size}
 
 -- ---- keys replaced
 
@@ -49,6 +50,24 @@ abbrev mutual
   members_filled c no_members = Some no_members
   members_filled c (member k d ms) =
       option_and_then (λ e. option_map (member (text_filled c k) e) (members_filled c ms)) (filled c d)
+
+-- the bytes of the filled keys and texts, each as compact JSON at its place
+abbrev mutual
+  pub filled_size : Choice → Data → ℕ
+  filled_size c null = 0
+  filled_size c (flag b) = 0
+  filled_size c (whole z) = 0
+  filled_size c (words s) = size (words_filled c s)
+  filled_size c (items ns) = nodes_size c ns
+  filled_size c (fields ms) = members_size c ms
+
+  pub nodes_size : Choice → Nodes → ℕ
+  nodes_size c no_nodes = 0
+  nodes_size c (node d ns) = filled_size c d + nodes_size c ns
+
+  pub members_size : Choice → Members → ℕ
+  members_size c no_members = 0
+  members_size c (member k d ms) = size (words (text_filled c k)) + filled_size c d + members_size c ms
 
 -- ---- places
 

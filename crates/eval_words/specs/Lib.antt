@@ -19,4 +19,6 @@ pub mod Evaluation
 pub mod Resolutions
 pub mod Conditions
 pub mod Needs
+pub mod Looks
+pub mod Reads
 pub mod Resolve

@@ -1,5 +1,5 @@
 -- What an evaluation comes to, and the running sum of its costs.
-use Rattle.std.specs.Prelude.{ℕ, ◌+◌, nat_le, List, [], ◌∷◌, Result, Ok, Err, ◌&&◌, Bool, length, if◌then◌else◌}
+use Rattle.std.specs.Prelude.{ℕ, zero, suc, ◌+◌, nat_le, List, [], ◌∷◌, Result, Ok, Err, ◌&&◌, Bool, length, if◌then◌else◌}
 use Rattle.heat_value.specs.Compact.{compact}
 use Rattle.heat_value.specs.Data.{Data, depth}
 use Rattle.heat_value.specs.declared.path.Step.{Step}
@@ -30,6 +30,17 @@ seen_from out (Faults c p) = Faults c (out p)
 abbrev pub under : {A : Type 0} → Step → Outcome A → Outcome A
 under s o = seen_from (λ p. s ∷ p) o
 
+-- ---- levels
+
+-- how many lists, objects and replaced templates may be evaluated in one another
+abbrev pub max_levels : ℕ
+max_levels = 512
+
+-- what is evaluated one level further, where so many are left; F07 where none is
+abbrev pub one_level : {A : Type 0} → ℕ → (ℕ → Outcome A) → Outcome A
+one_level zero next = Faults F07 []
+one_level (suc levels) next = next levels
+
 -- ---- costs
 
 -- what one evaluation may cost
@@ -39,6 +50,10 @@ cost_limit = 16777216
 -- a value's size: the bytes of its compact JSON
 abbrev pub size : Data → ℕ
 size d = length (compact d)
+
+-- the greater of two costs
+abbrev pub greater : ℕ → ℕ → ℕ
+greater a b = if nat_le a b then b else a
 
 -- F07 where the sum passes the limit by this cost
 abbrev pub charged : {A : Type 0} → A → ℕ → ℕ → Outcome A

@@ -7,13 +7,13 @@ use Rattle.heat_plan.specs.Plans.{PlanData}
 use Rattle.heat_plan.specs.declared.facts.KnownFacts.{KnownFacts}
 use Rattle.heat_plan.specs.declared.item.Item.{Item}
 use Rattle.eval_words.specs.Evaluation.{evaluation, value_outcome, members_outcome}
-use Rattle.eval_words.specs.Outcomes.{Outcome, Gives, Faults, seen_from, is_result}
+use Rattle.eval_words.specs.Outcomes.{Outcome, Gives, Faults, max_levels, seen_from, is_result}
 use Rattle.eval_words.specs.Scenes.{SceneData, scene_of}
 use Rattle.eval_words.specs.declared.code.FaultCode.TheVariants.{F06}
 
 -- a value, from no cost on
 unfoldable pub eval : SceneData → Data → Outcome Data
-eval scene d = value_outcome (evaluation scene) scene d 0
+eval scene d = value_outcome (evaluation scene) scene max_levels d 0
 
 -- where an item's properties stand in its template
 abbrev pub properties_path : List ℕ → List Step
@@ -21,7 +21,7 @@ properties_path name = Key (codes "resources") ∷ Key name ∷ Key (codes "prop
 
 -- each property in byte order, from no cost on
 abbrev pub properties : SceneData → Members → Outcome Members
-properties scene ms = members_outcome (evaluation scene) scene ms 0
+properties scene ms = members_outcome (evaluation scene) scene max_levels ms 0
 
 -- F06 where the whole map is too large
 abbrev pub unless_large : Outcome Members → Outcome Members

@@ -49,6 +49,7 @@ module _ (c : Token → List TokenState) (gone : List Token) (stack : List ℕ) 
   by_listed (what.Note line code path) = All-none IsListed
   by_listed (what.Ran idle turns) = All-none IsListed
   by_listed (what.Turned engine lost) = All-none IsListed
+  by_listed (what.Preview stack forecast) = All-none IsListed
   by_listed what.Closed = All-none IsListed
 
   pub all_listed : (es : List Entry) → All IsListed (called c gone stack es)
@@ -83,6 +84,7 @@ module _ (c : Token → List TokenState) (gone : List Token) (stack : List ℕ) 
     by_called (what.Note line code path) = inr (λ states. refl)
     by_called (what.Ran idle turns) = inr (λ states. refl)
     by_called (what.Turned engine lost) = inr (λ states. refl)
+    by_called (what.Preview stack forecast) = inr (λ states. refl)
     by_called what.Closed = inr (λ states. refl)
 
     pub called_or_not : (es : List Entry) → Any (λ (p : Possible). p.token ≡ t) (called c gone stack es) ⊎ ((states : List TokenState) → could_on t states es ≡ states)

@@ -40,6 +40,7 @@ called_by c gone stack (what.Show it name) = []
 called_by c gone stack (what.Note line code path) = []
 called_by c gone stack (what.Ran idle turns) = []
 called_by c gone stack (what.Turned engine lost) = []
+called_by c gone stack (what.Preview previewed forecast) = []
 called_by c gone stack what.Closed = []
 
 -- the tokens of all calls on the stack, in order

@@ -18,7 +18,8 @@ use Rattle.step_relation.specs.Runs.{Run, nothing}
 use Rattle.step_relation.specs.Turns.{plain, unfailed}
 use Rattle.step_relation.specs.Could.{IsPossible}
 use Rattle.step_relation.specs.Marked.{Marked}
-use Rattle.step_relation.specs.Headline.{AtPrefix, Headline, MayBeReleased}
+use Rattle.step_relation.specs.Headline.{AtPrefix, Headline}
+use Rattle.step_relation.specs.Policies.{MayBeReleased}
 use Rattle.history_laws.proofs.tables.Puts.{contains_none, contains_there}
 use Rattle.history_laws.proofs.tells.Silence.{could-silent, marked-silent, newest-silent}
 use Rattle.history_laws.proofs.headline.Said.{SameOf, fits_on}

@@ -19,7 +19,8 @@ use Rattle.step_relation.specs.Could.{could_of}
 use Rattle.step_relation.specs.Fits.{Fits, HasExactly}
 use Rattle.step_relation.specs.Marked.{Completed, mark_of}
 use Rattle.step_relation.specs.Tokens.{HasRow, token_at}
-use Rattle.step_relation.specs.Headline.{AtPrefix, MayBeAsked, MayBeReleased, poll}
+use Rattle.step_relation.specs.Headline.{AtPrefix, MayBeAsked, poll}
+use Rattle.step_relation.specs.Policies.{MayBeReleased}
 use Rattle.history_laws.proofs.tables.Puts.{contains_head, contains_none}
 use Rattle.history_laws.proofs.tables.Rows.{same_some}
 use Rattle.next_laws.proofs.Listings.{in_head, in_tail}

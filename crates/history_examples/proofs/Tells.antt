@@ -25,8 +25,11 @@ purge_agrees o h s e k x act possible =
 pub given_up_is_retained : GivenUpIsRetained
 given_up_is_retained o h s e k r x possible at loose act unstuck policy = record {
   row = r;
-  found = subst (λ (rows : List Row). row_at rows r.no ≡ Some r) (sym x.tells.rows) (row_self s.rows k.job.row r at);
+  found = subst (λ (rows : List Row). row_at rows r.no ≡ Some r) (sym x.tells.rows) self;
   its = refl;
   retained = policy;
+  planned = x.policies.each r.no r self (λ gone. x.released.kept r.no r self gone policy);
   once = not_given o h s x possible k.job.row r at;
-}
+} where
+  self : row_at s.rows r.no ≡ Some r
+  self = row_self s.rows k.job.row r at

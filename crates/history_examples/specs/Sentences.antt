@@ -25,7 +25,8 @@ use Rattle.step_relation.specs.Opening.{Opening}
 use Rattle.step_relation.specs.Stored.{stored}
 use Rattle.step_relation.specs.Tokens.{IsNamed}
 use Rattle.step_relation.specs.Agrees.{StateFits}
-use Rattle.step_relation.specs.Headline.{AtPrefix, EndsFailed, FitsIn, IsOfNewest, MayBeAsked, MayBeReleased}
+use Rattle.step_relation.specs.Headline.{AtPrefix, EndsFailed, FitsIn, IsOfNewest, MayBeAsked}
+use Rattle.step_relation.specs.Policies.{MayBeReleased}
 use Rattle.core_state.specs.declared.entry.What.TheVariants as what
 
 pub data Sentence : Type 0 where

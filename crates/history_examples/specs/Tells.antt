@@ -21,7 +21,7 @@ use Rattle.step_relation.specs.Writes.{call_entry}
 use Rattle.step_relation.specs.Could.{IsPossible}
 use Rattle.step_relation.specs.Opening.{Opening}
 use Rattle.step_relation.specs.Agrees.{Agrees}
-use Rattle.step_relation.specs.Headline.{MayBeReleased}
+use Rattle.step_relation.specs.Policies.{MayBeReleased}
 use Rattle.step_relation.specs.Sound.{Sound}
 use Rattle.heat_plan.specs.declared.calls.Answered.TheVariants as answer
 use Rattle.heat_plan.specs.declared.calls.Request.TheVariants as request

@@ -7,3 +7,4 @@ pub mod Pieces
 pub mod OnOne
 pub mod Commands
 pub mod Engines
+pub mod Stands

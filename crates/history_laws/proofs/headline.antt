@@ -21,3 +21,4 @@ pub mod Rolled
 pub mod Rolling
 pub mod Stirring
 pub mod MainTheorem
+pub mod Restarts

@@ -8,3 +8,4 @@ pub mod Facts
 pub mod Puts
 pub mod Ordered
 pub mod Fresh
+pub mod Once

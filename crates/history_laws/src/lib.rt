@@ -9,5 +9,6 @@ pub mod frames;
 pub mod headline;
 pub mod leaves;
 pub mod links;
+pub mod policies;
 pub mod rows;
 pub mod tables;

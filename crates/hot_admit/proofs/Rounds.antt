@@ -15,7 +15,7 @@ use Rattle.eval_words.specs.Conditions.{in_conditions}
 use Rattle.eval_words.specs.SoFar.{with_value}
 use Rattle.eval_words.specs.Evaluation.{evaluation, evaluation_within, condition_outcome}
 use Rattle.eval_words.specs.Lookups.{named_condition}
-use Rattle.eval_words.specs.Outcomes.{Outcome, Gives, Faults, cost_limit}
+use Rattle.eval_words.specs.Outcomes.{Outcome, Gives, Faults, max_levels}
 use Rattle.hot_admit.specs.Valuing.{IsWithin}
 use Rattle.hot_admit.proofs.Chosen.{Behind}
 use Rattle.hot_admit.proofs.Outcomes.{StaysIf}
@@ -37,16 +37,18 @@ names_stay params a b within s = by (condition_value a s) refl
     by (Some v) is has = ap (λ o. unwrap_or (option_map flag o) (words s)) (within.kept s v is)
 
 stays_at : (k : ℕ) (params : Members) (a b : List Condition) → IsWithin a b → (d : Data) (v : Bool)
-    → flag_made (condition_outcome (evaluation_within k (in_conditions params a)) (in_conditions params a) d 0) ≡ Some v
-    → flag_made (condition_outcome (evaluation_within k (in_conditions params b)) (in_conditions params b) d 0) ≡ Some v
+    → flag_made (condition_outcome (evaluation_within k (in_conditions params a)) (in_conditions params a) max_levels d 0)
+    ≡ Some v
+    → flag_made (condition_outcome (evaluation_within k (in_conditions params b)) (in_conditions params b) max_levels d 0)
+    ≡ Some v
 stays_at k params a b within d v =
-    made_stays _ _ v (whole_stays params a b (names_stay params a b within) k d 0)
+    made_stays _ _ v (whole_stays params a b (names_stay params a b within) k max_levels d 0)
 
 -- where more conditions have values an expression gives the same flag
 pub flag_stays : (params : Members) (a b : List Condition) → IsWithin a b → (d : Data) (v : Bool)
     → flag_of params a d ≡ Some v → flag_of params b d ≡ Some v
 unfolding evaluation
-flag_stays = stays_at cost_limit
+flag_stays = stays_at max_levels
 
 -- ---- what one round gives, by name
 

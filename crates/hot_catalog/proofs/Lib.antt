@@ -1,1 +1,3 @@
 pub mod Placed
+pub mod Counted
+pub mod NamesPut

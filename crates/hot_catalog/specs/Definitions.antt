@@ -70,3 +70,8 @@ properties_in d = properties_among (members_there (lookup (codes "properties") (
 -- the kind of this name that a definition says
 abbrev pub definition_of : List ℕ → Data → KindDef
 definition_of name d = record { name = name; props = properties_in d; attrs = attributes_in d }
+
+-- the kinds that members define, in their order
+abbrev pub definitions_of : Members → List KindDef
+definitions_of no_members = []
+definitions_of (member k d ms) = definition_of k d ∷ definitions_of ms

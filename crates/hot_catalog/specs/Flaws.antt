@@ -1,15 +1,15 @@
 -- L09: what is wrong with a catalogue, and where.
-use Rattle.std.specs.Prelude.{ℕ, List, [], ◌∷◌, ◌+◌, Bool, ◌==◌, ◌&&◌, ◌||◌, not, nat_le, length, is_some}
+use Rattle.std.specs.Prelude.{ℕ, List, [], ◌∷◌, Bool, ◌==◌, ◌&&◌, ◌||◌, not, nat_le, length, is_some}
 use Rattle.std.specs.Prelude.{Option, Some, None}
 use Rattle.std.specs.Prelude.{codes}
 use Rattle.std.specs.List.{list_all}
 use Rattle.std.specs.Option.{option_or}
 use Rattle.std.specs.Char.{is_ascii_alphanumeric}
-use Rattle.heat_value.specs.Data.{Data, null, flag, whole, words, items, fields, Nodes, no_nodes, node, Members}
+use Rattle.heat_value.specs.Data.{Data, null, flag, whole, words, items, fields, Members}
 use Rattle.heat_value.specs.Data.{no_members, member, lookup}
 use Rattle.heat_value.specs.declared.path.Step.{Step}
-use Rattle.heat_value.specs.declared.path.Step.TheVariants.{Key, Index}
-use Rattle.hot_forms.specs.Shapes.{is_text, is_flag}
+use Rattle.heat_value.specs.declared.path.Step.TheVariants.{Key}
+use Rattle.hot_forms.specs.Shapes.{are_texts, is_flag}
 use Rattle.hot_catalog.specs.Definitions.{attributes_in}
 use Rattle.hot_catalog.specs.Paths.{here_unless, behind, first_path}
 use Rattle.type_catalog.specs.Registries.{kind_named}
@@ -27,18 +27,13 @@ is_kind_name s = nat_le 1 (length s) && nat_le (length s) 255 && list_all is_kin
 
 -- ---- attributes
 
--- the first value from the place i on that isn't a text
-abbrev pub with_no_text : ℕ → Nodes → Option (List Step)
-with_no_text i no_nodes = None
-with_no_text i (node d ns) = option_or (behind (Index i) (here_unless (is_text d))) (with_no_text (i + 1) ns)
-
 -- neither a list of texts nor an object
 abbrev pub attributes_shape : Data → Option (List Step)
 attributes_shape null = Some []
 attributes_shape (flag b) = Some []
 attributes_shape (whole z) = Some []
 attributes_shape (words s) = Some []
-attributes_shape (items ns) = with_no_text 0 ns
+attributes_shape (items ns) = here_unless (are_texts ns)
 attributes_shape (fields ms) = None
 
 -- ---- properties

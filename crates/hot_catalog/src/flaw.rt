@@ -9,15 +9,12 @@ ghost use Rattle.hot_catalog.specs.Flaws.{kind_flaw as the_kind_flaw, kinds_flaw
 ghost use Rattle.hot_catalog.specs.Flaws.{catalogue_flaw as the_catalogue_flaw};
 ghost use Rattle.type_catalog.specs.Registries.{kind_named};
 
-use crate::attributes::attributes_in;
+use crate::attributes::are_few_attributes;
 use crate::check::{behind_key, behind_name, here_unless};
 use crate::shape::definition_shape;
 use heat_value::{Path, Props, Text, Value};
 use std::alloc::{AllocError, Global};
 use type_catalog::{KindDef, named};
-
-// How many attributes a kind has at most.
-const MOST_ATTRIBUTES: usize = 64;
 
 /// Where a value is no catalogue beside these kinds of the registry.
 pub fn catalogue_flaw(
@@ -79,12 +76,8 @@ fn kind_flaw(
 fn with_many_attributes(alloc: Global, definition: &Value) -> Result<Option<Path>, AllocError>
     ensures { IfOk result (λ o. o ≡ the_with_many_attributes (data_of definition.now)) }
 {
-    let count = attributes_in(alloc, definition)?.len();
-    behind_name(
-        alloc,
-        "attributes",
-        here_unless(alloc, count <= MOST_ATTRIBUTES),
-    )
+    let are_few = are_few_attributes(alloc, definition)?;
+    behind_name(alloc, "attributes", here_unless(alloc, are_few))
 }
 
 // Whether the program has registered a kind of this name.

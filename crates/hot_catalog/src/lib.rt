@@ -6,9 +6,11 @@
 mod attributes;
 mod catalog;
 mod check;
+mod count;
 mod definition;
 mod fault;
 mod flaw;
+mod kinds;
 mod properties;
 mod shape;
 

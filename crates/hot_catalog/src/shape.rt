@@ -2,15 +2,15 @@
 ghost use Rattle.std.specs.Prelude.{◌≡◌, IfOk, option_map, codes};
 ghost use Rattle.heat_value.specs.Data.{fields};
 ghost use Rattle.heat_value.specs.Meaning.{data_of};
-ghost use Rattle.hot_catalog.specs.Flaws.{attributes_shape as the_attributes_shape, with_no_text as the_with_no_text};
+ghost use Rattle.hot_catalog.specs.Flaws.{attributes_shape as the_attributes_shape};
 ghost use Rattle.hot_catalog.specs.Flaws.{unflagged as the_unflagged, flag_shape as the_flag_shape};
 ghost use Rattle.hot_catalog.specs.Flaws.{property_shape as the_property_shape};
 ghost use Rattle.hot_catalog.specs.Flaws.{with_no_property as the_with_no_property};
 ghost use Rattle.hot_catalog.specs.Flaws.{properties_shape as the_properties_shape};
 ghost use Rattle.hot_catalog.specs.Flaws.{definition_shape as the_definition_shape, part_shape};
-ghost use Rattle.hot_forms.specs.Shapes.{is_flag as the_is_flag};
+ghost use Rattle.hot_forms.specs.Shapes.{is_flag as the_is_flag, are_texts as the_are_texts};
 
-use crate::check::{behind_key, behind_name, behind_place, here_unless};
+use crate::check::{behind_key, behind_name, here_unless};
 use heat_value::{Items, Path, Props, Value};
 use hot_forms::{found, is_text};
 use std::alloc::{AllocError, Global};
@@ -42,7 +42,7 @@ fn attributes_part(alloc: Global, parts: &Props) -> Result<Option<Path>, AllocEr
     ensures { IfOk result (λ o. o ≡ part_shape (codes "attributes") the_attributes_shape parts.now) }
 {
     match found(alloc, parts, "attributes")? {
-        Some(value) => behind_name(alloc, "attributes", attributes_shape(alloc, value)?),
+        Some(value) => behind_name(alloc, "attributes", attributes_shape(alloc, value)),
         None => Ok(None),
     }
 }
@@ -58,29 +58,26 @@ fn properties_part(alloc: Global, parts: &Props) -> Result<Option<Path>, AllocEr
 }
 
 // Neither a list of texts nor an object.
-fn attributes_shape(alloc: Global, value: &Value) -> Result<Option<Path>, AllocError>
-    ensures { IfOk result (λ o. o ≡ the_attributes_shape (data_of value.now)) }
+fn attributes_shape(alloc: Global, value: &Value) -> Option<Path>
+    ensures { result ≡ the_attributes_shape (data_of value.now) }
 {
     match value {
-        Value::Items(items) => with_no_text(alloc, items),
-        Value::Fields(_) => Ok(None),
-        Value::Null | Value::Flag(_) | Value::Whole(_) | Value::Words(_) => {
-            Ok(Some(Path::root(alloc)))
-        }
+        Value::Items(items) => here_unless(alloc, are_texts(items)),
+        Value::Fields(_) => None,
+        Value::Null | Value::Flag(_) | Value::Whole(_) | Value::Words(_) => Some(Path::root(alloc)),
     }
 }
 
-// The first value that isn't a text.
-fn with_no_text(alloc: Global, items: &Items) -> Result<Option<Path>, AllocError>
-    ensures { IfOk result (λ o. o ≡ the_with_no_text 0 items.now) }
+// Whether each item is a text.
+fn are_texts(items: &Items) -> bool
+    ensures { result ≡ the_are_texts items.now }
 {
-    for (i, value) in items.as_slice().iter().enumerate() {
-        let found = behind_place(i, here_unless(alloc, is_text(value)))?;
-        if found.is_some() {
-            return Ok(found);
+    for value in items.as_slice() {
+        if !is_text(value) {
+            return false;
         }
     }
-    Ok(None)
+    true
 }
 
 // The place of what is wrong with them: no object, or one of them.

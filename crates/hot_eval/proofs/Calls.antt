@@ -1,5 +1,5 @@
 -- What objects, calls and repeats come to, from what their parts come to.
-use Rattle.std.proofs.Common.{◌≡◌, ◌∙◌, ◌+◌, ℕ, List, [], Bool, true, false, Option, Some, None}
+use Rattle.std.proofs.Common.{◌≡◌, ◌∙◌, ◌+◌, ℕ, suc, List, [], Bool, true, false, Option, Some, None}
 use Rattle.std.proofs.Common.{Result, Ok, Err, nat_le, refl, sym, ap, subst, option_map, if◌then◌else◌}
 use Rattle.std.specs.Prelude.{⊤}
 use Rattle.heat_value.specs.Data.{Data, items, fields, Nodes, Members, no_members, member}
@@ -8,8 +8,8 @@ use Rattle.heat_value.specs.declared.path.Step.TheVariants.{Key}
 use Rattle.heat_value.specs.declared.value.Value.{Value}
 use Rattle.hot_eval.specs.Answers.{IsFaultIn, IsOutcome, IsAnswer, IsOwnAnswer}
 use Rattle.eval_words.specs.Choices.{Choice, Repetition, choices, repetition}
-use Rattle.eval_words.specs.Evaluation.{Evaluating, Sole, sole_of, argument, call, called, answered_by, repeated}
-use Rattle.eval_words.specs.Evaluation.{answer_of, choice_outcome, choices_outcome, counted, in_repeat}
+use Rattle.eval_words.specs.Evaluation.{Evaluating, Leveled, Sole, sole_of, argument, call, called, answered_by, repeated}
+use Rattle.eval_words.specs.Evaluation.{answer_of, choice_outcome, choices_outcome, counted, in_repeat, replaced}
 use Rattle.eval_words.specs.Evaluation.{value_outcome, members_outcome, condition_outcome}
 use Rattle.eval_words.specs.Faults.{of_function}
 use Rattle.eval_words.specs.Manners.{manner_of}
@@ -34,10 +34,10 @@ pub outcome_is : {V A : Type 0} (content : V → A) (r : Result V EvalFault) (n 
     → IsOutcome content r n p → IsOutcome content r n o
 outcome_is content r n o p same is = subst (IsOutcome content r n) (sym same) is
 
-pub there : {D B : Type 0} (f : Evaluating → SceneData → D → B) (A X : Evaluating) (S T : SceneData) (d e : D)
+pub there : {D B : Type 0} (f : Leveled → SceneData → D → B) (A X : Leveled) (S T : SceneData) (d e : D)
     → X ≡ A → T ≡ S → e ≡ d → f A S d ≡ f X T e
 there f A X S T d e a s h =
-    sym (ap (λ (x : Evaluating). f x T e) a ∙ ap (λ (x : SceneData). f A x e) s ∙ ap (f A S) h)
+    sym (ap (λ (x : Leveled). f x T e) a ∙ ap (λ (x : SceneData). f A x e) s ∙ ap (f A S) h)
 
 -- ---- charges
 
@@ -66,53 +66,62 @@ charged_fault {A} (fault.Wrong c p) a cost n is = by (nat_le (n + cost) cost_lim
 -- ---- objects
 
 -- what the object is, by the function that it calls
-module _ (A : Evaluating) (S : SceneData) (n : ℕ) where
+module _ (A : Leveled) (S : SceneData) (all l : ℕ) (n : ℕ) (deep : all ≡ suc l) where
   abbrev value_by : Members → Option (List ℕ × Data × Function) → Outcome Data
-  value_by ms None = made_into fields (members_outcome A S ms n)
-  value_by ms (Some c) = call A S c.2 (is_formed c.0 c.1) (sole_of A S c.0 c.1) n
+  value_by ms None = made_into fields (members_outcome A S l ms n)
+  value_by ms (Some c) = call (replaced A l) S c.2 (is_formed c.0 c.1) (sole_of A S l c.0 c.1) n
 
   abbrev condition_by : Members → Option (List ℕ × Data × Function) → Outcome Data
   condition_by ms None = Gives (fields ms) n
-  condition_by ms (Some c) = call A S c.2 (is_condition_formed c.0 c.1) (sole_of A S c.0 c.1) n
+  condition_by ms (Some c) = call (replaced A l) S c.2 (is_condition_formed c.0 c.1) (sole_of A S l c.0 c.1) n
 
   by_name : (k : List ℕ) (d : Data) (o : Option Function)
-      → called A S o (is_formed k d) (sole_of A S k d) (made_into fields (members_outcome A S (member k d no_members) n)) n
+      → called (replaced A l) S o (is_formed k d) (sole_of A S l k d)
+      (made_into fields (members_outcome A S l (member k d no_members) n)) n
       ≡ value_by (member k d no_members) (option_map (λ f. (k, d, f)) o)
   by_name k d None = refl
   by_name k d (Some f) = refl
 
   by_condition : (k : List ℕ) (d : Data) (o : Option Function)
-      → called A S o (is_condition_formed k d) (sole_of A S k d) (Gives (fields (member k d no_members)) n) n
+      → called (replaced A l) S o (is_condition_formed k d) (sole_of A S l k d)
+      (Gives (fields (member k d no_members)) n) n
       ≡ condition_by (member k d no_members) (option_map (λ f. (k, d, f)) o)
   by_condition k d None = refl
   by_condition k d (Some f) = refl
 
-  object_by : (ms : Members) → value_outcome A S (fields ms) n ≡ value_by ms (named_in function_of ms)
+  object_by : (ms : Members) → value_outcome A S (suc l) (fields ms) n ≡ value_by ms (named_in function_of ms)
   object_by no_members = refl
   object_by (member k d no_members) = by_name k d (function_of k)
   object_by (member k d (member l e ms)) = refl
 
   as_condition : (ms : Members)
-      → condition_outcome A S (fields ms) n ≡ condition_by ms (named_in condition_function_of ms)
+      → condition_outcome A S (suc l) (fields ms) n ≡ condition_by ms (named_in condition_function_of ms)
   as_condition no_members = refl
   as_condition (member k d no_members) = by_condition k d (condition_function_of k)
   as_condition (member k d (member l e ms)) = refl
 
+  at_value : (ms : Members) → value_outcome A S all (fields ms) n ≡ value_outcome A S (suc l) (fields ms) n
+  at_value ms = ap (λ x. value_outcome A S x (fields ms) n) deep
+
+  at_condition : (ms : Members) → condition_outcome A S all (fields ms) n ≡ condition_outcome A S (suc l) (fields ms) n
+  at_condition ms = ap (λ x. condition_outcome A S x (fields ms) n) deep
+
   pub object_calls : (ms : Members) (c : List ℕ × Data × Function) → Some c ≡ named_in function_of ms
-      → value_outcome A S (fields ms) n ≡ call A S c.2 (is_formed c.0 c.1) (sole_of A S c.0 c.1) n
-  object_calls ms c is = object_by ms ∙ ap (value_by ms) (sym is)
+      → value_outcome A S all (fields ms) n ≡ call (replaced A l) S c.2 (is_formed c.0 c.1) (sole_of A S l c.0 c.1) n
+  object_calls ms c is = at_value ms ∙ object_by ms ∙ ap (value_by ms) (sym is)
 
   pub object_plain : (ms : Members) → None ≡ named_in function_of ms
-      → value_outcome A S (fields ms) n ≡ made_into fields (members_outcome A S ms n)
-  object_plain ms is = object_by ms ∙ ap (value_by ms) (sym is)
+      → value_outcome A S all (fields ms) n ≡ made_into fields (members_outcome A S l ms n)
+  object_plain ms is = at_value ms ∙ object_by ms ∙ ap (value_by ms) (sym is)
 
   pub condition_calls : (ms : Members) (c : List ℕ × Data × Function) → Some c ≡ named_in condition_function_of ms
-      → condition_outcome A S (fields ms) n ≡ call A S c.2 (is_condition_formed c.0 c.1) (sole_of A S c.0 c.1) n
-  condition_calls ms c is = as_condition ms ∙ ap (condition_by ms) (sym is)
+      → condition_outcome A S all (fields ms) n
+      ≡ call (replaced A l) S c.2 (is_condition_formed c.0 c.1) (sole_of A S l c.0 c.1) n
+  condition_calls ms c is = at_condition ms ∙ as_condition ms ∙ ap (condition_by ms) (sym is)
 
   pub condition_plain : (ms : Members) → None ≡ named_in condition_function_of ms
-      → condition_outcome A S (fields ms) n ≡ Gives (fields ms) n
-  condition_plain ms is = as_condition ms ∙ ap (condition_by ms) (sym is)
+      → condition_outcome A S all (fields ms) n ≡ Gives (fields ms) n
+  condition_plain ms is = at_condition ms ∙ as_condition ms ∙ ap (condition_by ms) (sym is)
 
 -- ---- calls
 
@@ -193,9 +202,9 @@ repeated_wrong A (Err c) n Memory is = tt
 -- ---- one choice
 
 module _ (A : Evaluating) (t : Data) (c : Choice) (o : Option Data) (n : ℕ) where
-  pub choice_fault : (e : EvalFault) → IsFaultIn e (counted o n) → IsFaultIn e (choice_outcome A t c o n)
+  pub choice_fault : (e : EvalFault) → IsFaultIn e (counted c t o n) → IsFaultIn e (choice_outcome A t c o n)
   choice_fault e h = fault_next e _ _ h
 
-  pub choice_gives : (r : Data) (s : ℕ) → counted o n ≡ Gives r s
+  pub choice_gives : (r : Data) (s : ℕ) → counted c t o n ≡ Gives r s
       → choice_outcome A t c o n ≡ seen_from (in_repeat c t) (A r s)
   choice_gives r s is = ap (λ (x : Outcome Data). and_then x (λ r s. seen_from (in_repeat c t) (A r s))) is

@@ -8,10 +8,9 @@ pub mod Replacements
 pub mod Turns
 pub mod Picks
 pub mod Listings
-pub mod Rooms
 pub mod Fills
 pub mod Scalars
-pub mod Takes
+pub mod Literal
 pub mod Weights
 pub mod Kept
 pub mod Steps

@@ -4,8 +4,8 @@ use Rattle.std.proofs.Common.{◌≤◌, ◌-◌, [], arith, if◌then◌else◌
 use Rattle.std.proofs.lemmas.Bool.{leb-true}
 use Rattle.heat_value.specs.Data.{Data, Members, fields, depth}
 use Rattle.hot_eval.specs.Answers.{IsFaultIn, IsOutcome, IsMadeOf}
-use Rattle.eval_words.specs.Outcomes.{Outcome, Gives, Faults, is_result, size, cost_limit}
-use Rattle.eval_words.specs.Evaluation.{Evaluating, value_outcome, members_outcome, evaluation, evaluation_within}
+use Rattle.eval_words.specs.Outcomes.{Outcome, Gives, Faults, is_result, max_levels, size}
+use Rattle.eval_words.specs.Evaluation.{Leveled, value_outcome, members_outcome, evaluation, evaluation_within}
 use Rattle.eval_words.specs.Resolutions.{unless_large, eval, properties}
 use Rattle.eval_words.specs.Scenes.{SceneData}
 use Rattle.eval_words.specs.declared.code.FaultCode.TheVariants.{F06}
@@ -24,20 +24,23 @@ large_fault fault.Memory o p same is = tt
 
 -- ---- the whole evaluation, in a setting at its root
 
-pub eval_is : (X : Evaluating) (S T : SceneData) (d : Data) (n : ℕ) → T ≡ S → X ≡ evaluation S → n ≡ 0
-    → eval S d ≡ value_outcome X T d n
+pub eval_is : (X : Leveled) (S T : SceneData) (L : ℕ) (d : Data) (n : ℕ) → T ≡ S → X ≡ evaluation S → L ≡ max_levels
+    → n ≡ 0 → eval S d ≡ value_outcome X T L d n
 unfolding eval
-eval_is X S T d n scene again none =
-    sym (ap (λ (x : Evaluating). value_outcome x T d n) again ∙ ap (λ (s : SceneData). value_outcome (evaluation S) s d n)
-    scene ∙ ap (value_outcome (evaluation S) S d) none)
+eval_is X S T L d n scene again all none =
+    sym (ap (λ (x : Leveled). value_outcome x T L d n) again
+    ∙ ap (λ (s : SceneData). value_outcome (evaluation S) s L d n) scene
+    ∙ ap (λ l. value_outcome (evaluation S) S l d n) all
+    ∙ ap (value_outcome (evaluation S) S max_levels d) none)
 
-pub properties_are : (X : Evaluating) (S T : SceneData) (ms ls : Members) (n : ℕ) → T ≡ S → X ≡ evaluation S → n ≡ 0
-    → ls ≡ ms → properties S ms ≡ members_outcome X T ls n
-properties_are X S T ms ls n scene again none same =
-    sym (ap (λ (x : Evaluating). members_outcome x T ls n) again
-    ∙ ap (λ (s : SceneData). members_outcome (evaluation S) s ls n) scene
-    ∙ ap (λ (l : Members). members_outcome (evaluation S) S l n) same
-    ∙ ap (members_outcome (evaluation S) S ms) none)
+pub properties_are : (X : Leveled) (S T : SceneData) (L : ℕ) (ms ls : Members) (n : ℕ) → T ≡ S → X ≡ evaluation S
+    → L ≡ max_levels → n ≡ 0 → ls ≡ ms → properties S ms ≡ members_outcome X T L ls n
+properties_are X S T L ms ls n scene again all none same =
+    sym (ap (λ (x : Leveled). members_outcome x T L ls n) again
+    ∙ ap (λ (s : SceneData). members_outcome (evaluation S) s L ls n) scene
+    ∙ ap (λ l. members_outcome (evaluation S) S l ls n) all
+    ∙ ap (λ (l : Members). members_outcome (evaluation S) S max_levels l n) same
+    ∙ ap (members_outcome (evaluation S) S max_levels ms) none)
 
 -- ---- the whole map
 
@@ -70,6 +73,6 @@ up_to limit r S T none scene =
     let all : limit - r ≡ limit = omega (arith, none) in
     ap (λ (m : ℕ). evaluation_within m T) all ∙ ap (evaluation_within limit) scene
 
-pub root_is : (r : ℕ) (S T : SceneData) → r ≡ 0 → T ≡ S → evaluation_within (cost_limit - r) T ≡ evaluation S
+pub root_is : (r : ℕ) (S T : SceneData) → r ≡ 0 → T ≡ S → evaluation_within (max_levels - r) T ≡ evaluation S
 unfolding evaluation
-root_is r S T none scene = up_to cost_limit r S T none scene
+root_is r S T none scene = up_to max_levels r S T none scene

@@ -2,7 +2,7 @@
 use Rattle.std.proofs.Common.{◌≡◌, ◌≢◌, ◌∙◌, ◌<◌, ◌≤◌, ◌+◌, ◌||◌, ℕ, suc, List, [], ◌∷◌, ◌++◌, Bool, true, false}
 use Rattle.std.proofs.Common.{Option, Some, None, option_map, option_and_then, length, get_or, drop, refl, ap, sym}
 use Rattle.std.proofs.Common.{subst, arith, append_assoc, find, zero}
-use Rattle.std.proofs.lemmas.List.{map-append, append-nil, length-append, length-map, drop_all, drop_more}
+use Rattle.std.proofs.lemmas.List.{map-append, append-nil, length-append, length-map, drop_all}
 use Rattle.std.proofs.lemmas.List.Elements.{All-nil, All-cons}
 use Rattle.std.proofs.lemmas.Map.Text.{is_eq-slice_cmp}
 use Rattle.std.proofs.lemmas.Slice.Eq.{bytes_eq-Decides}

@@ -4,8 +4,8 @@ use Rattle.heat_value.specs.Data.{Data, null, Nodes, no_nodes}
 use Rattle.heat_value.specs.Meaning.{data_of}
 use Rattle.heat_value.specs.declared.value.Value.{Value}
 use Rattle.heat_value.specs.declared.path.Step.TheVariants.{Index}
-use Rattle.eval_words.specs.Evaluation.{Evaluating, evaluation_within, value_outcome, branch_outcome, alone}
-use Rattle.eval_words.specs.Outcomes.{Outcome, Gives, Faults, made_into, under, is_result, cost_limit}
+use Rattle.eval_words.specs.Evaluation.{Evaluating, Leveled, evaluation_within, replaced, value_outcome, branch_outcome, alone}
+use Rattle.eval_words.specs.Outcomes.{Outcome, Gives, Faults, made_into, under, is_result, max_levels}
 use Rattle.eval_words.specs.Scenes.{SceneData, scene_data}
 use Rattle.hot_eval.specs.declared.branches.Picked.{Picked}
 use Rattle.hot_eval.specs.declared.branches.Picked.TheVariants as pick
@@ -54,9 +54,17 @@ abbrev pub IsMadeOf : {V A : Type 0} → (V → A) → Result V EvalFault → Ou
 IsMadeOf content (Ok v) o = (sum : ℕ) × (o ≡ Gives (content v) sum)
 IsMadeOf content (Err e) o = IsFaultIn e o
 
--- the evaluation of templates that are replaced at this depth
-abbrev pub again : Setting → Evaluating
-again set = evaluation_within (cost_limit - set.depth.repeats) (scene_data set.scene)
+-- the evaluation of templates that are replaced at this depth, at any number of levels
+abbrev pub again : Setting → Leveled
+again set = evaluation_within (max_levels - set.depth.repeats) (scene_data set.scene)
+
+-- how many levels are left
+abbrev pub levels : Setting → ℕ
+levels set = set.depth.levels
+
+-- the evaluation of a template that is replaced here
+abbrev pub inside_again : Setting → Evaluating
+inside_again set = replaced (again set) (levels set)
 
 -- ---- functions and branches
 
@@ -73,14 +81,14 @@ branch_nodes None = no_nodes
 branch_nodes (Some v) = alone (data_of v)
 
 -- what comes of a branch that was picked
-abbrev pub picked_outcome : Evaluating → SceneData → Picked → ℕ → Outcome Nodes
-picked_outcome inner scene (pick.Branch i v) spent =
-    made_into alone (under (Index i) (value_outcome inner scene (data_of v.now) spent))
-picked_outcome inner scene pick.Null spent = Gives (alone null) spent
-picked_outcome inner scene pick.None spent = Gives no_nodes spent
+abbrev pub picked_outcome : Leveled → SceneData → ℕ → Picked → ℕ → Outcome Nodes
+picked_outcome inner scene levels (pick.Branch i v) spent =
+    made_into alone (under (Index i) (value_outcome inner scene levels (data_of v.now) spent))
+picked_outcome inner scene levels pick.Null spent = Gives (alone null) spent
+picked_outcome inner scene levels pick.None spent = Gives no_nodes spent
 
 -- that is what comes of the branches
 abbrev pub IsPicked : Picked → Option Bool → Nodes → Type 0
 IsPicked p flag branches =
-    (inner : Evaluating) (scene : SceneData) (spent : ℕ)
-    → branch_outcome inner scene flag branches spent ≡ picked_outcome inner scene p spent
+    (inner : Leveled) (scene : SceneData) (levels spent : ℕ)
+    → branch_outcome inner scene levels flag branches spent ≡ picked_outcome inner scene levels p spent

@@ -1,9 +1,10 @@
 //! The value of a condition expression.
 ghost use Rattle.std.specs.Prelude.{◌≡◌, IfOk};
 ghost use Rattle.heat_value.specs.Meaning.{data_of};
-ghost use Rattle.hot_eval.specs.Answers.{again};
+ghost use Rattle.hot_eval.specs.Answers.{again, levels};
 ghost use Rattle.eval_words.specs.Conditions.{flag_of as the_flag_of, in_conditions};
 ghost use Rattle.eval_words.specs.Evaluation.{evaluation};
+ghost use Rattle.eval_words.specs.Outcomes.{max_levels};
 ghost use Rattle.eval_words.specs.ValuedConds.{valued_data};
 ghost use Rattle.eval_words.specs.Scenes.{scene_data};
 
@@ -64,6 +65,7 @@ pub fn flag_or_missed(
 fn setting<'a>(alloc: Global, params: &'a Props, known: ValuedConds<'a>) -> Setting<'a>
     ensures scene { scene_data result.scene ≡ in_conditions params.now (valued_data known.entry) }
     ensures again { again result ≡ evaluation (in_conditions params.now (valued_data known.entry)) }
+    ensures levels { levels result ≡ max_levels }
 {
     let scene = Scene {
         params,

@@ -1,9 +1,10 @@
 //! How deep an evaluation stands.
-ghost use Rattle.std.specs.Prelude.{◌≡◌, ◌+◌, ◌≤◌, IfSome};
+ghost use Rattle.std.specs.Prelude.{◌≡◌, ◌+◌, ◌≤◌, MatchOption, suc};
+ghost use Rattle.eval_words.specs.Outcomes.{max_levels};
 
-// How many lists, objects and replaced templates evaluation goes into at most, so that the stack holds
-// it. Values nest at most 64 deep; only templates that `repeat` replaces again and again go further.
-const MAX_LEVELS: u32 = 512;
+/// How many lists, objects and replaced templates may be evaluated in one another. Values nest at most 64
+/// deep; only templates that `repeat` replaces again and again go further.
+pub const MAX_LEVELS: u32 = 512;
 
 /// Where an evaluation stands: in how many replaced templates, and how many levels further it may go.
 #[derive(Clone, Copy, Debug)]
@@ -16,7 +17,8 @@ pub struct Depth {
 impl Depth {
     /// At the root of a value.
     pub fn root() -> Depth
-        ensures { result.repeats ≡ 0 }
+        ensures repeats { result.repeats ≡ 0 }
+        ensures levels { result.levels ≡ max_levels }
     {
         Depth {
             repeats: 0,
@@ -24,9 +26,10 @@ impl Depth {
         }
     }
 
-    /// One level further, in a list or an object; none where that is too deep for the stack.
+    /// One level further, in a list or an object; none where no level is left.
     pub fn inside(self) -> Option<Depth>
-        ensures { IfSome result (λ d. (d.repeats ≡ self.repeats) × (d.levels + 1 ≡ self.levels)) }
+        ensures { MatchOption result (self.levels ≡ 0)
+            (λ d. (d.repeats ≡ self.repeats) × (self.levels ≡ suc d.levels)) }
     {
         match self.levels {
             0 => None,
@@ -39,8 +42,8 @@ impl Depth {
 
     /// At the root of a replaced template, one level further.
     pub fn repeated(self) -> Option<Depth>
-        ensures { IfSome result (λ d.
-            (d.repeats ≡ self.repeats + 1) × (d.levels + 1 ≡ self.levels) × (d.repeats ≤ 512)) }
+        ensures { MatchOption result (self.levels ≡ 0)
+            (λ d. (d.repeats ≡ self.repeats + 1) × (self.levels ≡ suc d.levels) × (d.repeats ≤ 512)) }
     {
         match self.levels {
             0 => None,

@@ -2,7 +2,7 @@
 ghost use Rattle.std.specs.Prelude.{Bool, Option};
 ghost use Rattle.heat_value.specs.Data.{Nodes, fields as fields_data};
 ghost use Rattle.heat_value.specs.Meaning.{data_of, nodes_of};
-ghost use Rattle.hot_eval.specs.Answers.{IsOutcome, IsPicked, again, branch_nodes};
+ghost use Rattle.hot_eval.specs.Answers.{IsOutcome, IsPicked, again, levels, inside_again, branch_nodes};
 ghost use Rattle.eval_words.specs.Choices.{repetition as the_repetition, choices};
 ghost use Rattle.eval_words.specs.Evaluation.{value_outcome, values_outcome, members_outcome, all_but_outcome};
 ghost use Rattle.eval_words.specs.Evaluation.{condition_outcome, conditions_outcome, chosen_outcome, branch_outcome};
@@ -29,7 +29,7 @@ use heat_value::{Items, Member, Props, TryCopy, Value};
 #[cycle(evaluation)]
 pub fn value(set: &Setting, given: &Value, sum: &mut Sum) -> Result<Value, EvalFault>
     ensures { IsOutcome data_of result sum.new
-        (value_outcome (again set.now) (scene_data set.now.scene) (data_of given.now) sum.old) }
+        (value_outcome (again set.now) (scene_data set.now.scene) (levels set.now) (data_of given.now) sum.old) }
 {
     match given {
         Value::Items(items) => Ok(Value::Items(values(&set.inside()?, items.as_slice(), sum)?)),
@@ -42,7 +42,7 @@ pub fn value(set: &Setting, given: &Value, sum: &mut Sum) -> Result<Value, EvalF
 #[cycle(evaluation)]
 fn values(set: &Setting, given: &[Value], sum: &mut Sum) -> Result<Items, EvalFault>
     ensures { IsOutcome (λ ns. ns) result sum.new
-        (values_outcome (again set.now) (scene_data set.now.scene) 0 (nodes_of given.now) sum.old) }
+        (values_outcome (again set.now) (scene_data set.now.scene) (levels set.now) 0 (nodes_of given.now) sum.old) }
 {
     let mut items = Items::new(set.alloc);
     for (place, part) in given.iter().enumerate() {
@@ -55,7 +55,7 @@ fn values(set: &Setting, given: &[Value], sum: &mut Sum) -> Result<Items, EvalFa
 #[cycle(evaluation)]
 pub fn members(set: &Setting, given: &Props, sum: &mut Sum) -> Result<Props, EvalFault>
     ensures { IsOutcome (λ ms. ms) result sum.new
-        (members_outcome (again set.now) (scene_data set.now.scene) given.now sum.old) }
+        (members_outcome (again set.now) (scene_data set.now.scene) (levels set.now) given.now sum.old) }
 {
     let mut fields = Props::new(set.alloc);
     for member in given.as_slice() {
@@ -69,7 +69,7 @@ pub fn members(set: &Setting, given: &Props, sum: &mut Sum) -> Result<Props, Eva
 #[cycle(evaluation)]
 fn object(set: &Setting, given: &Props, sum: &mut Sum) -> Result<Value, EvalFault>
     ensures { IsOutcome data_of result sum.new
-        (value_outcome (again set.now) (scene_data set.now.scene) (fields_data given.now) sum.old) }
+        (value_outcome (again set.now) (scene_data set.now.scene) (levels set.now) (fields_data given.now) sum.old) }
 {
     let set = &set.inside()?;
     match function_in(given.as_slice()) {
@@ -88,8 +88,8 @@ fn call(
     sum: &mut Sum,
 ) -> Result<Value, EvalFault>
     ensures { IsOutcome data_of result sum.new
-        (the_call (again set.now) (scene_data set.now.scene) function formed
-        (sole_of (again set.now) (scene_data set.now.scene) member.now.key (data_of member.now.value)) sum.old) }
+        (the_call (inside_again set.now) (scene_data set.now.scene) function formed
+        (sole_of (again set.now) (scene_data set.now.scene) (levels set.now) member.now.key (data_of member.now.value)) sum.old) }
 {
     if !formed {
         return Err(EvalFault::here(set.alloc, FaultCode::F01));
@@ -109,7 +109,7 @@ fn argument(
 ) -> Result<Value, EvalFault>
     ensures { IsOutcome data_of result sum.new
         (the_argument manner
-        (sole_of (again set.now) (scene_data set.now.scene) member.now.key (data_of member.now.value)) sum.old) }
+        (sole_of (again set.now) (scene_data set.now.scene) (levels set.now) member.now.key (data_of member.now.value)) sum.old) }
 {
     match (manner, &member.value) {
         (Manner::Each, Value::Items(items)) => {
@@ -134,7 +134,7 @@ fn argument(
 #[cycle(evaluation)]
 fn all_but(set: &Setting, but: &str, given: &Props, sum: &mut Sum) -> Result<Props, EvalFault>
     ensures { IsOutcome (λ ms. ms) result sum.new
-        (all_but_outcome (again set.now) (scene_data set.now.scene) but.now given.now sum.old) }
+        (all_but_outcome (again set.now) (scene_data set.now.scene) (levels set.now) but.now given.now sum.old) }
 {
     let mut fields = Props::new(set.alloc);
     for member in given.as_slice() {
@@ -148,7 +148,7 @@ fn all_but(set: &Setting, but: &str, given: &Props, sum: &mut Sum) -> Result<Pro
 #[cycle(evaluation)]
 fn unless_key(set: &Setting, but: &str, member: &Member, sum: &mut Sum) -> Result<Value, EvalFault>
     ensures { IsOutcome data_of result sum.new
-        (outcome_unless (again set.now) (scene_data set.now.scene) but.now member.now.key
+        (outcome_unless (again set.now) (scene_data set.now.scene) (levels set.now) but.now member.now.key
         (data_of member.now.value) sum.old) }
 {
     if member.key.as_str() == but {
@@ -161,7 +161,7 @@ fn unless_key(set: &Setting, but: &str, member: &Member, sum: &mut Sum) -> Resul
 #[cycle(evaluation)]
 fn chosen(set: &Setting, given: &[Value], sum: &mut Sum) -> Result<Items, EvalFault>
     ensures { IsOutcome (λ ns. ns) result sum.new
-        (chosen_outcome (again set.now) (scene_data set.now.scene) (nodes_of given.now) sum.old) }
+        (chosen_outcome (again set.now) (scene_data set.now.scene) (levels set.now) (nodes_of given.now) sum.old) }
 {
     match given {
         [] => Ok(Items::new(set.alloc)),
@@ -178,7 +178,7 @@ fn chosen(set: &Setting, given: &[Value], sum: &mut Sum) -> Result<Items, EvalFa
 fn branch_value(set: &Setting, picked: &Picked, sum: &mut Sum) -> Result<Option<Value>, EvalFault>
     ensures { (flag : Option Bool) (branches : Nodes) → IsPicked picked.now flag branches
         → IsOutcome branch_nodes result sum.new
-        (branch_outcome (again set.now) (scene_data set.now.scene) flag branches sum.old) }
+        (branch_outcome (again set.now) (scene_data set.now.scene) (levels set.now) flag branches sum.old) }
 {
     match picked {
         Picked::Branch(place, branch) => Ok(Some(at_place(*place, value(set, branch, sum))?)),
@@ -192,7 +192,7 @@ fn branch_value(set: &Setting, picked: &Picked, sum: &mut Sum) -> Result<Option<
 #[cycle(evaluation)]
 pub fn condition(set: &Setting, given: &Value, sum: &mut Sum) -> Result<Value, EvalFault>
     ensures { IsOutcome data_of result sum.new
-        (condition_outcome (again set.now) (scene_data set.now.scene) (data_of given.now) sum.old) }
+        (condition_outcome (again set.now) (scene_data set.now.scene) (levels set.now) (data_of given.now) sum.old) }
 {
     match given {
         Value::Words(name) => Ok(named_condition(&set.scene, name, sum)?),
@@ -205,7 +205,7 @@ pub fn condition(set: &Setting, given: &Value, sum: &mut Sum) -> Result<Value, E
 #[cycle(evaluation)]
 fn condition_object(set: &Setting, given: &Props, sum: &mut Sum) -> Result<Value, EvalFault>
     ensures { IsOutcome data_of result sum.new
-        (condition_outcome (again set.now) (scene_data set.now.scene) (fields_data given.now) sum.old) }
+        (condition_outcome (again set.now) (scene_data set.now.scene) (levels set.now) (fields_data given.now) sum.old) }
 {
     let set = &set.inside()?;
     match condition_function_in(given.as_slice()) {
@@ -220,7 +220,7 @@ fn condition_object(set: &Setting, given: &Props, sum: &mut Sum) -> Result<Value
 #[cycle(evaluation)]
 fn conditions(set: &Setting, given: &[Value], sum: &mut Sum) -> Result<Items, EvalFault>
     ensures { IsOutcome (λ ns. ns) result sum.new
-        (conditions_outcome (again set.now) (scene_data set.now.scene) 0 (nodes_of given.now) sum.old) }
+        (conditions_outcome (again set.now) (scene_data set.now.scene) (levels set.now) 0 (nodes_of given.now) sum.old) }
 {
     let mut items = Items::new(set.alloc);
     for (place, part) in given.iter().enumerate() {
@@ -238,7 +238,7 @@ fn answer_of(
     sum: &mut Sum,
 ) -> Result<Value, EvalFault>
     ensures { IsOutcome data_of result sum.new
-        (the_answer_of (again set.now) (scene_data set.now.scene) function (data_of given.now) sum.old) }
+        (the_answer_of (inside_again set.now) (scene_data set.now.scene) function (data_of given.now) sum.old) }
 {
     match own_answer(set.alloc, &set.scene, function, given) {
         Some(answer) => answered(set.alloc, answer, sum),
@@ -250,7 +250,7 @@ fn answer_of(
 #[cycle(evaluation)]
 fn repeated(set: &Setting, given: &Value, sum: &mut Sum) -> Result<Value, EvalFault>
     ensures { IsOutcome data_of result sum.new
-        (the_repeated (again set.now) (the_repetition (data_of given.now)) sum.old) }
+        (the_repeated (inside_again set.now) (the_repetition (data_of given.now)) sum.old) }
 {
     match repetition_in(set.alloc, given) {
         Ok(repetition) => {
@@ -266,7 +266,7 @@ fn repeated(set: &Setting, given: &Value, sum: &mut Sum) -> Result<Value, EvalFa
 fn choice_values(set: &Setting, repetition: &Repetition, sum: &mut Sum) -> Result<Items, EvalFault>
     requires { AreKeys (lists_of repetition.now.lists.items) }
     ensures { IsOutcome (λ ns. ns) result sum.new
-        (choices_outcome (again set.now) (data_of repetition.now.template.now)
+        (choices_outcome (inside_again set.now) (data_of repetition.now.template.now)
         (choices (lists_of repetition.now.lists.items)) sum.old) }
 {
     let mut items = Items::new(set.alloc);
@@ -293,10 +293,18 @@ fn choice_value(
 ) -> Result<Value, EvalFault>
     requires { IsChoice choice.now }
     ensures { IsOutcome data_of result sum.new
-        (choice_outcome (again set.now) (data_of template.now) (choice_of choice.now)
+        (choice_outcome (inside_again set.now) (data_of template.now) (choice_of choice.now)
         (filled (choice_of choice.now) (data_of template.now)) sum.old) }
 {
     let replaced = replaced_template(set.alloc, template, choice, sum)?;
-    let made = value(&set.repeated()?, &replaced, sum);
+    let made = replaced_value(set, &replaced, sum);
     in_template(set.alloc, template, choice, made)
+}
+
+// What a replaced template comes to, one level further.
+#[cycle(evaluation)]
+fn replaced_value(set: &Setting, given: &Value, sum: &mut Sum) -> Result<Value, EvalFault>
+    ensures { IsOutcome data_of result sum.new (inside_again set.now (data_of given.now) sum.old) }
+{
+    value(&set.repeated()?, given, sum)
 }

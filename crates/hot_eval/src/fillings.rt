@@ -1,15 +1,15 @@
 //! The literal template of a repeat with a choice's items in place of the keys.
 mod literal;
 
-ghost use Rattle.std.specs.Prelude.{◌≡◌, ◌<◌, ◌-◌, ◌^◌, ◌≢◌, IfOk, OnOk, MatchOption, Some, None, is_none, is_some};
-ghost use Rattle.std.specs.Prelude.{option_map, unwrap_or};
+ghost use Rattle.std.specs.Prelude.{◌≡◌, ◌+◌, ◌<◌, ◌≤◌, ◌≢◌, IfOk, OnOk, MatchBool, MatchOption, None};
+ghost use Rattle.std.specs.Prelude.{option_map};
 ghost use Rattle.heat_value.specs.Data.{words as words_data, items as items_data, fields as fields_data};
 ghost use Rattle.heat_value.specs.Meaning.{data_of, nodes_of, members_of};
-ghost use Rattle.eval_words.specs.Fillings.{filled as the_filled, text_filled as the_text_filled};
+ghost use Rattle.eval_words.specs.Fillings.{filled as the_filled, filled_size, text_filled as the_text_filled};
 ghost use Rattle.eval_words.specs.Fillings.{words_filled as the_words_filled, item_of as the_item_of};
-ghost use Rattle.eval_words.specs.Outcomes.{size};
+ghost use Rattle.eval_words.specs.Outcomes.{size, cost_limit};
 ghost use Rattle.hot_eval.specs.Repeats.{choice_of, IsChoice};
-ghost use Rattle.hot_eval.specs.Rooms.{taken, room_behind, IsMade, IsFilled, IsTooLarge};
+ghost use Rattle.hot_eval.specs.Rooms.{IsFilled, IsMade, IsTextMade, IsItemFilled, IsMemberFilled, member_size};
 
 use crate::choices::Choice;
 use crate::maps::put_new;
@@ -26,80 +26,59 @@ pub enum Filled {
     Template(Value),
     /// Two keys of an object became one.
     Same,
+    /// Its keys and texts take more than there is room for.
+    Large,
 }
 
-/// What a template may take while it is made: so many bytes of JSON. Once that is used up, texts are
-/// left out, since the template costs too much whatever they are; its keys are still made.
+/// How many bytes of JSON the keys and texts of a template may still take.
 #[derive(Drop)]
 pub struct Room {
-    left: Option<usize>,
+    left: usize,
 }
 
 impl Model for Room {
-    ghost use Rattle.std.specs.Prelude.{ℕ, ◌<◌, ◌-◌, ◌^◌, Option, IfSome};
+    ghost use Rattle.std.specs.Prelude.{ℕ, ◌≤◌};
+    ghost use Rattle.eval_words.specs.Outcomes.{cost_limit};
 
-    ghost Value = { Option ℕ };
+    ghost Value = { ℕ };
 
     ghost view = { λ r. r.left };
 
-    ghost invariant = { λ r. IfSome r.left (λ n. n < 2 ^ 64 - 1) };
+    ghost invariant = { λ r. r.left ≤ cost_limit };
 }
 
 impl Room {
     /// Room for so many bytes.
     pub fn new(bytes: usize) -> Room
-        requires { bytes < 2 ^ 64 - 1 }
-        ensures { result ≡ Some bytes }
+        requires { bytes ≤ cost_limit }
+        ensures { result ≡ bytes }
     {
-        Room { left: Some(bytes) }
+        Room { left: bytes }
     }
 
-    /// Whether it was used up.
-    pub fn is_used_up(&self) -> bool
-        ensures { result ≡ is_none self.now }
+    // How many bytes are left.
+    fn left(&self) -> usize
+        ensures { result ≡ self.now }
     {
-        self.left.is_none()
-    }
-
-    // How many bytes a text may take; two, those of the empty text, where it was used up.
-    fn limit(&self) -> usize
-        ensures { result ≡ unwrap_or self.now 2 }
-    {
-        self.left.unwrap_or(2)
+        self.left
     }
 
     // Takes what a value takes; false where that isn't left.
     fn take(&mut self, value: &Value) -> bool
-        ensures room { self.new ≡ room_behind self.old (size (data_of value.now)) }
-        ensures some { result ≡ is_some self.new }
+        ensures { MatchBool result (self.new + size (data_of value.now) ≡ self.old) (self.old < size (data_of value.now)) }
     {
-        self.left = left_behind(self.left, value_size(value));
-        self.left.is_some()
-    }
-
-    // Uses it up.
-    fn use_up(&mut self)
-        ensures { self.new ≡ None }
-    {
-        self.left = None;
+        let bytes = value_size(value);
+        if self.left < bytes {
+            return false;
+        }
+        self.left -= bytes;
+        true
     }
 }
 
-// What is left behind so many bytes.
-fn left_behind(left: Option<usize>, bytes: usize) -> Option<usize>
-    ensures { result ≡ room_behind left bytes }
-{
-    match left {
-        Some(left) => if bytes <= left {
-            Some(left - bytes)
-        } else {
-            None
-        },
-        None => None,
-    }
-}
-
-/// A template with keys replaced in texts and in objects' keys.
+/// A template with keys replaced in texts and in objects' keys. These take room, so many bytes of JSON;
+/// what there is no room for isn't made.
+#[cycle(filling)]
 pub fn fill(
     alloc: Global,
     choice: &Choice,
@@ -107,28 +86,14 @@ pub fn fill(
     room: &mut Room,
 ) -> Result<Filled, AllocError>
     requires { IsChoice choice.now }
-    ensures exact { IsFilled result room.old room.new (taken (choice_of choice.now) (data_of template.now))
-        (the_filled (choice_of choice.now) (data_of template.now)) }
-    ensures large { IsTooLarge result room.old room.new
-        (the_filled (choice_of choice.now) (data_of template.now)) }
-{
-    value_filled(alloc, choice, template, room)
-}
-
-// A part of the template with the items in place of the keys.
-#[cycle(filling)]
-fn value_filled(
-    alloc: Global,
-    choice: &Choice,
-    template: &Value,
-    room: &mut Room,
-) -> Result<Filled, AllocError>
-    requires { IsChoice choice.now }
-    ensures { IsFilled result room.old room.new (taken (choice_of choice.now) (data_of template.now))
+    ensures { IsFilled result room.old room.new (filled_size (choice_of choice.now) (data_of template.now))
         (the_filled (choice_of choice.now) (data_of template.now)) }
 {
     match template {
-        Value::Words(words) => Ok(Filled::Template(words_filled(alloc, choice, words, room)?)),
+        Value::Words(words) => match words_filled(alloc, choice, words, room)? {
+            Some(value) => Ok(Filled::Template(value)),
+            None => Ok(Filled::Large),
+        },
         Value::Items(items) => items_filled(alloc, choice, items.as_slice(), room),
         Value::Fields(fields) => fields_filled(alloc, choice, fields.as_slice(), room),
         Value::Null => Ok(Filled::Template(Value::Null)),
@@ -137,7 +102,7 @@ fn value_filled(
     }
 }
 
-// A list, each of its parts filled.
+// A list, each of its parts filled; the parts behind one in which two keys became one take room too.
 #[cycle(filling)]
 #[tactic(auto, using(crate::proofs::Weights::for_walks))]
 fn items_filled(
@@ -148,20 +113,50 @@ fn items_filled(
 ) -> Result<Filled, AllocError>
     requires { IsChoice choice.now }
     ensures { IsFilled result room.old room.new
-        (taken (choice_of choice.now) (items_data (nodes_of values.now)))
+        (filled_size (choice_of choice.now) (items_data (nodes_of values.now)))
         (the_filled (choice_of choice.now) (items_data (nodes_of values.now))) }
 {
     let mut items = Items::new(alloc);
+    let mut same = false;
     for value in values {
-        match value_filled(alloc, choice, value, room)? {
-            Filled::Template(value) => items.push(value)?,
-            Filled::Same => return Ok(Filled::Same),
+        match item_filled(alloc, choice, value, room, same, &mut items)? {
+            Some(now) => same = now,
+            None => return Ok(Filled::Large),
         }
+    }
+    if same {
+        return Ok(Filled::Same);
     }
     Ok(Filled::Template(Value::Items(items)))
 }
 
-// An object, its keys and its values filled.
+// The next part of a list, put behind the last; whether two keys became one there or before. None where
+// it takes more than is left.
+#[cycle(filling)]
+fn item_filled(
+    alloc: Global,
+    choice: &Choice,
+    value: &Value,
+    room: &mut Room,
+    same: bool,
+    items: &mut Items,
+) -> Result<Option<bool>, AllocError>
+    requires { IsChoice choice.now }
+    ensures { IfOk result (λ o. IsItemFilled o room.old room.new
+        (filled_size (choice_of choice.now) (data_of value.now)) (the_filled (choice_of choice.now) (data_of value.now))
+        same items.old items.new) }
+{
+    match fill(alloc, choice, value, room)? {
+        Filled::Template(value) => {
+            items.push(value)?;
+            Ok(Some(same))
+        }
+        Filled::Same => Ok(Some(true)),
+        Filled::Large => Ok(None),
+    }
+}
+
+// An object, its keys and its values filled; what stands behind a key that came twice takes room too.
 #[cycle(filling)]
 #[tactic(auto, using(crate::proofs::Weights::for_walks))]
 fn fields_filled(
@@ -172,35 +167,64 @@ fn fields_filled(
 ) -> Result<Filled, AllocError>
     requires { IsChoice choice.now }
     ensures { IsFilled result room.old room.new
-        (taken (choice_of choice.now) (fields_data (members_of members.now)))
+        (filled_size (choice_of choice.now) (fields_data (members_of members.now)))
         (the_filled (choice_of choice.now) (fields_data (members_of members.now))) }
 {
     let mut fields = Props::new(alloc);
+    let mut same = false;
     for member in members {
-        match value_filled(alloc, choice, &member.value, room)? {
-            Filled::Template(value) => {
-                let key = key_filled(alloc, choice, &member.key)?;
-                if !put_new(&mut fields, key, value)? {
-                    return Ok(Filled::Same);
-                }
-            }
-            Filled::Same => return Ok(Filled::Same),
+        match member_filled(alloc, choice, member, room, same, &mut fields)? {
+            Some(now) => same = now,
+            None => return Ok(Filled::Large),
         }
+    }
+    if same {
+        return Ok(Filled::Same);
     }
     Ok(Filled::Template(Value::Fields(fields)))
 }
 
-// A text that is just one key becomes the item itself; null in its place where there is no room.
+// The next member of an object, put under its new key unless one stands there; whether two keys became
+// one here or before. None where it takes more than is left.
+#[cycle(filling)]
+fn member_filled(
+    alloc: Global,
+    choice: &Choice,
+    member: &Member,
+    room: &mut Room,
+    same: bool,
+    fields: &mut Props,
+) -> Result<Option<bool>, AllocError>
+    requires { IsChoice choice.now }
+    ensures { IfOk result (λ o. IsMemberFilled o room.old room.new
+        (member_size (choice_of choice.now) member.now.key (data_of member.now.value))
+        (the_filled (choice_of choice.now) (data_of member.now.value))
+        (the_text_filled (choice_of choice.now) member.now.key) same fields.old fields.new) }
+{
+    let Some(key) = key_taken(alloc, choice, &member.key, room)? else {
+        return Ok(None);
+    };
+    match fill(alloc, choice, &member.value, room)? {
+        Filled::Template(value) => if put_new(fields, key, value)? {
+            Ok(Some(same))
+        } else {
+            Ok(Some(true))
+        },
+        Filled::Same => Ok(Some(true)),
+        Filled::Large => Ok(None),
+    }
+}
+
+// A text that is just one key becomes the item itself; none where there is no room.
 fn words_filled(
     alloc: Global,
     choice: &Choice,
     words: &Text,
     room: &mut Room,
-) -> Result<Value, AllocError>
+) -> Result<Option<Value>, AllocError>
     requires { IsChoice choice.now }
-    ensures { IfOk result (λ v. IsMade room.old room.new
-        (size (the_words_filled (choice_of choice.now) words.now))
-        (data_of v) (the_words_filled (choice_of choice.now) words.now)) }
+    ensures { IsMade result room.old room.new (size (the_words_filled (choice_of choice.now) words.now))
+        (the_words_filled (choice_of choice.now) words.now) }
 {
     match item_of(choice, words) {
         Some(item) => item_taken(item, room),
@@ -209,14 +233,13 @@ fn words_filled(
 }
 
 // An item in place of a text.
-fn item_taken(item: &Value, room: &mut Room) -> Result<Value, AllocError>
-    ensures { IfOk result (λ v. IsMade room.old room.new
-        (size (data_of item.now)) (data_of v) (data_of item.now)) }
+fn item_taken(item: &Value, room: &mut Room) -> Result<Option<Value>, AllocError>
+    ensures { IsMade result room.old room.new (size (data_of item.now)) (data_of item.now) }
 {
     if room.take(item) {
-        item.copy()
+        Ok(Some(item.copy()?))
     } else {
-        Ok(Value::Null)
+        Ok(None)
     }
 }
 
@@ -226,22 +249,42 @@ fn text_taken(
     choice: &Choice,
     words: &Text,
     room: &mut Room,
-) -> Result<Value, AllocError>
+) -> Result<Option<Value>, AllocError>
     requires { IsChoice choice.now }
-    ensures { IfOk result (λ v. IsMade room.old room.new
+    ensures { IsMade result room.old room.new
         (size (words_data (the_text_filled (choice_of choice.now) words.now)))
-        (data_of v) (words_data (the_text_filled (choice_of choice.now) words.now))) }
+        (words_data (the_text_filled (choice_of choice.now) words.now)) }
 {
-    match text_filled(alloc, choice, words, room.limit())? {
-        Some(text) => {
-            let value = Value::Words(text);
-            room.take(&value);
-            Ok(value)
-        }
-        None => {
-            room.use_up();
-            Ok(Value::Null)
-        }
+    let Some(text) = text_filled(alloc, choice, words, room.left())? else {
+        return Ok(None);
+    };
+    let value = Value::Words(text);
+    if room.take(&value) {
+        Ok(Some(value))
+    } else {
+        Ok(None)
+    }
+}
+
+// An object's key with keys replaced.
+fn key_taken(
+    alloc: Global,
+    choice: &Choice,
+    key: &Text,
+    room: &mut Room,
+) -> Result<Option<Text>, AllocError>
+    requires { IsChoice choice.now }
+    ensures { IsTextMade result room.old room.new
+        (size (words_data (the_text_filled (choice_of choice.now) key.now)))
+        (the_text_filled (choice_of choice.now) key.now) }
+{
+    let Some(text) = text_filled(alloc, choice, key, room.left())? else {
+        return Ok(None);
+    };
+    if room.take(&Value::Words(text.copy()?)) {
+        Ok(Some(text))
+    } else {
+        Ok(None)
     }
 }
 
@@ -260,19 +303,8 @@ fn item_of<'a>(choice: &Choice<'a>, words: &Text) -> Option<&'a Value>
     }
 }
 
-/// An object's key with keys replaced. One that takes more than a whole evaluation may cost isn't made.
-pub fn key_filled(alloc: Global, choice: &Choice, key: &Text) -> Result<Text, AllocError>
-    requires { IsChoice choice.now }
-    ensures { IfOk result (λ t. t ≡ the_text_filled (choice_of choice.now) key.now) }
-{
-    match text_filled(alloc, choice, key, crate::sum::MAX_COST)? {
-        Some(text) => Ok(text),
-        None => Err(AllocError),
-    }
-}
-
-// A text with keys replaced, where that takes no more than so many bytes.
-fn text_filled(
+/// A text with keys replaced, where that takes no more than so many bytes.
+pub fn text_filled(
     alloc: Global,
     choice: &Choice,
     words: &Text,

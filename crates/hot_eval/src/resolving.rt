@@ -2,9 +2,9 @@
 ghost use Rattle.std.specs.Prelude.{◌≡◌, ◌++◌, ℕ};
 ghost use Rattle.heat_value.specs.Data.{Members, fields};
 ghost use Rattle.heat_value.specs.Meaning.{data_of};
-ghost use Rattle.hot_eval.specs.Answers.{IsMadeOf, again};
+ghost use Rattle.hot_eval.specs.Answers.{IsMadeOf, again, levels};
 ghost use Rattle.eval_words.specs.Evaluation.{evaluation};
-ghost use Rattle.eval_words.specs.Outcomes.{Outcome, Gives, seen_from, is_result as the_is_result};
+ghost use Rattle.eval_words.specs.Outcomes.{Outcome, Gives, max_levels, seen_from, is_result as the_is_result};
 ghost use Rattle.eval_words.specs.Resolutions.{eval as the_eval, resolve as the_resolve};
 ghost use Rattle.eval_words.specs.Resolutions.{properties as the_properties, properties_path, unless_large};
 ghost use Rattle.eval_words.specs.Scenes.{scene_of, scene_data};
@@ -88,6 +88,7 @@ fn is_result(made: &Props) -> bool
 pub fn setting<'a>(alloc: Global, plan: &'a Plan, known: &'a [KnownFacts]) -> Setting<'a>
     ensures scene { scene_data result.scene ≡ scene_of plan.now known.now }
     ensures again { again result ≡ evaluation (scene_of plan.now known.now) }
+    ensures levels { levels result ≡ max_levels }
 {
     Setting {
         alloc,

@@ -1,13 +1,15 @@
 //! What stays the same throughout an evaluation, but for the depth.
-ghost use Rattle.std.specs.Prelude.{◌≡◌, ◌<◌, ℕ, IfOk, IfErr};
+ghost use Rattle.std.specs.Prelude.{◌≡◌, ℕ, suc, [], IfOk, IfErr};
 ghost use Rattle.heat_value.specs.Data.{Data};
-ghost use Rattle.hot_eval.specs.Answers.{again};
+ghost use Rattle.hot_eval.specs.Answers.{again, levels, inside_again};
 ghost use Rattle.eval_words.specs.Evaluation.{value_outcome};
+ghost use Rattle.eval_words.specs.Faults.{here};
+ghost use Rattle.eval_words.specs.Outcomes.{Faults};
 ghost use Rattle.eval_words.specs.Scenes.{scene_data};
-ghost use Rattle.eval_words.specs.declared.fault.EvalFault.TheVariants.{Memory};
+ghost use Rattle.eval_words.specs.declared.code.FaultCode.TheVariants.{F07};
 
 use crate::depth::Depth;
-use crate::{EvalFault, Scene};
+use crate::{EvalFault, FaultCode, Scene};
 use std::alloc::Global;
 
 /// What is read beside the value itself, and how deep it stands.
@@ -19,12 +21,12 @@ pub struct Setting<'a> {
 }
 
 impl<'a> Setting<'a> {
-    /// One level further.
+    /// One level further; F07 where no level is left.
     pub fn inside(&self) -> Result<Setting<'a>, EvalFault>
         ensures scene { IfOk result (λ s. scene_data s.scene ≡ scene_data self.now.scene) }
         ensures again { IfOk result (λ s. again s ≡ again self.now) }
-        ensures less { IfOk result (λ s. s.depth.levels < self.now.depth.levels) }
-        ensures err { IfErr result (λ e. e ≡ Memory) }
+        ensures less { IfOk result (λ s. levels self.now ≡ suc (levels s)) }
+        ensures err { IfErr result (λ e. (e ≡ here F07) × (levels self.now ≡ 0)) }
     {
         match self.depth.inside() {
             Some(depth) => Ok(Setting {
@@ -32,16 +34,17 @@ impl<'a> Setting<'a> {
                 scene: self.scene,
                 depth,
             }),
-            None => Err(EvalFault::Memory),
+            None => Err(EvalFault::here(self.alloc, FaultCode::F07)),
         }
     }
 
-    /// At the root of a replaced template.
+    /// At the root of a replaced template; F07 where no level is left.
     pub fn repeated(&self) -> Result<Setting<'a>, EvalFault>
         ensures again { IfOk result (λ s. (d : Data) (n : ℕ)
-            → again self.now d n ≡ value_outcome (again s) (scene_data s.scene) d n) }
-        ensures less { IfOk result (λ s. s.depth.levels < self.now.depth.levels) }
-        ensures err { IfErr result (λ e. e ≡ Memory) }
+            → inside_again self.now d n ≡ value_outcome (again s) (scene_data s.scene) (levels s) d n) }
+        ensures less { IfOk result (λ s. levels self.now ≡ suc (levels s)) }
+        ensures err { IfErr result (λ e. (e ≡ here F07)
+            × ((d : Data) (n : ℕ) → inside_again self.now d n ≡ Faults F07 [])) }
     {
         match self.depth.repeated() {
             Some(depth) => Ok(Setting {
@@ -49,7 +52,7 @@ impl<'a> Setting<'a> {
                 scene: self.scene,
                 depth,
             }),
-            None => Err(EvalFault::Memory),
+            None => Err(EvalFault::here(self.alloc, FaultCode::F07)),
         }
     }
 }

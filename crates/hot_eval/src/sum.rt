@@ -1,5 +1,5 @@
 //! The running sum of costs, and the condition that was missed first.
-ghost use Rattle.std.specs.Prelude.{◌≡◌, ◌-◌};
+ghost use Rattle.std.specs.Prelude.{◌≡◌, ◌≤◌, ◌-◌};
 ghost use Rattle.hot_eval.specs.Answers.{IsOutcome};
 ghost use Rattle.eval_words.specs.Outcomes.{charged, cost_limit};
 
@@ -49,7 +49,8 @@ impl Sum {
 
     /// What may still be spent.
     pub fn left(&self) -> usize
-        ensures { result ≡ cost_limit - self.now }
+        ensures left { result ≡ cost_limit - self.now }
+        ensures within { self.now ≤ cost_limit }
     {
         MAX_COST - self.spent
     }

@@ -12,3 +12,4 @@ pub mod Wholes
 pub mod Faults
 pub mod Progress
 pub mod Depths
+pub mod Allowed

@@ -3,6 +3,7 @@ pub mod Texts
 pub mod Conversions
 pub mod Sizes
 pub mod Patterns
+pub mod Strings
 pub mod Rules
 pub mod Bindings
 pub mod Typed

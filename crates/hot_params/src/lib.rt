@@ -16,6 +16,7 @@ mod parameter;
 mod pattern;
 mod saying;
 mod size;
+mod strings;
 mod values;
 
 pub use binding::bind;

@@ -7,6 +7,7 @@ ghost use Rattle.hot_params.specs.Conversions.{ConvertsTo};
 ghost use Rattle.hot_params.specs.Rules.{IsAmong, AreAmong, IsAllowed};
 
 use crate::conversion::converted;
+use crate::strings::{is_one_of, sorted_strings};
 use heat_value::{Equals, Items, Value};
 use hot_forms::Sort;
 use std::alloc::{AllocError, Global};
@@ -42,12 +43,13 @@ fn items_are_among(alloc: Global, allowed: &Items, value: &Value) -> Result<bool
     }
 }
 
-// Whether every item is allowed, as a text.
+// Whether every item is allowed, as a text. The members are converted and sorted once.
 fn are_among(alloc: Global, allowed: &Items, items: &Items) -> Result<bool, AllocError>
     ensures { IfOk result (λ b. IsTrue b ↔ AreAmong allowed.now items.now) }
 {
+    let strings = sorted_strings(alloc, allowed)?;
     for value in items.as_slice() {
-        if !is_among(alloc, Sort::Words, allowed, value)? {
+        if !is_one_of(strings.as_slice(), value) {
             return Ok(false);
         }
     }

@@ -19,13 +19,13 @@ use Rattle.core_state.specs.State.{StateData}
 use Rattle.core_state.specs.declared.graph.Graph.{Graph}
 use Rattle.core_state.specs.declared.stack.Stack.{Stack}
 use Rattle.history_laws.specs.Asks.{Asks, Polls}
-use Rattle.history_laws.specs.Freshness.{IsFresh, IsMeant, IsOutdated, IsOverrun, Names, cleans, plan_of}
+use Rattle.history_laws.specs.Freshness.{IsMeant, IsOutdated, IsOverrun, Names, cleans, plan_of}
 use Rattle.history_laws.specs.Rows.{token_of}
 use Rattle.history_laws.specs.Targets.{IsTarget, of_c}
 use Rattle.history_laws.specs.Could.{could_of}
 use Rattle.history_laws.specs.Agrees.{IsGoing}
 use Rattle.history_laws.specs.Headline.{MayBeAsked, create, delete, gone, poll, update}
-use Rattle.history_laws.specs.MailFits.{IsNewest, IsStale, IsUnderWay}
+use Rattle.history_laws.specs.MailFits.{IsStale, IsUnderWay}
 use Rattle.history_laws.specs.RowsFit.{RowFits}
 use Rattle.history_laws.specs.Sound.{Standing}
 use Rattle.next_laws.proofs.Below.{named_fits}

@@ -32,7 +32,7 @@ use Rattle.history_laws.specs.Begins.{Begins}
 use Rattle.history_laws.specs.Cleanups.{Cleans}
 use Rattle.history_laws.specs.Commands.{laid_changes, laid_entries}
 use Rattle.history_laws.specs.Finishes.{Finishes, Settles, graph_then}
-use Rattle.history_laws.specs.Freshness.{IsFresh, IsMeant, IsOverrun}
+use Rattle.history_laws.specs.Freshness.{IsFresh, IsOverrun}
 use Rattle.history_laws.specs.Given.{Answer, Faulted, Given, Nothing, Prepared}
 use Rattle.history_laws.specs.Inputs.{AllDone, input_of, passed}
 use Rattle.history_laws.specs.Moves.{Move, ask_begun, ask_failed, begin_failed, begin_faulted, begin_in_place}

@@ -1,1 +1,5 @@
+pub mod Places
+pub mod TokenOrder
+pub mod Rows
 pub mod Findings
+pub mod Strangers

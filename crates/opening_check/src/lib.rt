@@ -4,6 +4,10 @@
 
 mod comparison;
 mod finding;
+mod index;
+mod listed;
+mod rows;
+mod strangers;
 
 pub use comparison::compare;
 pub use finding::Finding;

@@ -22,6 +22,7 @@ use Rattle.report.specs.Seen.{SeenData, stack_key, stack_at, with_stacks, after_
 use Rattle.report.specs.Rows.{writes_text, shown_lines}
 use Rattle.report.specs.Stacks.{begun, plan_seen, after_mark}
 use Rattle.report.specs.Outputs.{outputs_text}
+use Rattle.report.specs.Previews.{preview_text}
 use Rattle.report.specs.declared.brief.SeenStack.{SeenStack}
 
 -- `stack <name> <trav> <ACT>_<STATUS>`
@@ -92,6 +93,7 @@ line_of seen (what.Show shown stack) = show_text shown stack seen
 line_of seen (what.Note number code path) = note_line number code path
 line_of seen (what.Ran idle turns) = ran_line idle turns
 line_of seen (what.Turned engine lost) = turned_line engine lost
+line_of seen (what.Preview stack forecast) = preview_text stack forecast
 line_of seen what.Closed = []
 
 -- the rows that an entry writes
@@ -107,6 +109,7 @@ writes_of (what.Show shown stack) = []
 writes_of (what.Note number code path) = []
 writes_of (what.Ran idle turns) = []
 writes_of (what.Turned engine lost) = []
+writes_of (what.Preview stack forecast) = []
 writes_of what.Closed = []
 
 -- an entry's text: its line, or those of its writes
@@ -127,4 +130,5 @@ after_what seen (what.Show shown stack) = seen
 after_what seen (what.Note number code path) = seen
 after_what seen (what.Ran idle turns) = seen
 after_what seen (what.Turned engine lost) = seen
+after_what seen (what.Preview stack forecast) = seen
 after_what seen what.Closed = seen

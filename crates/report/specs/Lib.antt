@@ -3,6 +3,7 @@ pub mod Seen
 pub mod Rows
 pub mod Stacks
 pub mod Outputs
+pub mod Previews
 pub mod Entries
 pub mod Text
 pub mod Undone

@@ -8,6 +8,7 @@ ghost use Rattle.report.specs.Undone.{shown as shown_of};
 
 use crate::brief::SeenStack;
 use crate::outputs::outputs_text;
+use crate::previews::preview_text;
 use crate::rows::shown_lines;
 use crate::seen::Seen;
 use crate::words::{act_word, status_word, why_text};
@@ -219,6 +220,7 @@ pub(crate) fn entry_line(alloc: Global, seen: &Seen, what: &What) -> Result<Stri
         What::Note { line, code, path } => note_line(alloc, *line, code, path),
         What::Ran { idle, turns } => ran_line(alloc, *idle, *turns),
         What::Turned { engine, lost } => turned_line(alloc, *engine, *lost),
+        What::Preview { stack, forecast } => preview_text(alloc, stack, forecast),
         What::Call { .. } | What::Rows { .. } | What::Mail { .. } | What::Closed => {
             Ok(String::new(alloc))
         }

@@ -9,6 +9,7 @@ mod laws;
 mod log;
 mod output_line;
 mod outputs;
+mod previews;
 mod report;
 mod rows;
 mod seen;

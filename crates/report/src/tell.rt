@@ -79,7 +79,7 @@ fn tell_entry(
             Ok(())
         }
         What::Show { .. } | What::Note { .. } | What::Ran { .. } | What::Turned { .. } => Ok(()),
-        What::Closed => Ok(()),
+        What::Preview { .. } | What::Closed => Ok(()),
     }
 }
 

@@ -23,6 +23,7 @@ could_by t states (what.Show it stack) = states
 could_by t states (what.Note line code path) = states
 could_by t states (what.Ran idle turns) = states
 could_by t states (what.Turned engine lost) = states
+could_by t states (what.Preview stack forecast) = states
 could_by t states what.Closed = states
 
 -- from the one state that the token had at first, over the entries in order

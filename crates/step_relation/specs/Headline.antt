@@ -5,7 +5,6 @@ use Rattle.heat_value.specs.Data.{Members}
 use Rattle.heat_plan.specs.Plans.{PlanData}
 use Rattle.heat_plan.specs.declared.calls.Answered.{Answered}
 use Rattle.heat_plan.specs.declared.calls.Request.{Request}
-use Rattle.heat_plan.specs.declared.item.Policy.TheVariants.{Retain}
 use Rattle.heat_plan.specs.declared.phase.Act.{Act}
 use Rattle.heat_plan.specs.declared.phase.Act.TheVariants.{Rollback}
 use Rattle.heat_plan.specs.declared.phase.Status.TheVariants.{Complete, Failed}
@@ -23,7 +22,7 @@ use Rattle.core_state.specs.declared.entry.RowWrite.TheVariants.{Purge}
 use Rattle.core_state.specs.declared.stack.Stack.{Stack}
 use Rattle.step_relation.specs.Freshness.{plan_of}
 use Rattle.step_relation.specs.Nexts.{NoLetters}
-use Rattle.step_relation.specs.Orders.{IsForward, row_limit}
+use Rattle.step_relation.specs.Orders.{row_limit}
 use Rattle.step_relation.specs.Rows.{token_of}
 use Rattle.step_relation.specs.Runs.{Judges, Run}
 use Rattle.step_relation.specs.Writes.{entry_of}
@@ -34,7 +33,8 @@ use Rattle.step_relation.specs.Last.{IsLast}
 use Rattle.step_relation.specs.Marked.{Completed, FailedFor, Unmarked, mark_of}
 use Rattle.step_relation.specs.Newest.{Latest, newest, rollback_of}
 use Rattle.step_relation.specs.Opening.{Opening}
-use Rattle.step_relation.specs.Stored.{released, stored}
+use Rattle.step_relation.specs.Policies.{MayBeReleased}
+use Rattle.step_relation.specs.Stored.{stored}
 use Rattle.step_relation.specs.Tokens.{IsNamed}
 use Rattle.step_relation.specs.Agrees.{IsGoing, StateFits}
 use Rattle.step_relation.specs.Stir.{EachStirs}
@@ -67,14 +67,6 @@ pub data MayBeAsked (states : List TokenState) : Request → Type 0 where
   delete : MayBeAsked states request.Delete
   poll : All IsSome states → MayBeAsked states request.Poll
   gone : All IsGoing states → MayBeAsked states request.Gone
-
--- a stored row with the policy Retain, whose token wasn't given up before
-pub record MayBeReleased (o : Opening) (before : List Entry) (t : Token) : Type 0 where
-  pub row : Row
-  pub found : row_at (stored o before) t.row ≡ Some row
-  pub its : token_of row ≡ t
-  pub retained : row.policy ≡ Retain
-  pub once : ¬ Contains (released o before) t
 
 -- the entries end with a mark of the stack with a cause
 pub record EndsFailed (before : List Entry) (actor : Actor) (stack : List ℕ) : Type 0 where
@@ -112,16 +104,17 @@ pub record FitsIn (o : Opening) (before : List Entry) (e : Entry) : Type 0 where
   -- only a retained row's token is given up, and once
   pub releases : (token : Token) → e.what ≡ what.Release token → MayBeReleased o before token
 
--- an entry and the one behind it
-pub record FollowedBy (o : Opening) (before : List Entry) (e next : Entry) : Type 0 where
-  -- the row of a token that is given up goes
-  pub purges : (token : Token) → e.what ≡ what.Release token → next ≡ entry_of e.by (what.Rows (Purge token.row ∷ []))
+-- an entry and the one behind it, if there is one
+pub record FollowedBy (e : Entry) (next : Option Entry) : Type 0 where
+  -- the row of a token that is given up goes in the same step
+  pub purges : (token : Token) → e.what ≡ what.Release token
+      → next ≡ Some (entry_of e.by (what.Rows (Purge token.row ∷ [])))
 
 -- a failure is rolled back where it was asked for: the command stands behind the mark
 abbrev pub IsRolledBack : Opening → List Entry → List Entry → Type 0
 IsRolledBack o before after = (actor : Actor) (stack : List ℕ) (trav : ℕ) (act : Act) (cause : Cause) (back : PlanData)
     (rest : List Entry)
-    → after ≡ entry_of actor (what.Mark stack trav act (Some cause)) ∷ rest → IsForward act
+    → after ≡ entry_of actor (what.Mark stack trav act (Some cause)) ∷ rest
     → rollback_of o before stack ≡ true
     → IsLast o before stack back → length (stored o before) + length back.items ≤ row_limit
     → (next : ℕ) × (more : List Entry)
@@ -142,8 +135,7 @@ pub data IsSettledAs (o : Opening) (h : List Entry) (st : Stack) : Type 0 where
 pub record Headline (registries : List Judges) (o : Opening) (h : List Entry) (s : StateData) : Type 0 where
   pub prefixes : (n : ℕ) → n ≤ length h → AtPrefix o (take n h)
   pub entries : (n : ℕ) (e : Entry) → slice_get h n ≡ Some e → FitsIn o (take n h) e
-  pub pairs : (n : ℕ) (e next : Entry) → slice_get h n ≡ Some e → slice_get h (n + 1) ≡ Some next
-      → FollowedBy o (take n h) e next
+  pub pairs : (n : ℕ) (e : Entry) → slice_get h n ≡ Some e → FollowedBy e (slice_get h (n + 1))
   pub rolled_back : (before after : List Entry) → h ≡ before ++ after → IsRolledBack o before after
   -- a stack without a mark stirs, now and after every step that led here
   pub stirs : EachStirs s

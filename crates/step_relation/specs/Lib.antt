@@ -28,6 +28,7 @@ pub mod Tokens
 pub mod Fits
 pub mod Caused
 pub mod Last
+pub mod Policies
 pub mod Numbered
 pub mod Linked
 pub mod Images
@@ -37,6 +38,7 @@ pub mod MailFits
 pub mod Stir
 pub mod MarkFits
 pub mod Agrees
+pub mod Compared
 pub mod Tells
 pub mod Elsewhere
 pub mod Sound

@@ -1,5 +1,5 @@
 -- Where letters and jobs stand in the graph of their stack's newest traversal.
-use Rattle.std.specs.Prelude.{List, Some, ℕ, ◌≡◌, ◌≢◌}
+use Rattle.std.specs.Prelude.{IsSome, List, Some, ℕ, ◌≡◌, ◌≢◌}
 use Rattle.heat_plan.specs.declared.phase.Act.{Act}
 use Rattle.heat_plan.specs.declared.phase.Act.TheVariants.{Delete, Init}
 use Rattle.heat_plan.specs.declared.phase.Status.TheVariants.{Complete, InProgress}
@@ -13,7 +13,7 @@ use Rattle.mail_table.specs.declared.mail.Letter.{Letter}
 use Rattle.mail_table.specs.declared.mail.Stage.{Stage}
 use Rattle.mail_table.specs.declared.mail.Stage.TheVariants.{Asking, Ending, Polling}
 use Rattle.core_state.specs.Reads.{IsDone, IsReady}
-use Rattle.core_state.specs.State.{StateData, stack_at}
+use Rattle.core_state.specs.State.{StateData, graph_at, stack_at}
 use Rattle.core_state.specs.declared.graph.Graph.{Graph}
 use Rattle.core_state.specs.declared.stack.Stack.{Stack}
 use Rattle.step_relation.specs.Freshness.{Names}
@@ -86,8 +86,13 @@ pub record LettersFit (s : StateData) : Type 0 where
   pub newest : (n : ℕ) (l : Letter) (st : Stack) → letter_at s.letters n ≡ Some l → IsNewest s l st
       → LetterStands s l st
 
+-- each graph is that of a stack in the table
+abbrev pub GraphsStand : StateData → Type 0
+GraphsStand s = (name : List ℕ) (g : Graph) → graph_at s.graphs name ≡ Some g → IsSome (stack_at s.stacks name)
+
 -- graphs and rows of every stack, jobs and letters
 pub record Shape (s : StateData) : Type 0 where
+  pub stand : GraphsStand s
   pub graphs : (name : List ℕ) (st : Stack) → stack_at s.stacks name ≡ Some st → GraphFits s st (graph_of s name)
   pub rows : (name : List ℕ) (st : Stack) → stack_at s.stacks name ≡ Some st → RowsFit s st (graph_of s name)
   pub each_row : (n : ℕ) (r : Row) → row_at s.rows n ≡ Some r → RowFits r

@@ -1,5 +1,5 @@
 -- What a stack's mark says of its nodes and rows.
-use Rattle.std.specs.Prelude.{IsSome, List, None, Some, false, ℕ, ◌↔◌, ◌≡◌, ◌≢◌, ◌⊎◌}
+use Rattle.std.specs.Prelude.{AllPairs, IsSome, List, None, Some, false, ℕ, ◌↔◌, ◌≡◌, ◌≢◌, ◌⊎◌}
 use Rattle.heat_value.specs.declared.path.Step.{Step}
 use Rattle.heat_plan.specs.Plans.{IsPlan}
 use Rattle.heat_plan.specs.declared.phase.Act.TheVariants.{Delete, Init, Rollback}
@@ -49,5 +49,7 @@ pub record PastFits (s : StateData) (p : Past) : Type 0 where
       → p.rollback ≡ false
   pub proper : IsPlan (plan_of p.back).items (plan_of p.back).absent
 
+-- and a stack has one past at most
 pub record PastsFit (s : StateData) : Type 0 where
+  pub once : AllPairs (λ (p q : Past). p.stack ≢ q.stack) s.pasts
   pub each : (name : List ℕ) (p : Past) → past_at s.pasts name ≡ Some p → PastFits s p

@@ -51,6 +51,7 @@ marked_by s before (what.Show it stack) = before
 marked_by s before (what.Note line code path) = before
 marked_by s before (what.Ran idle turns) = before
 marked_by s before (what.Turned engine lost) = before
+marked_by s before (what.Preview stack forecast) = before
 marked_by s before what.Closed = before
 
 abbrev pub marked_of : Opening → List Entry → List ℕ → Option Marked

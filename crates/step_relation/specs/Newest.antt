@@ -33,6 +33,7 @@ newest_by s before (what.Show it stack) = before
 newest_by s before (what.Note line code path) = before
 newest_by s before (what.Ran idle turns) = before
 newest_by s before (what.Turned engine lost) = before
+newest_by s before (what.Preview stack forecast) = before
 newest_by s before what.Closed = before
 
 -- that of the last command; without one, that of the stack in the opening
@@ -53,6 +54,7 @@ rollback_by s before (what.Show it stack) = before
 rollback_by s before (what.Note line code path) = before
 rollback_by s before (what.Ran idle turns) = before
 rollback_by s before (what.Turned engine lost) = before
+rollback_by s before (what.Preview stack forecast) = before
 rollback_by s before what.Closed = before
 
 abbrev pub rollback_of : Opening → List Entry → List ℕ → Bool

@@ -7,6 +7,7 @@ use Rattle.step_relation.specs.Agrees.{Agrees}
 use Rattle.step_relation.specs.Linked.{Links}
 use Rattle.step_relation.specs.MailFits.{Shape}
 use Rattle.step_relation.specs.MarkFits.{MarksFit, PastsFit}
+use Rattle.step_relation.specs.Policies.{PoliciesFit}
 use Rattle.step_relation.specs.Stir.{Covered}
 use Rattle.step_relation.specs.Tells.{ReleasedFits, Tells}
 
@@ -24,3 +25,4 @@ pub record Sound (o : Opening) (h : List Entry) (s : StateData) : Type 0 where
   pub agrees : Agrees o h s
   pub tells : Tells o h s
   pub released : ReleasedFits o h s
+  pub policies : PoliciesFit o h s

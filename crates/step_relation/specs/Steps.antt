@@ -18,12 +18,13 @@ use Rattle.core_state.specs.declared.change.Change.TheVariants as change_to
 use Rattle.core_state.specs.declared.entry.EngineChange.TheVariants as engine
 use Rattle.core_state.specs.declared.entry.What.TheVariants as what
 
--- what a line of the script notes: what it shows, a refusal, or how its run ended
+-- what a line of the script notes: what it shows or foretells, a refusal, or how its run ended
 pub data IsNote : What → Type 0 where
   shows : (it : _) (stack : List ℕ) → IsNote (what.Show it stack)
   notes : (line : ℕ) (code : List ℕ) (path : _) → IsNote (what.Note line code path)
   ran : (idle : _) (turns : ℕ) → IsNote (what.Ran idle turns)
   turned : (e : ℕ) (lost : _) → IsNote (what.Turned e lost)
+  previews : (stack : List ℕ) (forecast : _) → IsNote (what.Preview stack forecast)
 
 abbrev pub engine_limit : ℕ
 engine_limit = 64

@@ -27,6 +27,7 @@ stored_by rows (what.Show it stack) = rows
 stored_by rows (what.Note line code path) = rows
 stored_by rows (what.Ran idle turns) = rows
 stored_by rows (what.Turned engine lost) = rows
+stored_by rows (what.Preview stack forecast) = rows
 stored_by rows what.Closed = rows
 
 -- the opening's rows, and each write in its turn
@@ -45,6 +46,7 @@ released_by tokens (what.Show it stack) = tokens
 released_by tokens (what.Note line code path) = tokens
 released_by tokens (what.Ran idle turns) = tokens
 released_by tokens (what.Turned engine lost) = tokens
+released_by tokens (what.Preview stack forecast) = tokens
 released_by tokens what.Closed = tokens
 
 -- the tokens that the opening had given up, and those given up since

@@ -181,8 +181,8 @@ pub faults_law : AdmittedFaultsByNoForm
 faults_law template given plan was known =
     let formed = plan_formed template given plan was known in
     record {
-      items = λ item within c path. properties_law plan item known c path (formed.items item within);
-      outputs = λ output within c path. values_law (scene_of plan known) output.value c path
+      items = λ item within c path deep. properties_law plan item known c path deep (formed.items item within);
+      outputs = λ output within c path deep. values_law (scene_of plan known) output.value c path deep
           (formed.outputs output within);
     }
 

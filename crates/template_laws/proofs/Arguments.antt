@@ -4,7 +4,7 @@ use Rattle.std.proofs.Common.{inl, is_some}
 use Rattle.std.specs.Prelude.{⊤}
 use Rattle.heat_value.specs.Data.{Data, null, flag, whole, words, items, fields}
 use Rattle.heat_value.specs.Data.{no_members, member}
-use Rattle.eval_words.specs.Evaluation.{Evaluating, called, sole_of}
+use Rattle.eval_words.specs.Evaluation.{Leveled, called, replaced as level_of, sole_of}
 use Rattle.eval_words.specs.Evaluation.{parts_outcome, repeat_outcome, if_outcome, condition_outcome, condition_parts_outcome}
 use Rattle.eval_words.specs.Manners.{manner_of}
 use Rattle.eval_words.specs.Names.{function_of, condition_function_of, is_formed, is_condition_formed}
@@ -52,22 +52,22 @@ negated_is (words s) has = refl
 negated_is (items ns) has = cc
 negated_is (fields ms) has = has
 
-module _ (S : SceneData) (X : Evaluating) where
+module _ (S : SceneData) (X : Leveled) (l : ℕ) where
   -- what an argument comes to in each manner, where it is in its form
   pub record Evaluated (d : Data) : Type 0 where
-    pub each : IsFormed S as_parts d → (n : ℕ) → Holds (IsLike d) (MayFault as_parts d) (parts_outcome X S d n)
+    pub each : IsFormed S as_parts d → (n : ℕ) → Holds (IsLike d) (MayFault as_parts d) (parts_outcome X S l d n)
     pub repetition : IsFormed S as_repetition d → (n : ℕ)
-        → Holds (λ v. ⊤) (MayFault as_repetition d) (repeat_outcome X S d n)
+        → Holds (λ v. ⊤) (MayFault as_repetition d) (repeat_outcome X S l d n)
     pub branches : has_form form.Branches d ≡ true → IsFormed S as_branches d → (n : ℕ)
-        → Holds (ComesTo manner.ChosenBranch d) (MayFault as_branches d) (if_outcome X S d n)
+        → Holds (ComesTo manner.ChosenBranch d) (MayFault as_branches d) (if_outcome X S l d n)
     pub condition : is_condition d ≡ true → IsFormed S as_condition d → (n : ℕ)
-        → Holds IsFlag (MayFault as_condition d) (condition_outcome X S d n)
+        → Holds IsFlag (MayFault as_condition d) (condition_outcome X S l d n)
     pub conditions : has_form form.Combined d ≡ true → IsFormed S as_conditions d → (n : ℕ)
-        → Holds (ComesTo manner.Conditions d) (MayFault as_conditions d) (condition_parts_outcome X S d n)
+        → Holds (ComesTo manner.Conditions d) (MayFault as_conditions d) (condition_parts_outcome X S l d n)
 
   -- the argument of each function
   argued : (k : List ℕ) (d : Data) (f : Function) → Evaluated d → has_form (form_for f) d ≡ true
-      → IsFormed S (argument_role (manner_of f)) d → ArgumentHolds S X k d f
+      → IsFormed S (argument_role (manner_of f)) d → ArgumentHolds S X l k d f
   argued k d function.Parameter all has formed n = all.each formed n
   argued k d function.Resource all has formed n = all.each formed n
   argued k d function.Attribute all has formed n = all.each formed n
@@ -99,12 +99,12 @@ module _ (S : SceneData) (X : Evaluating) where
         → HoldFormed S as_value x (member k d no_members)
         → (x ≡ None → Holds (λ v. ⊤) (MayFault as_value (fields (member k d no_members))) o)
         → Holds (λ v. ⊤) (MayFault as_value (fields (member k d no_members)))
-        (called X S x (is_formed k d) (sole_of X S k d) o n)
+        (called (level_of X l) S x (is_formed k d) (sole_of X S l k d) o n)
     value_called None is right formed plain = plain refl
     value_called (Some f) is right formed plain =
         gives_hold (Fits f) (MayFault as_value (fields (member k d no_members))) (λ v. ⊤)
-        (called X S (Some f) (is_formed k d) (sole_of X S k d) o n) (λ v fits. tt)
-        (call_holds S X as_value k d f (is_formed k d) here within
+        (called (level_of X l) S (Some f) (is_formed k d) (sole_of X S l k d) o n) (λ v fits. tt)
+        (call_holds S X l as_value k d f (is_formed k d) here within
         (inl (refl, refl), λ i. argument_or as_value (sym is i)) right.formed has right.there
         (argued k d f all has formed.0) n)
       where
@@ -133,12 +133,12 @@ module _ (S : SceneData) (X : Evaluating) where
     pub condition_called : (x : Option Function) → condition_function_of k ≡ x → IsRight S as_condition (Some (k, d)) x
         → HoldFormed S as_condition x (member k d no_members) → is_some (condition_form_of k) ≡ true
         → Holds IsFlag (MayFault as_condition (fields (member k d no_members)))
-        (called X S x (is_condition_formed k d) (sole_of X S k d) o n)
+        (called (level_of X l) S x (is_condition_formed k d) (sole_of X S l k d) o n)
     condition_called None is right formed known = absurd (condition_named_by k is known)
     condition_called (Some f) is right formed known =
         gives_hold (Fits f) (MayFault as_condition (fields (member k d no_members))) IsFlag
-        (called X S (Some f) (is_condition_formed k d) (sole_of X S k d) o n) kind.1
-        (call_holds S X as_condition k d f (is_condition_formed k d) here (λ same. absurd (kind.0 same))
+        (called (level_of X l) S (Some f) (is_condition_formed k d) (sole_of X S l k d) o n) kind.1
+        (call_holds S X l as_condition k d f (is_condition_formed k d) here (λ same. absurd (kind.0 same))
         (inl (refl, refl), λ i. argument_or as_written (sym is i)) right.formed has right.there
         (argued k d f all has formed.0) n)
       where

@@ -2,6 +2,7 @@ pub mod Told
 pub mod Named
 pub mod Calls
 pub mod Same
+pub mod Alike
 pub mod Resolved
 pub mod Holding
 pub mod Forms

@@ -1,12 +1,12 @@
 -- What is evaluated comes to the same with facts that agree at each name it refers to; where a repeat stands in it, what
 -- repeats make has to come to the same too.
-use Rattle.std.proofs.Common.{◌≡◌, ◌+◌, ◌++◌, ◌||◌, ℕ, List, Bool, true, false, Option, Some}
+use Rattle.std.proofs.Common.{◌≡◌, ◌+◌, ◌++◌, ◌||◌, ℕ, zero, suc, List, Bool, true, false, Option, Some}
 use Rattle.std.proofs.Common.{None, refl, bytes_eq, codes, if◌then◌else◌}
 use Rattle.heat_plan.specs.declared.facts.KnownFacts.{KnownFacts}
 use Rattle.heat_value.specs.Data.{Data, null, flag, whole, words, items, fields, Nodes, no_nodes, node}
 use Rattle.heat_value.specs.Data.{Members, no_members, member}
 use Rattle.heat_value.specs.declared.path.Step.TheVariants.{Key, Index}
-use Rattle.eval_words.specs.Evaluation.{Evaluating, alone}
+use Rattle.eval_words.specs.Evaluation.{Leveled, alone, replaced as level_of}
 use Rattle.eval_words.specs.Evaluation.{value_outcome, values_outcome, members_outcome, parts_outcome, repeat_outcome}
 use Rattle.eval_words.specs.Evaluation.{all_but_outcome, if_outcome, chosen_outcome, branch_outcome, condition_outcome}
 use Rattle.eval_words.specs.Evaluation.{condition_parts_outcome, conditions_outcome}
@@ -20,7 +20,7 @@ use Rattle.template_laws.specs.Readings.{AgreeOn, is_repeat, repeats_in, repeats
 use Rattle.template_laws.proofs.Calls.{AreOne, with_other, value_called, condition_called}
 use Rattle.template_laws.proofs.Told.{agree_front, agree_back, if_left, if_right}
 
-module _ (S : SceneData) (other : List KnownFacts) (X Y : Evaluating) where
+module _ (S : SceneData) (other : List KnownFacts) (X Y : Leveled) where
   abbrev pub T : SceneData
   T = with_other S other
 
@@ -69,138 +69,141 @@ module _ (S : SceneData) (other : List KnownFacts) (X Y : Evaluating) where
   its_members ms = back (own_reference ms) (references_under ms) (is_repeat (lone ms)) (repeats_under ms)
 
   mutual
-    pub value_same : (d : Data) → ReadsIn d → (n : ℕ) → value_outcome X S d n ≡ value_outcome Y T d n
-    value_same null reads n = refl
-    value_same (flag c) reads n = refl
-    value_same (whole z) reads n = refl
-    value_same (words s) reads n = refl
-    value_same (items ns) reads n = λ i. made_into items (values_same 0 ns reads n i)
-    value_same (fields ms) reads n =
-        object_same ms reads _ _ (λ i. made_into fields (members_same ms (its_members ms reads) n i)) n
+    pub value_same : (l : ℕ) (d : Data) → ReadsIn d → (n : ℕ) → value_outcome X S l d n ≡ value_outcome Y T l d n
+    value_same l null reads n = refl
+    value_same l (flag c) reads n = refl
+    value_same l (whole z) reads n = refl
+    value_same l (words s) reads n = refl
+    value_same zero (items ns) reads n = refl
+    value_same (suc l) (items ns) reads n = λ i. made_into items (values_same l 0 ns reads n i)
+    value_same zero (fields ms) reads n = refl
+    value_same (suc l) (fields ms) reads n =
+        object_same l ms reads _ _ (λ i. made_into fields (members_same l ms (its_members ms reads) n i)) n
 
-    values_same : (j : ℕ) (ns : Nodes) → ReadsAmong ns → (n : ℕ)
-        → values_outcome X S j ns n ≡ values_outcome Y T j ns n
-    values_same j no_nodes reads n = refl
-    values_same j (node d ns) reads n =
-        λ i. and_then (under (Index j) (value_same d (first_part d ns reads) n i)) (λ v m.
-        made_into (node v) (values_same (j + 1) ns (later_parts d ns reads) m i))
+    values_same : (l : ℕ) (j : ℕ) (ns : Nodes) → ReadsAmong ns → (n : ℕ)
+        → values_outcome X S l j ns n ≡ values_outcome Y T l j ns n
+    values_same l j no_nodes reads n = refl
+    values_same l j (node d ns) reads n =
+        λ i. and_then (under (Index j) (value_same l d (first_part d ns reads) n i)) (λ v m.
+        made_into (node v) (values_same l (j + 1) ns (later_parts d ns reads) m i))
 
-    pub members_same : (ms : Members) → ReadsUnder ms → (n : ℕ) → members_outcome X S ms n ≡ members_outcome Y T ms n
-    members_same no_members reads n = refl
-    members_same (member k d ms) reads n =
-        λ i. and_then (under (Key k) (value_same d (first_member k d ms reads) n i)) (λ v m.
-        made_into (member k v) (members_same ms (later_members k d ms reads) m i))
+    pub members_same : (l : ℕ) (ms : Members) → ReadsUnder ms → (n : ℕ) → members_outcome X S l ms n ≡ members_outcome Y T l ms n
+    members_same l no_members reads n = refl
+    members_same l (member k d ms) reads n =
+        λ i. and_then (under (Key k) (value_same l d (first_member k d ms reads) n i)) (λ v m.
+        made_into (member k v) (members_same l ms (later_members k d ms reads) m i))
 
-    object_same : (ms : Members) → ReadsIn (fields ms) → (o p : Outcome Data) → o ≡ p → (n : ℕ)
-        → object_outcome X S (sole X S ms) o n ≡ object_outcome Y T (sole Y T ms) p n
-    object_same no_members reads o p plain n = plain
-    object_same (member k d no_members) reads o p plain n =
+    object_same : (l : ℕ) (ms : Members) → ReadsIn (fields ms) → (o p : Outcome Data) → o ≡ p → (n : ℕ)
+        → object_outcome (level_of X l) S (sole X S l ms) o n ≡ object_outcome (level_of Y l) T (sole Y T l ms) p n
+    object_same l no_members reads o p plain n = plain
+    object_same l (member k d no_members) reads o p plain n =
         let under_it = its_members (member k d no_members) reads in
         let inside = first_member k d no_members under_it in
         let own = itself (member k d no_members) reads in
-        value_called S other X Y k d (record {
+        value_called S other X Y l k d (record {
           sole = λ i. record {
             key = k;
             given = d;
-            each = λ m. parts_same d inside m i;
-            all_but_template = λ m. repeat_same d inside m i;
-            chosen_branch = λ m. if_same d inside m i;
-            condition = λ m. condition_same d inside m i;
-            conditions = λ m. condition_parts_same d inside m i;
+            each = λ m. parts_same l d inside m i;
+            all_but_template = λ m. repeat_same l d inside m i;
+            chosen_branch = λ m. if_same l d inside m i;
+            condition = λ m. condition_same l d inside m i;
+            conditions = λ m. condition_parts_same l d inside m i;
           };
-          each = parts_same d inside;
+          each = parts_same l d inside;
           told = own.told;
           one = own.one;
         }) o p plain n
-    object_same (member k d (member l e ms)) reads o p plain n = plain
+    object_same l (member k d (member j e ms)) reads o p plain n = plain
 
-    parts_same : (d : Data) → ReadsIn d → (n : ℕ) → parts_outcome X S d n ≡ parts_outcome Y T d n
-    parts_same null reads n = refl
-    parts_same (flag c) reads n = refl
-    parts_same (whole z) reads n = refl
-    parts_same (words s) reads n = refl
-    parts_same (items ns) reads n = λ i. made_into items (values_same 0 ns reads n i)
-    parts_same (fields ms) reads n = λ i. made_into fields (members_same ms (its_members ms reads) n i)
+    parts_same : (l : ℕ) (d : Data) → ReadsIn d → (n : ℕ) → parts_outcome X S l d n ≡ parts_outcome Y T l d n
+    parts_same l null reads n = refl
+    parts_same l (flag c) reads n = refl
+    parts_same l (whole z) reads n = refl
+    parts_same l (words s) reads n = refl
+    parts_same l (items ns) reads n = λ i. made_into items (values_same l 0 ns reads n i)
+    parts_same l (fields ms) reads n = λ i. made_into fields (members_same l ms (its_members ms reads) n i)
 
-    repeat_same : (d : Data) → ReadsIn d → (n : ℕ) → repeat_outcome X S d n ≡ repeat_outcome Y T d n
-    repeat_same null reads n = refl
-    repeat_same (flag c) reads n = refl
-    repeat_same (whole z) reads n = refl
-    repeat_same (words s) reads n = refl
-    repeat_same (items ns) reads n = refl
-    repeat_same (fields ms) reads n =
-        λ i. made_into fields (all_but_same (codes "template") ms (its_members ms reads) n i)
+    repeat_same : (l : ℕ) (d : Data) → ReadsIn d → (n : ℕ) → repeat_outcome X S l d n ≡ repeat_outcome Y T l d n
+    repeat_same l null reads n = refl
+    repeat_same l (flag c) reads n = refl
+    repeat_same l (whole z) reads n = refl
+    repeat_same l (words s) reads n = refl
+    repeat_same l (items ns) reads n = refl
+    repeat_same l (fields ms) reads n =
+        λ i. made_into fields (all_but_same l (codes "template") ms (its_members ms reads) n i)
 
-    all_but_same : (but : List ℕ) (ms : Members) → ReadsUnder ms → (n : ℕ)
-        → all_but_outcome X S but ms n ≡ all_but_outcome Y T but ms n
-    all_but_same but no_members reads n = refl
-    all_but_same but (member k d ms) reads n =
+    all_but_same : (l : ℕ) (but : List ℕ) (ms : Members) → ReadsUnder ms → (n : ℕ)
+        → all_but_outcome X S l but ms n ≡ all_but_outcome Y T l but ms n
+    all_but_same l but no_members reads n = refl
+    all_but_same l but (member k d ms) reads n =
         λ i. and_then
-        (if bytes_eq k but then Gives d n else under (Key k) (value_same d (first_member k d ms reads) n i)) (λ v m.
-        made_into (member k v) (all_but_same but ms (later_members k d ms reads) m i))
+        (if bytes_eq k but then Gives d n else under (Key k) (value_same l d (first_member k d ms reads) n i)) (λ v m.
+        made_into (member k v) (all_but_same l but ms (later_members k d ms reads) m i))
 
-    if_same : (d : Data) → ReadsIn d → (n : ℕ) → if_outcome X S d n ≡ if_outcome Y T d n
-    if_same null reads n = refl
-    if_same (flag c) reads n = refl
-    if_same (whole z) reads n = refl
-    if_same (words s) reads n = refl
-    if_same (items ns) reads n = λ i. made_into items (chosen_same ns reads n i)
-    if_same (fields ms) reads n = refl
+    if_same : (l : ℕ) (d : Data) → ReadsIn d → (n : ℕ) → if_outcome X S l d n ≡ if_outcome Y T l d n
+    if_same l null reads n = refl
+    if_same l (flag c) reads n = refl
+    if_same l (whole z) reads n = refl
+    if_same l (words s) reads n = refl
+    if_same l (items ns) reads n = λ i. made_into items (chosen_same l ns reads n i)
+    if_same l (fields ms) reads n = refl
 
-    chosen_same : (ns : Nodes) → ReadsAmong ns → (n : ℕ) → chosen_outcome X S ns n ≡ chosen_outcome Y T ns n
-    chosen_same no_nodes reads n = refl
-    chosen_same (node c ns) reads n =
-        λ i. and_then (under (Index 0) (condition_same c (first_part c ns reads) n i)) (λ v m.
-        made_into (node v) (branch_same (flag_in v) ns (later_parts c ns reads) m i))
+    chosen_same : (l : ℕ) (ns : Nodes) → ReadsAmong ns → (n : ℕ) → chosen_outcome X S l ns n ≡ chosen_outcome Y T l ns n
+    chosen_same l no_nodes reads n = refl
+    chosen_same l (node c ns) reads n =
+        λ i. and_then (under (Index 0) (condition_same l c (first_part c ns reads) n i)) (λ v m.
+        made_into (node v) (branch_same l (flag_in v) ns (later_parts c ns reads) m i))
 
-    branch_same : (c : Option Bool) (ns : Nodes) → ReadsAmong ns → (n : ℕ)
-        → branch_outcome X S c ns n ≡ branch_outcome Y T c ns n
-    branch_same None no_nodes reads n = refl
-    branch_same None (node d ns) reads n = refl
-    branch_same (Some true) no_nodes reads n = refl
-    branch_same (Some true) (node d ns) reads n =
-        λ i. made_into alone (under (Index 1) (value_same d (first_part d ns reads) n i))
-    branch_same (Some false) no_nodes reads n = refl
-    branch_same (Some false) (node d no_nodes) reads n = refl
-    branch_same (Some false) (node d (node e ns)) reads n =
-        λ i. made_into alone (under (Index 2) (value_same e (first_part e ns (later_parts d (node e ns) reads)) n i))
+    branch_same : (l : ℕ) (c : Option Bool) (ns : Nodes) → ReadsAmong ns → (n : ℕ)
+        → branch_outcome X S l c ns n ≡ branch_outcome Y T l c ns n
+    branch_same l None no_nodes reads n = refl
+    branch_same l None (node d ns) reads n = refl
+    branch_same l (Some true) no_nodes reads n = refl
+    branch_same l (Some true) (node d ns) reads n =
+        λ i. made_into alone (under (Index 1) (value_same l d (first_part d ns reads) n i))
+    branch_same l (Some false) no_nodes reads n = refl
+    branch_same l (Some false) (node d no_nodes) reads n = refl
+    branch_same l (Some false) (node d (node e ns)) reads n =
+        λ i. made_into alone (under (Index 2) (value_same l e (first_part e ns (later_parts d (node e ns) reads)) n i))
 
-    condition_same : (d : Data) → ReadsIn d → (n : ℕ) → condition_outcome X S d n ≡ condition_outcome Y T d n
-    condition_same null reads n = refl
-    condition_same (flag c) reads n = refl
-    condition_same (whole z) reads n = refl
-    condition_same (words s) reads n = refl
-    condition_same (items ns) reads n = refl
-    condition_same (fields ms) reads n = object_condition_same ms reads (Gives (fields ms) n) n
+    condition_same : (l : ℕ) (d : Data) → ReadsIn d → (n : ℕ) → condition_outcome X S l d n ≡ condition_outcome Y T l d n
+    condition_same l null reads n = refl
+    condition_same l (flag c) reads n = refl
+    condition_same l (whole z) reads n = refl
+    condition_same l (words s) reads n = refl
+    condition_same l (items ns) reads n = refl
+    condition_same zero (fields ms) reads n = refl
+    condition_same (suc l) (fields ms) reads n = object_condition_same l ms reads (Gives (fields ms) n) n
 
-    object_condition_same : (ms : Members) → ReadsIn (fields ms) → (o : Outcome Data) (n : ℕ)
-        → object_condition X S (sole X S ms) o n ≡ object_condition Y T (sole Y T ms) o n
-    object_condition_same no_members reads o n = refl
-    object_condition_same (member k d no_members) reads o n =
+    object_condition_same : (l : ℕ) (ms : Members) → ReadsIn (fields ms) → (o : Outcome Data) (n : ℕ)
+        → object_condition (level_of X l) S (sole X S l ms) o n ≡ object_condition (level_of Y l) T (sole Y T l ms) o n
+    object_condition_same l no_members reads o n = refl
+    object_condition_same l (member k d no_members) reads o n =
         let inside = first_member k d no_members (its_members (member k d no_members) reads) in
-        condition_called S other X Y k d (λ i. record {
+        condition_called S other X Y l k d (λ i. record {
           key = k;
           given = d;
-          each = λ m. parts_same d inside m i;
-          all_but_template = λ m. repeat_same d inside m i;
-          chosen_branch = λ m. if_same d inside m i;
-          condition = λ m. condition_same d inside m i;
-          conditions = λ m. condition_parts_same d inside m i;
+          each = λ m. parts_same l d inside m i;
+          all_but_template = λ m. repeat_same l d inside m i;
+          chosen_branch = λ m. if_same l d inside m i;
+          condition = λ m. condition_same l d inside m i;
+          conditions = λ m. condition_parts_same l d inside m i;
         }) o n
-    object_condition_same (member k d (member l e ms)) reads o n = refl
+    object_condition_same l (member k d (member j e ms)) reads o n = refl
 
-    condition_parts_same : (d : Data) → ReadsIn d → (n : ℕ)
-        → condition_parts_outcome X S d n ≡ condition_parts_outcome Y T d n
-    condition_parts_same null reads n = refl
-    condition_parts_same (flag c) reads n = refl
-    condition_parts_same (whole z) reads n = refl
-    condition_parts_same (words s) reads n = refl
-    condition_parts_same (items ns) reads n = λ i. made_into items (conditions_same 0 ns reads n i)
-    condition_parts_same (fields ms) reads n = refl
+    condition_parts_same : (l : ℕ) (d : Data) → ReadsIn d → (n : ℕ)
+        → condition_parts_outcome X S l d n ≡ condition_parts_outcome Y T l d n
+    condition_parts_same l null reads n = refl
+    condition_parts_same l (flag c) reads n = refl
+    condition_parts_same l (whole z) reads n = refl
+    condition_parts_same l (words s) reads n = refl
+    condition_parts_same l (items ns) reads n = λ i. made_into items (conditions_same l 0 ns reads n i)
+    condition_parts_same l (fields ms) reads n = refl
 
-    conditions_same : (j : ℕ) (ns : Nodes) → ReadsAmong ns → (n : ℕ)
-        → conditions_outcome X S j ns n ≡ conditions_outcome Y T j ns n
-    conditions_same j no_nodes reads n = refl
-    conditions_same j (node d ns) reads n =
-        λ i. and_then (under (Index j) (condition_same d (first_part d ns reads) n i)) (λ v m.
-        made_into (node v) (conditions_same (j + 1) ns (later_parts d ns reads) m i))
+    conditions_same : (l : ℕ) (j : ℕ) (ns : Nodes) → ReadsAmong ns → (n : ℕ)
+        → conditions_outcome X S l j ns n ≡ conditions_outcome Y T l j ns n
+    conditions_same l j no_nodes reads n = refl
+    conditions_same l j (node d ns) reads n =
+        λ i. and_then (under (Index j) (condition_same l d (first_part d ns reads) n i)) (λ v m.
+        made_into (node v) (conditions_same l (j + 1) ns (later_parts d ns reads) m i))

@@ -1,10 +1,10 @@
 -- What was admitted is in its form, and faults by no form.
-use Rattle.std.specs.Prelude.{◌≡◌, List, Contains}
+use Rattle.std.specs.Prelude.{◌≡◌, ◌≤◌, List, Contains}
 use Rattle.heat_plan.specs.Plans.{PlanData}
 use Rattle.heat_plan.specs.declared.facts.KnownFacts.{KnownFacts}
 use Rattle.heat_plan.specs.declared.item.Item.{Item}
 use Rattle.heat_plan.specs.declared.plan.Output.{Output}
-use Rattle.heat_value.specs.Data.{fields, Members, Rises}
+use Rattle.heat_value.specs.Data.{depth, fields, Members, Rises}
 use Rattle.heat_value.specs.declared.path.Step.{Step}
 use Rattle.hot_admit.specs.Admission.{IsAdmitted}
 use Rattle.hot_admit.specs.Plans.{Given}
@@ -46,13 +46,13 @@ pub record IsPlanFormed (plan : PlanData) (known : List KnownFacts) : Type 0 whe
       → IsFormed (scene_of plan known) as_parts (fields item.props)
   pub outputs : (output : Output) → Contains plan.outputs output → IsFormed (scene_of plan known) as_value output.value
 
--- each fault of an item's properties or an output's value comes of what arguments were evaluated to, or stands in what a
--- repeat replaced
+-- each fault of an item's properties or an output's value that nest at most 64 deep comes of what arguments were evaluated
+-- to, or stands in what a repeat replaced
 pub record FaultsByNoForm (plan : PlanData) (known : List KnownFacts) : Type 0 where
   pub items : (item : Item) → Contains plan.items item → (c : FaultCode) (path : List Step)
-      → resolve plan item known ≡ Faults c path → IsPropertyFault item c path
+      → depth (fields item.props) ≤ 64 → resolve plan item known ≡ Faults c path → IsPropertyFault item c path
   pub outputs : (output : Output) → Contains plan.outputs output → (c : FaultCode) (path : List Step)
-      → eval (scene_of plan known) output.value ≡ Faults c path → MayFault as_value output.value c path
+      → depth output.value ≤ 64 → eval (scene_of plan known) output.value ≡ Faults c path → MayFault as_value output.value c path
 
 abbrev pub AdmittedIsFormed : Type 0
 AdmittedIsFormed = (template : Members) (given : Given) (plan : PlanData) → WasAdmitted template given plan

@@ -7,4 +7,4 @@ mod admission_laws;
 mod evaluation_laws;
 
 pub use admission_laws::{admitted_faults_by_no_form, plans_fault_by_no_form};
-pub use evaluation_laws::{faults_by_no_form, reads_only_named, reads_only_needs};
+pub use evaluation_laws::{faults_by_no_form, reads_only_named, reads_only_needs, reads_only_read};

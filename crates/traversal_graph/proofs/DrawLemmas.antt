@@ -6,7 +6,7 @@ use Rattle.std.proofs.lemmas.List.{append-nil}
 use Rattle.std.proofs.lemmas.List.Elements.{Contains-push, Contains-push_cases, Contains-append_left}
 use Rattle.dep_graph.specs.Paths.{HasPath, IsAcyclic}
 use Rattle.dep_graph.specs.Edges.{Links, HasEdge, IsBare, AddsEdge}
-use Rattle.dep_graph.specs.Closings.{Opens, Closes}
+use Rattle.dep_graph.specs.Closings.{Opens}
 use Rattle.dep_graph.proofs.PathLemmas.{HasPath-leads, Leads-weaker, leads_of, acyclic_from, no_loop}
 use Rattle.dep_graph.specs.Marks.{IsMarked, MarksAll}
 use Rattle.dep_graph.proofs.ClosingLemmas.{acyclic_added, reached_same}
@@ -41,7 +41,7 @@ path_along E F f a b h = let p = leads_of E a b h in HasPath-leads F a p.0 b (Le
 one : (first kept : List (ℕ × ℕ)) (before after : ℕ) → Considers first before after kept → Keeps first ((before, after) ∷ []) kept
 one first kept before after step = goes_on [] first ((before, after) ∷ []) kept before after (begins [] first refl refl) step refl
 
-pub Draws-added : (old : Draft) (graph : Links) (edges : List (ℕ × ℕ)) (before after : ℕ) → IsDraft old
+Draws-added : (old : Draft) (graph : Links) (edges : List (ℕ × ℕ)) (before after : ℕ) → IsDraft old
     → Opens before after old.graph graph → IsAcyclic (HasEdge graph) → edges ≡ old.edges ++ (before, after) ∷ []
     → Draws ((before, after) ∷ []) old (record { graph = graph; edges = edges })
 Draws-added old graph edges before after draft opens acyclic made = record {
@@ -78,11 +78,6 @@ Draws-same old before after draft h = record {
   keeps = one old.edges old.edges before after
       (inl (path_along (HasEdge old.graph) (Joins old.edges) (λ x y k. (draft.edges x y).0 k) after before h, refl));
 }
-
-pub Draws-refused : (old : Draft) (graph : Links) (before after : ℕ) (path : List ℕ) → IsDraft old
-    → Closes before after old.graph graph path
-    → Draws ((before, after) ∷ []) old (record { graph = graph; edges = old.edges })
-Draws-refused old graph before after path draft closes = rw closes.same (Draws-same old before after draft (path, closes.path_is))
 
 -- an edge that is added where no path leads back
 pub Draws-opened : (old : Draft) (graph : Links) (edges : List (ℕ × ℕ)) (before after : ℕ) → IsDraft old

@@ -1,13 +1,13 @@
 -- Candidates that form no cycle together are all kept, and what is kept once stays.
-use Rattle.std.proofs.Common.{◌≡◌, ◌⊎◌, ℕ, ◌+◌, ◌<◌, ◌≤◌, Bool, true, false, cond, Some, None, Option, List, [], ◌∷◌, ◌++◌, length, refl, sym, ap, subst, ◌∙◌, inl, inr, append_assoc, arith}
+use Rattle.std.proofs.Common.{◌≡◌, ◌⊎◌, ℕ, zero, suc, ◌+◌, ◌<◌, ◌≤◌, Bool, true, false, cond, Some, None, Option, List, [], ◌∷◌, ◌++◌, length, get_or, take, drop, refl, sym, ap, subst, ◌∙◌, inl, inr, append_assoc, arith}
 use Rattle.std.specs.Prelude.{Contains, nat_lt, slice_get}
 use Rattle.std.specs.Str.{bytes_eq}
 use Rattle.std.specs.Option.{option_map_or}
 use Rattle.std.proofs.lemmas.Bool.{lt-ltb, le-ltb}
-use Rattle.std.proofs.lemmas.List.{append-nil, same_from_push}
+use Rattle.std.proofs.lemmas.List.{append-nil, same_from_push, take_all, take_more, take-append-drop}
 use Rattle.std.proofs.lemmas.List.Elements.{Contains-append_left, Contains-append_right, Contains-append_cases, Contains-push, Contains-push_cases}
 use Rattle.std.proofs.lemmas.Option.{slice_get_within}
-use Rattle.dep_graph.specs.Paths.{IsAcyclic}
+use Rattle.dep_graph.specs.Paths.{IsAcyclic, HasPath}
 use Rattle.dep_graph.proofs.PathLemmas.{HasPath-leads, Leads-weaker, leads_of, acyclic_from, no_loop}
 use Rattle.heat_plan.specs.Order.{Rising}
 use Rattle.heat_plan.specs.Plans.{names_of, IsPlan, IsListing}
@@ -33,7 +33,7 @@ last_pair (x ∷ l) = elim (last_pair l) [
   | inr h ↦ inr (x ∷ h.0, h.1, ap (λ (m : Pairs). x ∷ m) h.2)
 ]
 
-acyclic_weaker : (E F : ℕ → ℕ → Type 0) → ((x y : ℕ) → E x y → F x y) → IsAcyclic F → IsAcyclic E
+pub acyclic_weaker : (E F : ℕ → ℕ → Type 0) → ((x y : ℕ) → E x y → F x y) → IsAcyclic F → IsAcyclic E
 acyclic_weaker E F f acyclic = acyclic_from E (λ a loop.
     let p = leads_of E loop.0 a loop.2 in
     no_loop F acyclic a (loop.0, f a loop.0 loop.1, HasPath-leads F loop.0 p.0 a (Leads-weaker E F f loop.0 p.0 a p.1)))
@@ -102,6 +102,33 @@ front_kept all kept (goes_on earlier mid c k before after h step is) front rest 
           (sym is ∙ e ∙ ap (λ (l : Pairs). front ++ l) last.2 ∙ sym (append_assoc front last.0 (last.1 ∷ []))) in
           kept_more mid k before after step p (front_kept earlier mid h front last.0 parted.0 acyclic p m))
     ]
+
+-- candidates that form no cycle are kept, each
+kept_before : (cs : Pairs) → IsAcyclic (Joins cs) → (n : ℕ) → n ≤ length cs → Keeps [] (take n cs) (take n cs)
+kept_before cs acyclic zero le = begins [] [] refl refl
+kept_before cs acyclic (suc n) le =
+    let next : ℕ × ℕ = get_or cs n (0, 0) in
+    let more : take (suc n) cs ≡ take n cs ++ next ∷ [] = ap (λ (m : ℕ). take m cs) {x = suc n} {y = n + 1} (omega arith) ∙ take_more cs n (0, 0) (omega arith) in
+    goes_on (take n cs) (take n cs) (take (suc n) cs) (take (suc n) cs) next.0 next.1 (kept_before cs acyclic n (omega arith))
+    (inr (open_ cs acyclic (take n cs) (drop (suc n) cs) next (sym (take-append-drop (suc n) cs) ∙ ap (λ (l : Pairs). l ++ drop (suc n) cs) more), more)) more
+  where
+    open_ : (cs : Pairs) → IsAcyclic (Joins cs) → (front back : Pairs) (next : ℕ × ℕ) → cs ≡ (front ++ next ∷ []) ++ back
+        → HasPath (Joins front) next.1 next.0 → ⊥
+    open_ cs acyclic front back next is h =
+        let p = leads_of (Joins front) next.1 next.0 h in
+        let C : ℕ × ℕ → Pairs → Type 0 = λ z l. Contains l z in
+        let up : (x y : ℕ) → Joins front x y → Joins cs x y = λ x y m.
+        subst (C (x, y)) (sym is) (Contains-append_left (front ++ next ∷ []) back (x, y) (Contains-append_left front (next ∷ []) (x, y) m)) in
+        no_loop (Joins cs) acyclic next.0 (
+          next.1,
+          subst (C (next.0, next.1)) (sym is) (Contains-append_left (front ++ next ∷ []) back (next.0, next.1) (Contains-push front next)),
+          HasPath-leads (Joins cs) next.1 p.0 next.0 (Leads-weaker (Joins front) (Joins cs) up next.1 p.0 next.0 p.1),
+        )
+
+pub keeps_all : (cs : Pairs) → IsAcyclic (Joins cs) → Keeps [] cs cs
+keeps_all cs acyclic =
+    let whole : take (length cs) cs ≡ cs = take_all (length cs) cs (omega arith) in
+    rw whole at (kept_before cs acyclic (length cs) (omega arith))
 
 -- ---- a plan's
 

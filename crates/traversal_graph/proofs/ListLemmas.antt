@@ -1,23 +1,87 @@
 -- The lists that are read from a graph, one edge or node more.
-use Rattle.std.proofs.Common.{◌≡◌, ℕ, ◌+◌, ◌<◌, List, [], ◌∷◌, ◌++◌, length, get_or, take, sym, ap, subst, inl, inr, arith}
+use Rattle.std.proofs.Common.{◌≡◌, ◌↔◌, ◌∙◌, ℕ, ◌+◌, ◌<◌, ◌≤◌, Bool, true, false, IsTrue, List, [], ◌∷◌, ◌++◌, length, get_or, set, take, replicate, refl, sym, ap, subst, inl, inr, arith}
 use Rattle.std.specs.Prelude.{Contains}
-use Rattle.std.proofs.lemmas.Bool.{cases_lt}
-use Rattle.std.proofs.lemmas.List.{take_more}
+use Rattle.std.proofs.lemmas.Bool.{cases_eq, cases_lt, false≢true}
+use Rattle.std.proofs.lemmas.List.{take_all, take_more, get_or_read, get_or-set_same, get_or-set_other, get_or-replicate, length-replicate, length-set}
 use Rattle.std.proofs.lemmas.List.Elements.{Contains-get_or, Contains-push, Contains-push_cases, Contains-append_left}
 use Rattle.std.proofs.lemmas.List.Quantifiers.{all_pairs_push}
 use Rattle.dep_graph.specs.Lists.{ListsAll, PutsIn}
+use Rattle.dep_graph.specs.Marks.{MarksAll}
 use Rattle.traversal_graph.specs.Builds.{Joins}
 
-pub edge_found : (edges : List (ℕ × ℕ)) (i node : ℕ) → i < length edges → (get_or edges i (0, 0)).1 ≡ node
+-- what a mark says of its node
+pub marked_behind : (edges : List (ℕ × ℕ)) (marks : List Bool) (node : ℕ) (found : Bool) → node < length marks
+    → MarksAll (λ n. (before : ℕ) × Joins edges before n) marks → found ≡ get_or marks node found → found ≡ true
     → (before : ℕ) × Joins edges before node
-edge_found edges i node lt e =
-    let J : ℕ → Type 0 = λ x. Joins edges (get_or edges i (0, 0)).0 x in
-    ((get_or edges i (0, 0)).0, subst J e (Contains-get_or edges i (0, 0) lt))
+marked_behind edges marks node found lt exact read e =
+    (exact node lt).0 (sym (get_or_read marks node found lt read false) ∙ e)
 
-pub no_edge_found : (edges : List (ℕ × ℕ)) (node : ℕ)
-    → ((k : ℕ) (d : ℕ × ℕ) → k < length edges → (get_or edges k d).1 ≡ node → ⊥)
+pub unmarked_leaf : (edges : List (ℕ × ℕ)) (marks : List Bool) (node : ℕ) (found : Bool) → node < length marks
+    → MarksAll (λ n. (before : ℕ) × Joins edges before n) marks → found ≡ get_or marks node found → found ≡ false
     → (before : ℕ) → Joins edges before node → ⊥
-no_edge_found edges node none before (k, lt, e) = none k (before, node) lt (ap (λ (p : ℕ × ℕ). p.1) e)
+unmarked_leaf edges marks node found lt exact read e before j =
+    false≢true (sym e ∙ get_or_read marks node found lt read false ∙ (exact node lt).1 (before, j))
+
+-- a mark more: the edge's after has it
+pub MarksAll-more : (edges : List (ℕ × ℕ)) (i : ℕ) (marks : List Bool) → i < length edges → (get_or edges i (0, 0)).1 < length marks
+    → MarksAll (λ n. (before : ℕ) × Joins (take i edges) before n) marks
+    → MarksAll (λ n. (before : ℕ) × Joins (take (i + 1) edges) before n) (set marks (get_or edges i (0, 0)).1 true)
+MarksAll-more edges i marks lt inside exact node within = rw (take_more edges i (0, 0) lt)
+    (elim (cases_eq node (get_or edges i (0, 0)).1) [
+      | inl e ↦ (
+        λ _. (
+          (get_or edges i (0, 0)).0,
+          (let J : ℕ → Type 0 = λ n. Contains (take i edges ++ get_or edges i (0, 0) ∷ []) ((get_or edges i (0, 0)).0, n) in
+              subst J (sym e) (Contains-push (take i edges) (get_or edges i (0, 0)))),
+        ),
+        λ _. rw (e, get_or-set_same marks (get_or edges i (0, 0)).1 true false inside) refl,
+      )
+      | inr ne ↦ rw (get_or-set_other marks (get_or edges i (0, 0)).1 node true false ne) (
+        λ m. (let h = was.0 m in (h.0, Contains-append_left (take i edges) (get_or edges i (0, 0) ∷ []) (h.0, node) h.1)),
+        λ h. was.1 (h.0, earlier ne h.0 h.1),
+      )
+    ])
+  where
+    was : IsTrue (get_or marks node false) ↔ ((before : ℕ) × Joins (take i edges) before node)
+    was = exact node (rw (length-set marks (get_or edges i (0, 0)).1 true) at within)
+
+    earlier : (node ≡ (get_or edges i (0, 0)).1 → ⊥) → (before : ℕ) → Contains (take i edges ++ get_or edges i (0, 0) ∷ []) (before, node)
+        → Contains (take i edges) (before, node)
+    earlier ne before c = elim (Contains-push_cases (take i edges) (get_or edges i (0, 0)) (before, node) c) [
+      | inl k ↦ k
+      | inr e ↦ absurd (ne (sym (ap (λ (p : ℕ × ℕ). p.1) e)))
+    ]
+
+-- an edge to a number past the nodes marks none
+pub MarksAll-past : (edges : List (ℕ × ℕ)) (i : ℕ) (marks : List Bool) → i < length edges → length marks ≤ (get_or edges i (0, 0)).1
+    → MarksAll (λ n. (before : ℕ) × Joins (take i edges) before n) marks
+    → MarksAll (λ n. (before : ℕ) × Joins (take (i + 1) edges) before n) marks
+MarksAll-past edges i marks lt past exact node within = rw (take_more edges i (0, 0) lt) (
+  λ m. (let h = was.0 m in (h.0, Contains-append_left (take i edges) (get_or edges i (0, 0) ∷ []) (h.0, node) h.1)),
+  λ h. was.1 (h.0, earlier h.0 h.1),
+)
+  where
+    was : IsTrue (get_or marks node false) ↔ ((before : ℕ) × Joins (take i edges) before node)
+    was = exact node within
+
+    earlier : (before : ℕ) → Contains (take i edges ++ get_or edges i (0, 0) ∷ []) (before, node) → Contains (take i edges) (before, node)
+    earlier before c = elim (Contains-push_cases (take i edges) (get_or edges i (0, 0)) (before, node) c) [
+      | inl k ↦ k
+      | inr e ↦ (let n : (get_or edges i (0, 0)).1 ≡ node = ap (λ (p : ℕ × ℕ). p.1) e in absurd (omega arith))
+    ]
+
+pub MarksAll-all : (edges : List (ℕ × ℕ)) (i : ℕ) (marks : List Bool) → length edges ≤ i
+    → MarksAll (λ n. (before : ℕ) × Joins (take i edges) before n) marks → MarksAll (λ n. (before : ℕ) × Joins edges before n) marks
+MarksAll-all edges i marks le h = rw (take_all i edges le) at h
+
+pub MarksAll-none : (n : ℕ) → MarksAll (λ node. (before : ℕ) × Joins [] before node) (replicate n false)
+MarksAll-none n node within = (
+  λ m. absurd (false≢true (sym (get_or-replicate n node false false (rw (length-replicate {A = Bool} n false) at within)) ∙ m)),
+  λ h. absurd (nowhere h.0 h.1),
+)
+  where
+    nowhere : (before : ℕ) → Contains {X = ℕ × ℕ} [] (before, node) → ⊥
+    nowhere before (k, lt, e) = absurd (omega arith)
 
 -- an edge more: its other end goes in
 pub ListsAll-more : (edges : List (ℕ × ℕ)) (i : ℕ) (pair : ℕ → ℕ × ℕ) (x : ℕ) (old new : List ℕ) → i < length edges

@@ -31,10 +31,10 @@ IsBehind-map first Is So to a b h = record {
 
 -- the pairs of rows that a test passes
 module _ (test : RowBrief → RowBrief → Bool) (first : ℕ) (rows : List RowBrief) where
-  abbrev edge_of : ℕ → RowBrief → ℕ → RowBrief → List (ℕ × ℕ)
+  abbrev pub edge_of : ℕ → RowBrief → ℕ → RowBrief → List (ℕ × ℕ)
   edge_of r row q other = edge_if (test row other) (first + r) (first + q)
 
-  abbrev behind : ℕ → RowBrief → List (ℕ × ℕ)
+  abbrev pub behind : ℕ → RowBrief → List (ℕ × ℕ)
   behind r row = each rows (edge_of r row)
 
   pub record Passes (r q : ℕ) : Type 0 where
@@ -44,12 +44,12 @@ module _ (test : RowBrief → RowBrief → Bool) (first : ℕ) (rows : List RowB
     pub other_at : slice_get rows q ≡ Some other
     pub passes : test row other ≡ true
 
-  first_is : (r : ℕ) (row : RowBrief) (p : ℕ × ℕ) → Contains (behind r row) p → p.0 ≡ first + r
+  pub first_is : (r : ℕ) (row : RowBrief) (p : ℕ × ℕ) → Contains (behind r row) p → p.0 ≡ first + r
   first_is r row p c =
       let e = in_each (edge_of r row) 0 rows p c in
       sym (ap (λ (x : ℕ × ℕ). x.0) (in_if (test row e.1) (first + r) (first + (0 + e.0)) p e.3).1)
 
-  rise : (r : ℕ) (row : RowBrief) → AllPairs Before (behind r row)
+  pub rise : (r : ℕ) (row : RowBrief) → AllPairs Before (behind r row)
   rise r row = Rises-second (edge_of r row) (first + r) (λ q. first + q) (λ i j lt. omega arith)
       (λ q other. Rises-if (test row other) (first + r) (first + q))
       (λ q other p c. sym (in_if (test row other) (first + r) (first + q) p c).1) 0 rows
@@ -95,26 +95,26 @@ module _ (test : RowBrief → RowBrief → Bool) (first : ℕ) (rows : List RowB
 
 -- ---- what the tests say
 
-required : (numbers : List ℕ) (n : ℕ) → list_any (λ no. no == n) numbers ≡ true → Contains numbers n
+pub required : (numbers : List ℕ) (n : ℕ) → list_any (λ no. no == n) numbers ≡ true → Contains numbers n
 required numbers n e =
     let a = Any-from_list_any (λ (no : ℕ). no == n) numbers e in
     let C : ℕ → Type 0 = λ z. Contains numbers z in
     subst C (eqb-true a.1 n a.4) (a.0, a.2, a.3)
 
-tested : (numbers : List ℕ) (n : ℕ) → Contains numbers n → list_any (λ no. no == n) numbers ≡ true
+pub tested : (numbers : List ℕ) (n : ℕ) → Contains numbers n → list_any (λ no. no == n) numbers ≡ true
 tested numbers n c = list_any_at (λ (no : ℕ). no == n) numbers c.0 n c.1 (eq-eqb (get_or numbers c.0 n) n c.2)
 
-replaced : (old : Option ℕ) (n : ℕ) → option_map_or (λ no. no == n) old false ≡ true → old ≡ Some n
+pub replaced : (old : Option ℕ) (n : ℕ) → option_map_or (λ no. no == n) old false ≡ true → old ≡ Some n
 replaced None n e = absurd (false≢true e)
 replaced (Some x) n e = ap (λ (z : ℕ). Some z) (eqb-true x n e)
 
-replaces : (old : Option ℕ) (n : ℕ) → old ≡ Some n → option_map_or (λ no. no == n) old false ≡ true
+pub replaces : (old : Option ℕ) (n : ℕ) → old ≡ Some n → option_map_or (λ no. no == n) old false ≡ true
 replaces old n e = rw e (eq-eqb n n refl)
 
-abbrev requires_test : RowBrief → RowBrief → Bool
+abbrev pub requires_test : RowBrief → RowBrief → Bool
 requires_test row other = list_any (λ no. no == other.no) row.requires_
 
-abbrev replaces_test : RowBrief → RowBrief → Bool
+abbrev pub replaces_test : RowBrief → RowBrief → Bool
 replaces_test row other = option_map_or (λ no. no == other.no) row.replaces false
 
 -- 'the number of the row at q is among what the row at r requires', in rising r and q

@@ -14,7 +14,7 @@ use Rattle.heat_plan.specs.Plans.{names_of}
 use Rattle.heat_plan.specs.declared.item.Item.{Item}
 use Rattle.traversal_graph.specs.declared.brief.RowBrief.{RowBrief}
 use Rattle.traversal_graph.specs.Candidates.{each_from, edge_if, place_of, rows_behind}
-use Rattle.traversal_graph.specs.Owners.{owners_in, owned_behind}
+use Rattle.traversal_graph.specs.Fans.{owned_behind}
 use Rattle.traversal_graph.proofs.NeedMembers.{same_name, place_there}
 use Rattle.traversal_graph.proofs.PlaceLemmas.{place_found}
 
@@ -54,11 +54,11 @@ owner_is items place item name up lt at = by (bytes_eq name item.name) refl
 -- so that the rows behind an item are told by their items' places
 pub owned_rows : (items : List Item) (rows : List RowBrief) (first place : ℕ) (item : Item) → Rising (names_of items)
     → place < length items → item ≡ get_or items place item
-    → owned_behind first (owners_in items rows) place ≡ rows_behind first rows place item
+    → owned_behind items rows first place ≡ rows_behind first rows place item
 owned_rows items rows first place item up lt at = go 0 rows
   where
     go : (n : ℕ) (rows : List RowBrief)
-        → each_from n (owners_in items rows) (λ (r owner : ℕ). edge_if (owner == place) place (first + r))
+        → each_from n rows (λ (r : ℕ) (row : RowBrief). edge_if (place_of items row.name == place) place (first + r))
         ≡ each_from n rows (λ (r : ℕ) (row : RowBrief). edge_if (bytes_eq row.name item.name) place (first + r))
     go n [] = refl
     go n (row ∷ rows) =

@@ -23,6 +23,10 @@ edge_if passes before after = cond passes ((before, after) ∷ []) []
 abbrev pub edges_out : ℕ → List ℕ → List (ℕ × ℕ)
 edges_out before nodes = map (λ (after : ℕ). (before, after)) nodes
 
+-- an edge from each of the nodes to a node
+abbrev pub edges_in : List ℕ → ℕ → List (ℕ × ℕ)
+edges_in nodes after = map (λ (before : ℕ). (before, after)) nodes
+
 -- the place of the item of this name
 abbrev pub place_of : List Item → List ℕ → ℕ
 place_of items name = position_or_len (λ (i : Item). bytes_eq name i.name) items

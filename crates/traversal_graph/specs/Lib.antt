@@ -1,6 +1,7 @@
 pub mod Builds
 pub mod Candidates
-pub mod Owners
+pub mod Fans
+pub mod Numbered
 pub mod Nodes
 pub mod Drafts
 pub mod Neighbours

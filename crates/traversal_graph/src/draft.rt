@@ -5,7 +5,7 @@ ghost use Rattle.dep_graph.specs.Edges.{HasEdge};
 ghost use Rattle.dep_graph.specs.Marks.{IsMarked, MarksAll};
 ghost use Rattle.dep_graph.specs.Paths.{HasPath};
 
-use dep_graph::{Added, Graph, Marks};
+use dep_graph::{Graph, Marks};
 use heat_value::Seq;
 use std::alloc::{AllocError, Global};
 
@@ -17,7 +17,6 @@ pub(crate) struct Draft {
 }
 
 impl Draft {
-    ghost use Rattle.traversal_graph.specs.Candidates.{edge_if};
     ghost use Rattle.traversal_graph.specs.Drafts.{IsDraft, IsBareDraft, Draws};
 
     /// So many nodes and no edge.
@@ -28,20 +27,6 @@ impl Draft {
             graph: Graph::new(alloc, size)?,
             edges: Seq::new(alloc),
         })
-    }
-
-    /// Keeps an edge, unless it would close a cycle.
-    pub(crate) fn draw(&mut self, before: u32, after: u32) -> Result<(), AllocError>
-        requires draft { IsDraft self.old }
-        requires before { before < length self.old.graph }
-        requires after { after < length self.old.graph }
-        ensures { OnOk result (Draws ((before, after) ∷ []) self.old self.new) }
-    {
-        if let Added::WouldClose(_) = self.graph.add_unless_cycle(before, after)? {
-            return Ok(());
-        }
-        self.edges.push((before, after))?;
-        Ok(())
     }
 
     /// Keeps an edge into a node whose reach is known, unless it would close a cycle.
@@ -89,24 +74,6 @@ impl Draft {
         }
         self.graph.add_edge(before, after)?;
         self.edges.push((before, after))?;
-        Ok(())
-    }
-
-    /// Keeps an edge where the test passes, unless it would close a cycle.
-    pub(crate) fn draw_if(
-        &mut self,
-        passes: bool,
-        before: u32,
-        after: u32,
-    ) -> Result<(), AllocError>
-        requires draft { IsDraft self.old }
-        requires before { before < length self.old.graph }
-        requires after { after < length self.old.graph }
-        ensures { OnOk result (Draws (edge_if passes before after) self.old self.new) }
-    {
-        if passes {
-            self.draw(before, after)?;
-        }
         Ok(())
     }
 }

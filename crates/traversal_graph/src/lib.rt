@@ -6,9 +6,13 @@
 mod brief;
 mod building;
 mod candidates;
+mod closing;
 mod draft;
+mod drawing;
+mod fans;
 mod laws;
 mod lists;
+mod numbered;
 mod shape;
 
 pub use brief::RowBrief;

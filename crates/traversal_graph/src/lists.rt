@@ -1,8 +1,9 @@
 //! The lists that a traversal reads from its graph, each rising.
 
-ghost use Rattle.std.specs.Prelude.{◌≡◌, ◌<◌, ℕ, [], IfOk, OnOk, OnErr, length, replicate, slice_index_or};
-ghost use Rattle.std.specs.Bool.{OnTrue, OnFalse};
+ghost use Rattle.std.specs.Prelude.{◌≡◌, ◌<◌, ℕ, [], IfOk, OnOk, OnErr, length, replicate};
+ghost use Rattle.std.specs.Prelude.{slice_index_or, slice_set, true};
 ghost use Rattle.dep_graph.specs.Lists.{ListsAll};
+ghost use Rattle.dep_graph.specs.Marks.{MarksAll};
 ghost use Rattle.traversal_graph.specs.Builds.{Joins};
 ghost use Rattle.traversal_graph.specs.Neighbours.{AreRising, ListsPreds, PutsPred};
 
@@ -21,8 +22,9 @@ impl TravGraph {
             return Err(AllocError);
         };
         let mut leaves = Seq::new(self.nodes.allocator());
+        let behind = marks_behind(self.nodes.allocator(), self.edges.as_slice(), count)?;
         for node in 0..count {
-            if !is_behind(self.edges.as_slice(), node) {
+            if !behind[node as usize] {
                 leaves.push(node)?;
             }
         }
@@ -69,17 +71,27 @@ impl TravGraph {
     }
 }
 
-// Whether an edge leads into a node.
-fn is_behind(edges: &[(u32, u32)], node: u32) -> bool
-    ensures leads { OnTrue result ((before : ℕ) × Joins edges.now before node) }
-    ensures leaf { OnFalse result ((before : ℕ) → ¬ Joins edges.now before node) }
+// A mark on each node into which an edge leads, by one pass over the edges.
+fn marks_behind(alloc: Global, edges: &[(u32, u32)], count: u32) -> Result<Vec<bool>, AllocError>
+    ensures size { IfOk result (λ marks. length marks.items ≡ count) }
+    ensures exact { IfOk result (λ marks.
+        MarksAll (λ node. (before : ℕ) × Joins edges.now before node) marks.items) }
 {
+    let mut marks = vec![in alloc; false; count as usize]?;
     for (_, after) in edges {
-        if *after == node {
-            return true;
+        if *after < count {
+            mark(&mut marks, *after as usize);
         }
     }
-    false
+    Ok(marks)
+}
+
+// Puts a mark on a node.
+fn mark(marks: &mut Vec<bool>, at: usize)
+    requires { at < length marks.old.items }
+    ensures { marks.new.items ≡ slice_set marks.old.items at true }
+{
+    marks[at] = true;
 }
 
 // So many lists without nodes.

@@ -19,7 +19,7 @@ use Rattle.step_relation.specs.Moves.{Move, ask_begun, ask_failed, poll_failed, 
 use Rattle.step_relation.specs.Commands.{laid_changes}
 use Rattle.step_relation.specs.Orders.{Command, cancel, create, delete, plan_back, rollback_sets, update}
 use Rattle.step_relation.specs.Steps.{BeginsWithCall, IsNote, Step, close, command, engines_from, enlist, note, notes}
-use Rattle.step_relation.specs.Steps.{past_engines, ran, restart, restart_changes, shows, stop, turn, turned, unstored}
+use Rattle.step_relation.specs.Steps.{past_engines, previews, ran, restart, restart_changes, shows, stop, turn, turned, unstored}
 use Rattle.step_relation.specs.Turns.{Turn}
 use Rattle.step_relation.specs.Opening.{Opening}
 use Rattle.history_laws.proofs.tables.Frame.{applied-append}
@@ -86,6 +86,7 @@ note_silent _ (shows it stack) = tt
 note_silent _ (notes line code path) = tt
 note_silent _ (ran idle turns) = tt
 note_silent _ (turned e lost) = tt
+note_silent _ (previews stack forecast) = tt
 
 module _ (o : Opening) (h : List Entry) (s : StateData) (w : Workable o h s) where
   abbrev Goal : List Change → List Entry → Type 0

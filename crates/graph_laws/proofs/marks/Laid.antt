@@ -34,7 +34,9 @@ use Rattle.graph_laws.proofs.graphs.Kept.{sends, sent}
 use Rattle.graph_laws.proofs.marks.Own.{marks_by_own}
 use Rattle.history_laws.proofs.tables.Ordered.{IsProper, back_is_plan, back_proper, no_plan, ordered_past}
 use Rattle.history_laws.proofs.tables.Puts.{all_contains, contains_head, contains_there, put_rows, rows_first}
+use Rattle.history_laws.proofs.tables.Once.{once_applied}
 use Rattle.history_laws.proofs.tables.Rows.{graph_here, past-key, past_cut, past_put, row_put, same_some, stack_gone, stack_here}
+use Rattle.history_laws.proofs.tables.Once.{once_applied}
 use Rattle.history_laws.proofs.tables.Rows.{text_or_not}
 use Rattle.core_state.specs.declared.change.Change.TheVariants as change_to
 
@@ -287,7 +289,10 @@ module _ (s : StateData) (S : Standing s) where
         (laid_is s S name items it k ordered) at))
 
 pub pasts_by_commands : KeptByCommands PastsFit
-pasts_by_commands s name items it k S ordered = record { each = go } where
+pasts_by_commands s name items it k S ordered = record {
+  once = once_applied (laid_changes s name items it k) s S.pasts.once;
+  each = go;
+} where
   go : (other : List ℕ) (p : Past) → past_at (applied (laid_changes s name items it k) s).pasts other ≡ Some p
       → PastFits (applied (laid_changes s name items it k) s) p
   go other p at = elim (text_or_not other name) [

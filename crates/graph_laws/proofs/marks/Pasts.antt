@@ -41,6 +41,7 @@ use Rattle.history_laws.proofs.frames.Marks.{past_fits_stays}
 use Rattle.history_laws.proofs.frames.OnOne.{moves_on_one}
 use Rattle.history_laws.specs.frames.Laws.{stack_of}
 use Rattle.graph_laws.proofs.marks.Finish.{after, finished_is}
+use Rattle.history_laws.proofs.tables.Once.{PastsOnce, once_applied}
 use Rattle.history_laws.proofs.tables.Puts.{all_append}
 use Rattle.history_laws.proofs.tables.Tables.{some_put}
 use Rattle.history_laws.proofs.tables.Rows.{past-key, past_cut, stack-key, stack_cut, stack_put, text_or_not}
@@ -55,8 +56,8 @@ pub record KeepsPast (s t : StateData) (own : List ℕ) : Type 0 where
       (stack_at t.stacks own)
 
 pub pasts_by_own : (s : StateData) → Standing s → (t : StateData) (own : List ℕ) → Elsewhere own s t
-    → KeepsPast s t own → PastsFit t
-pasts_by_own s S t own E K = record { each = go } where
+    → KeepsPast s t own → PastsOnce t.pasts → PastsFit t
+pasts_by_own s S t own E K once = record { once = once; each = go } where
   mine : (p : Past) → past_at t.pasts own ≡ Some p → p.stack ≡ own → PastFits t p
   mine p at is =
       let old : PastFits s p = S.pasts.each own p (K.pasts p at) in record {
@@ -317,3 +318,4 @@ pub pasts_by_moves : KeptByMoves PastsFit
 pasts_by_moves judges s e given failed cs es S move tied =
     pasts_by_own s S (applied cs s) (stack_of s e given failed cs es move)
     (moves_on_one s e given failed cs es S move) (move_keeps s e given failed cs es S move)
+    (once_applied cs s S.pasts.once)

@@ -131,6 +131,7 @@ released-grows x tokens (what.Show it stack) c = c
 released-grows x tokens (what.Note line code path) c = c
 released-grows x tokens (what.Ran idle turns) c = c
 released-grows x tokens (what.Turned engine lost) c = c
+released-grows x tokens (what.Preview stack forecast) c = c
 released-grows x tokens what.Closed c = c
 
 pub released_on-grows : (x : Token) (tokens : List Token) (es : List Entry) → Contains tokens x

@@ -12,7 +12,7 @@ use Rattle.step_relation.specs.declared.What.{What}
 use Rattle.step_relation.specs.declared.Stack.{Stack}
 use Rattle.step_relation.specs.Given.{Answer, Given}
 use Rattle.step_relation.specs.Moves.{Move}
-use Rattle.step_relation.specs.Steps.{BeginsWithCall, IsNote, notes, ran, shows, turned}
+use Rattle.step_relation.specs.Steps.{BeginsWithCall, IsNote, notes, previews, ran, shows, turned}
 use Rattle.step_relation.specs.Writes.{call_entry, entry_of}
 use Rattle.step_relation.specs.Opening.{Opening}
 use Rattle.step_relation.specs.Stored.{released_by, stored_by}
@@ -56,6 +56,13 @@ note_facts _ (ran idle turns) = record {
       λ ts. refl;
 }
 note_facts _ (turned e lost) = record {
+  unmarking = tt;
+  uncalling = tt;
+  stored_is = λ rows. refl;
+  released_is =
+      λ ts. refl;
+}
+note_facts _ (previews stack forecast) = record {
   unmarking = tt;
   uncalling = tt;
   stored_is = λ rows. refl;

@@ -23,6 +23,7 @@ use Rattle.step_relation.specs.Writes.{entry_of}
 use Rattle.step_relation.specs.Could.{could_of}
 use Rattle.step_relation.specs.Marked.{Marked, marked_stack}
 use Rattle.step_relation.specs.Newest.{latest_of}
+use Rattle.step_relation.specs.Policies.{PoliciesFit}
 use Rattle.step_relation.specs.Opening.{Opening, empty_opening}
 use Rattle.step_relation.specs.Agrees.{Agrees}
 use Rattle.step_relation.specs.Laws.{EmptyIsSound}
@@ -126,6 +127,7 @@ module _ (engines : ℕ) (leaving : Token → Bool) where
   standing = record {
     links = links;
     shape = record {
+      stand = λ n g at_n. absurd (no_graph n g at_n);
       graphs = λ n st at_n. absurd (no_stack n st at_n);
       rows = λ n st at_n. absurd (no_stack n st at_n);
       each_row = λ n r at_n. absurd (no_row n r at_n);
@@ -138,7 +140,10 @@ module _ (engines : ℕ) (leaving : Token → Bool) where
     };
     marks = record { each = λ n st at_n. absurd (no_stack n st at_n) };
     covered = record { each = λ n st g i node at_n. absurd (no_stack n st at_n) };
-    pasts = record { each = λ n p at_n. absurd (no_past n p at_n) };
+    pasts = record {
+      once = λ i j d lt within. absurd (omega (arith, within));
+      each = λ n p at_n. absurd (no_past n p at_n);
+    };
   }
 
   dead : (t : Token) (it : Living) → ¬ Contains (could_of o [] t) (Some it)
@@ -178,8 +183,11 @@ module _ (engines : ℕ) (leaving : Token → Bool) where
     none_behind [] behind e is c = none_in e (subst (λ (es : List Entry). Contains es e) (sym is) c)
     none_behind (b ∷ before) behind e is c = cc
 
+  policies : PoliciesFit o [] o.state
+  policies = record { each = λ n r at_n. absurd (no_row n r at_n) }
+
   empty : Sound o [] o.state
-  empty = record { standing = standing; agrees = agrees; tells = tells; released = released_ }
+  empty = record { standing = standing; agrees = agrees; tells = tells; released = released_; policies = policies }
 
 pub empty_is_sound : EmptyIsSound
 empty_is_sound engines leaving = empty engines leaving

@@ -66,7 +66,7 @@ engine_rolls s _ _ _ n (rolls_back st actor_ found forward incomplete) actor = r
 paired_any : (o : Opening) (g : List Entry) (e : Entry) (es : List Entry)
     → ((token : Token) → e.what ≢ what.Release token) → IsPaired o g e es
 paired_any o g e [] keeps_ = keeps_
-paired_any o g e (next ∷ es) keeps_ = followed_plain o g e next keeps_
+paired_any o g e (next ∷ es) keeps_ = followed_plain e (Some next) keeps_
 
 module _ (o : Opening) (h : List Entry) (s : StateData) (x : Sound o h s) (name : List ℕ) (items : List Item)
     (it : Sets) (k : Lays s name items)

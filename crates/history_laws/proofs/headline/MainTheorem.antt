@@ -1,7 +1,8 @@
 -- Every run from a sound opening has the main theorem, where steps keep a standing state.
 use Rattle.std.proofs.Common.{List, ap, arith, refl, subst, suc, zero}
-use Rattle.std.specs.Prelude.{List, Some, [], slice_get, take, ℕ, ◌++◌, ◌∷◌, ◌≡◌}
+use Rattle.std.specs.Prelude.{List, [], slice_get, take, ℕ, ◌++◌, ◌∷◌, ◌≡◌}
 use Rattle.step_relation.specs.Could.{IsPossible}
+use Rattle.step_relation.specs.Headline.{FollowedBy}
 use Rattle.history_laws.proofs.headline.Once.{possible_before}
 use Rattle.history_laws.proofs.headline.Rolling.{run_rolled}
 use Rattle.history_laws.proofs.headline.Said.{said_entry, said_pair, said_prefix}
@@ -31,8 +32,8 @@ standing_has_headline kept_ registries o s h first run possible =
     record {
       prefixes = λ n le. said_prefix o [] [] h said n le;
       entries = λ n e at. said_entry o [] [] h said n e at;
-      pairs = λ n e next at at_next. said_pair o [] [] h said n e next at
-          (subst (λ (k : ℕ). slice_get h k ≡ Some next) (omega arith) at_next);
+      pairs = λ n e at. subst (λ (k : ℕ). FollowedBy e (slice_get h k)) (omega arith)
+          (said_pair o [] [] h said n e at);
       rolled_back = run_rolled keeps registries o s h first run possible;
       stirs = stirring s sound.standing;
       stirred = λ n mid le mid_run. let (rest, is) = split_take n h in

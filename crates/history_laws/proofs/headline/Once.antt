@@ -38,6 +38,7 @@ onced_by t states (what.Show it stack) k = k
 onced_by t states (what.Note line code path) k = k
 onced_by t states (what.Ran idle turns) k = k
 onced_by t states (what.Turned engine lost) k = k
+onced_by t states (what.Preview stack forecast) k = k
 onced_by t states what.Closed k = k
 
 onced_on : (t : Token) (states : List TokenState) (es : List Entry) → IsOnced states → IsOnced (could_on t states es)
@@ -101,6 +102,7 @@ empty_by t (what.Show it stack) = refl
 empty_by t (what.Note line code path) = refl
 empty_by t (what.Ran idle turns) = refl
 empty_by t (what.Turned engine lost) = refl
+empty_by t (what.Preview stack forecast) = refl
 empty_by t what.Closed = refl
 
 empty_on : (t : Token) (es : List Entry) → could_on t [] es ≡ []

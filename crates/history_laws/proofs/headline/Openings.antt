@@ -22,13 +22,14 @@ use Rattle.step_relation.specs.Could.{Allows, could_of}
 use Rattle.step_relation.specs.Last.{HasCreate, IsLast, IsNeverReached, WasReached, at_first, kept, opened, since}
 use Rattle.step_relation.specs.Marked.{Marked, mark_by_status, marked_stack}
 use Rattle.step_relation.specs.Newest.{latest_of}
+use Rattle.step_relation.specs.Policies.{PoliciesFit, stood}
 use Rattle.step_relation.specs.Opening.{Opening, first_of}
 use Rattle.step_relation.specs.Tokens.{HasRow}
 use Rattle.step_relation.specs.Agrees.{Agrees}
 use Rattle.step_relation.specs.Laws.{StatesAreOpenings, opening_at}
 use Rattle.step_relation.specs.Sound.{Sound}
 use Rattle.step_relation.specs.Tells.{ReleasedFits, Tells, never, status_by}
-use Rattle.history_laws.proofs.tables.Rows.{same_some, stack-key}
+use Rattle.history_laws.proofs.tables.Rows.{row_self, same_some, stack-key}
 use Rattle.history_laws.proofs.agrees.Called.{none_in, only}
 use Rattle.history_laws.proofs.agrees.LaidTold.{back_completed, back_incomplete}
 use Rattle.step_relation.specs.declared.What.TheVariants as what
@@ -134,8 +135,20 @@ module _ (o : Opening) (h : List Entry) (s : StateData) (cloud : Cloud) (x : Sou
     none_behind [] behind e is c = none_in e (subst (λ (es : List Entry). Contains es e) (sym is) c)
     none_behind (b ∷ before) behind e is c = cc
 
+  -- each row stands so in the opening
+  policies_again : PoliciesFit now [] s
+  policies_again = record {
+    each = λ n r at ne. stood (λ e it c. absurd (none_in e c)) (record {
+      row = r;
+      found = row_self s.rows n r at;
+      its = refl;
+      trav = refl;
+      policy = refl;
+    });
+  }
+
   pub again : Sound now [] s
-  again = record { standing = x.standing; agrees = agrees_again; tells = tells_again; released = released_again }
+  again = record { standing = x.standing; agrees = agrees_again; tells = tells_again; released = released_again; policies = policies_again }
 
 pub states_are_openings : StatesAreOpenings
 states_are_openings o h s cloud x allowed = again o h s cloud x allowed

@@ -131,7 +131,7 @@ said_written o h p actor (r ∷ rs) (w ∷ ws) k l =
     ∙ sym (append_assoc h (p ++ rows ∷ []) (mail ∷ [])) in (
       k,
       fits_plain o (h ++ p) rows (tt, tt, λ t i. cc),
-      followed_plain o (h ++ p) rows mail (λ t i. cc),
+      followed_plain rows (Some mail) (λ t i. cc),
       (
         at_mail o (h ++ (p ++ rows ∷ [])) actor (w ∷ ws) (subst (AtPrefix o) both l),
         fits_plain o (h ++ (p ++ rows ∷ [])) mail (tt, tt, λ t i. cc),

@@ -33,7 +33,8 @@ use Rattle.step_relation.specs.Stored.{released, stored}
 use Rattle.step_relation.specs.Tokens.{HasRow, IsNamed}
 use Rattle.step_relation.specs.Agrees.{StateFits}
 use Rattle.step_relation.specs.GraphFits.{graph_of, graph_or}
-use Rattle.step_relation.specs.Headline.{AtPrefix, FitsIn, MayBeReleased}
+use Rattle.step_relation.specs.Headline.{AtPrefix, FitsIn}
+use Rattle.step_relation.specs.Policies.{MayBeReleased}
 use Rattle.step_relation.specs.MailFits.{JobStands}
 use Rattle.step_relation.specs.Sound.{Sound}
 use Rattle.step_relation.specs.Tells.{TellsStack, status_by}
@@ -102,6 +103,7 @@ module _ (o : Opening) (h : List Entry) (s : StateData) (x : Sound o h s) (possi
       found = subst (λ (rows : List Row). row_at rows r.no ≡ Some r) (sym x.tells.rows) self;
       its = refl;
       retained = policy;
+      planned = x.policies.each r.no r self (λ gone. x.released.kept r.no r self gone policy);
       once = not_given o h s x possible r.no r self;
     });
   }
@@ -164,7 +166,7 @@ module _ (o : Opening) (h : List Entry) (s : StateData) (x : Sound o h s) (possi
     subst (λ (y : List Entry). FitsIn o y entry) (sym (append-nil h)) release_fits,
     record {
       purges = λ token is. let same : token_of r ≡ token = cc in
-          ap (λ (t : Token). entry_of (Engine e) (what.Rows (Purge t.row ∷ []))) same;
+          ap (λ (t : Token). Some (entry_of (Engine e) (what.Rows (Purge t.row ∷ [])))) same;
     },
     said_written o h (entry ∷ []) (Engine e) (Purge r.no ∷ []) (Held (with_stage Ending j) ∷ []) (release_at k) l,
   )

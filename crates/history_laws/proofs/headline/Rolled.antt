@@ -178,7 +178,7 @@ AllRolled o h es = (p q : List Entry) → es ≡ p ++ q → IsRolledBack o (h ++
 
 pub rolled_unfailed : (o : Opening) (h es : List Entry) → IsUnfailed es → AllRolled o h es
 rolled_unfailed o h es none p q is actor stack trav act cause back_ rest q_is =
-    λ forward asked_ last_ room. absurd (none (entry_of actor (what.Mark stack trav act (Some cause)))
+    λ asked_ last_ room. absurd (none (entry_of actor (what.Mark stack trav act (Some cause)))
     (subst (λ (y : List Entry). Contains y (entry_of actor (what.Mark stack trav act (Some cause)))) (sym is)
     (Contains-append_right p q _
     (subst (λ (y : List Entry). Contains y (entry_of actor (what.Mark stack trav act (Some cause))))
@@ -188,7 +188,7 @@ rolled_unfailed o h es none p q is actor stack trav act cause back_ rest q_is =
 
 pub rolled_both : (o : Opening) (es fs : List Entry) → AllRolled o [] es → AllRolled o es fs
     → AllRolled o [] (es ++ fs)
-rolled_both o es fs a b p q is actor stack trav act cause back_ rest q_is forward asked_ last_ room =
+rolled_both o es fs a b p q is actor stack trav act cause back_ rest q_is asked_ last_ room =
     by (split es fs p rest (entry_of actor (what.Mark stack trav act (Some cause)))
     (is ∙ ap (λ (y : List Entry). p ++ y) q_is)) where
       by : ((r : List Entry) × (es ≡ p ++ entry_of actor (what.Mark stack trav act (Some cause)) ∷ r) ×
@@ -200,12 +200,12 @@ rolled_both o es fs a b p q is actor stack trav act cause back_ rest q_is forwar
       by (inl (r, es_is, rest_is)) =
           let (next, more, r_is) = a p (entry_of actor (what.Mark stack trav act (Some cause)) ∷ r) es_is actor stack
           trav
-          act cause back_ r refl forward asked_ last_ room in
+          act cause back_ r refl asked_ last_ room in
           (next, more ++ fs, rest_is ∙ ap (λ (y : List Entry). y ++ fs) r_is)
       by (inr (m, fs_is, p_is)) =
           b m (entry_of actor (what.Mark stack trav act (Some cause)) ∷ rest) fs_is actor stack trav act cause back_
           rest
-          refl forward
+          refl
           (subst (λ (y : List Entry). rollback_of o y stack ≡ true) p_is asked_)
           (subst (λ (y : List Entry). IsLast o y stack back_) p_is last_)
           (subst (λ (y : List Entry). length (stored o y) + length back_.items ≤ row_limit) p_is room)

@@ -1,14 +1,15 @@
 -- The failure of a turn is rolled back in it, where it was asked for, and so in every run.
 use Rattle.std.proofs.Common.{List, ap, append-nil, append_assoc, false, inl, inr, refl, subst, sym, true, ◌∙◌}
 use Rattle.std.proofs.lemmas.List.Elements.{Contains-append_right}
-use Rattle.std.specs.Prelude.{Contains, List, Some, [], length, ℕ, ◌++◌, ◌+◌, ◌∷◌, ◌≡◌, ◌≤◌, ◌⊎◌}
+use Rattle.std.specs.Prelude.{Contains, List, None, Option, Some, [], length, ℕ, ◌++◌, ◌+◌, ◌∷◌, ◌≡◌, ◌≤◌, ◌⊎◌}
 use Rattle.heat_plan.specs.Plans.{PlanData}
 use Rattle.heat_plan.specs.declared.phase.Act.{Act}
-use Rattle.heat_plan.specs.declared.phase.Act.TheVariants.{Rollback}
+use Rattle.heat_plan.specs.declared.phase.Act.TheVariants.{Create, Delete, Init, Rollback, Update}
 use Rattle.heat_plan.specs.declared.phase.Status.TheVariants.{Failed}
 use Rattle.row_table.specs.declared.row.Row.{Row}
 use Rattle.step_relation.specs.Changes.{applied}
-use Rattle.step_relation.specs.State.{StateData}
+use Rattle.step_relation.specs.State.{StateData, past_at, stack_at}
+use Rattle.step_relation.specs.declared.Past.{Past}
 use Rattle.step_relation.specs.declared.Change.{Change}
 use Rattle.step_relation.specs.declared.Actor.{Actor}
 use Rattle.step_relation.specs.declared.Actor.TheVariants.{Engine, Main}
@@ -18,11 +19,12 @@ use Rattle.step_relation.specs.declared.What.{What}
 use Rattle.step_relation.specs.declared.Stack.{Stack}
 use Rattle.step_relation.specs.Given.{Given}
 use Rattle.step_relation.specs.Moves.{Move}
-use Rattle.step_relation.specs.Orders.{Command, IsForward, cancel, create, create_sets, delete, delete_sets, past_of}
+use Rattle.step_relation.specs.Orders.{Command, IsForward, cancel, create, create_sets, delete, delete_sets, of_create, of_update}
+use Rattle.step_relation.specs.Orders.{past_of, past_or}
 use Rattle.step_relation.specs.Orders.{plan_back, rollback_sets, row_limit, update, update_sets}
 use Rattle.step_relation.specs.Runs.{IsTied, IsTiedStep, Judges, Run, begins, goes_on}
 use Rattle.step_relation.specs.Steps.{IsNote, Step, close, command, enlist, note, notes, ran, restart, shows, stop}
-use Rattle.step_relation.specs.Steps.{turn, turned, unstored}
+use Rattle.step_relation.specs.Steps.{previews, turn, turned, unstored}
 use Rattle.step_relation.specs.Turns.{FollowsFailure, IsDue, Turn, plain, rolls, stays, unfailed}
 use Rattle.step_relation.specs.Writes.{entry_of}
 use Rattle.step_relation.specs.Could.{IsPossible}
@@ -32,7 +34,7 @@ use Rattle.step_relation.specs.Opening.{Opening}
 use Rattle.step_relation.specs.Stored.{stored}
 use Rattle.step_relation.specs.Sound.{Sound}
 use Rattle.step_relation.specs.Tells.{TellsStack}
-use Rattle.history_laws.proofs.tables.Rows.{same_some}
+use Rattle.history_laws.proofs.tables.Rows.{past-key, same_some}
 use Rattle.history_laws.proofs.tells.Appends.{rollback-append, stored-append}
 use Rattle.history_laws.proofs.tells.Beside.{passing_failed}
 use Rattle.history_laws.proofs.tells.Lasts.{last_kept, split, unmarking_at}
@@ -95,6 +97,29 @@ module _ (keeps : KeepsSound) (judges : Judges) (o : Opening) (h : List Entry) (
   asked_there asked_ = sym told_.rollback ∙ (ap (λ (y : List Entry). rollback_of o y st.name) es_are
       ∙ (rollback-append o (h ++ k.first) (mark ∷ []) st.name ∙ asked_))
 
+  -- a rollback is asked for only where the traversal goes forward
+  forward_there : rollback_of o (h ++ k.first) st.name ≡ true → IsForward st.act
+  forward_there asked_ = by (past_at (applied cs s).pasts st.name) refl (asked_there asked_) where
+    by : (found : Option Past) → past_at (applied cs s).pasts st.name ≡ found
+        → (past_or st.name found).rollback ≡ true → IsForward st.act
+    by None at rolls_ = cc
+    by (Some p) at rolls_ = act_of st.act refl where
+      here_ : stack_at (applied cs s).stacks st.name ≡ Some failed_st
+      here_ = failed_stack s e given st cs es move
+
+      not_back : (st.act ≡ Delete) ⊎ (st.act ≡ Rollback) → ⊥
+      not_back act =
+          let off = (t_sound.standing.pasts.each st.name p at).forward failed_st
+          (subst (λ (n : List ℕ). stack_at (applied cs s).stacks n ≡ Some failed_st)
+          (sym (past-key (applied cs s).pasts st.name p at)) here_) act in cc
+
+      act_of : (a : Act) → st.act ≡ a → IsForward a
+      act_of Create is = of_create
+      act_of Update is = of_update
+      act_of Delete is = absurd (not_back (inl is))
+      act_of Rollback is = absurd (not_back (inr is))
+      act_of Init is = absurd ((t_sound.standing.marks.each st.name failed_st here_).act is)
+
   plan_there : IsForward st.act → (back_ : PlanData) → IsLast o (h ++ k.first) st.name back_
       → back_ ≡ plan_back (applied cs s) failed_st
   plan_there forward back_ last_ = last_once o (h ++ es) st.name back_ (plan_back (applied cs s) failed_st)
@@ -106,16 +131,16 @@ module _ (keeps : KeepsSound) (judges : Judges) (o : Opening) (h : List Entry) (
   rows_there : stored o (h ++ k.first) ≡ (applied cs s).rows
   rows_there = sym (ap (stored o) es_are ∙ stored-append o (h ++ k.first) (mark ∷ [])) ∙ t_sound.tells.rows
 
-  due_there : IsForward st.act → rollback_of o (h ++ k.first) st.name ≡ true → (back_ : PlanData)
+  due_there : rollback_of o (h ++ k.first) st.name ≡ true → (back_ : PlanData)
       → IsLast o (h ++ k.first) st.name back_
       → length (stored o (h ++ k.first)) + length back_.items ≤ row_limit → IsDue (applied cs s) st
-  due_there forward asked_ back_ last_ room = record {
-    forward = forward;
+  due_there asked_ back_ last_ room = record {
+    forward = forward_there asked_;
     asked = asked_there asked_;
     room = subst (λ (y : List Row). length y + length (plan_back (applied cs s) failed_st).items ≤ row_limit)
         rows_there
         (subst (λ (y : PlanData). length (stored o (h ++ k.first)) + length y.items ≤ row_limit)
-        (plan_there forward back_ last_) room);
+        (plan_there (forward_there asked_) back_ last_) room);
   }
 
   -- the mark that stands in the entries is this one
@@ -128,12 +153,12 @@ module _ (keeps : KeepsSound) (judges : Judges) (o : Opening) (h : List Entry) (
 
   -- a turn that isn't followed by a rollback was not to be
   pub rolled_plain : ¬ IsDue (applied cs s) st → AllRolled o h es
-  rolled_plain undue p q is actor stack trav act cause back_ rest q_is forward asked_ last_ room =
+  rolled_plain undue p q is actor stack trav act cause back_ rest q_is asked_ last_ room =
       let (p_is, mark_is, rest_is) = marked_where k.first p rest mark
       (entry_of actor (what.Mark stack trav act (Some cause))) k.silent (λ u. u)
       (sym k.entries ∙ (is ∙ ap (λ (y : List Entry). p ++ y) q_is)) in
       let (actor_is, name_is, act_is) = is_mark actor stack trav act cause mark_is in
-      absurd (undue (due_there (subst IsForward (sym act_is) forward)
+      absurd (undue (due_there
       (subst (λ (y : List Entry). rollback_of o (h ++ y) st.name ≡ true) p_is
       (subst (λ (n : List ℕ). rollback_of o (h ++ p) n ≡ true) (sym name_is) asked_)) back_
       (subst (λ (y : List Entry). IsLast o (h ++ y) st.name back_) p_is
@@ -143,7 +168,7 @@ module _ (keeps : KeepsSound) (judges : Judges) (o : Opening) (h : List Entry) (
   -- one that is followed by it has its command behind the mark
   pub rolled_follows : (last_ : List Change) (lasts_ : List Entry) → FollowsFailure (applied cs s) e st last_ lasts_
       → AllRolled o h (es ++ lasts_)
-  rolled_follows last_ lasts_ f p q is actor stack trav act cause back_ rest q_is forward asked_ last_is room =
+  rolled_follows last_ lasts_ f p q is actor stack trav act cause back_ rest q_is asked_ last_is room =
       by (split es lasts_ p rest (entry_of actor (what.Mark stack trav act (Some cause)))
       (is ∙ ap (λ (y : List Entry). p ++ y) q_is)) where
         failed_is : f.failed ≡ failed_st
@@ -169,7 +194,8 @@ module _ (keeps : KeepsSound) (judges : Judges) (o : Opening) (h : List Entry) (
             (entry_of actor (what.Mark stack trav act (Some cause))) k.silent (λ u. u) (sym k.entries ∙ es_is) in
             let (actor_is, name_is, act_is) = is_mark actor stack trav act cause mark_is in
             let plan_is : back_ ≡ plan_back (applied cs s) failed_st =
-            plan_there (subst IsForward (sym act_is) forward) back_
+            plan_there (forward_there (subst (λ (y : List Entry). rollback_of o (h ++ y) st.name ≡ true) p_is
+            (subst (λ (n : List ℕ). rollback_of o (h ++ p) n ≡ true) (sym name_is) asked_))) back_
             (subst (λ (y : List Entry). IsLast o (h ++ y) st.name back_) p_is
             (subst (λ (n : List ℕ). IsLast o (h ++ p) n back_) (sym name_is) last_is)) in
             let plan_failed_ : plan_back (applied cs s) f.failed ≡ back_ = ap (plan_back (applied cs s)) failed_is
@@ -216,6 +242,7 @@ note_unmarking _ (shows it stack) = tt
 note_unmarking _ (notes line code path) = tt
 note_unmarking _ (ran idle turns) = tt
 note_unmarking _ (turned e lost) = tt
+note_unmarking _ (previews stack forecast) = tt
 
 pub rolled_step : (keeps : KeepsSound) (judges : Judges) (o : Opening) (h : List Entry) (s : StateData)
     (x : Sound o h s) (cs : List Change) (es : List Entry) (step : Step s cs es)

@@ -1,7 +1,7 @@
 -- What the entries of a step say one by one, each by the history before it.
 use Rattle.std.proofs.Common.{List, ap, append-nil, append_assoc, arith, refl, subst, suc, sym, zero, ◌∙◌}
 use Rattle.std.specs.List.{AllZip}
-use Rattle.std.specs.Prelude.{Contains, List, Some, [], length, slice_get, take, ℕ, ◌++◌, ◌∷◌, ◌≡◌, ◌≢◌, ◌≤◌}
+use Rattle.std.specs.Prelude.{Contains, List, Option, Some, [], length, slice_get, take, ℕ, ◌++◌, ◌∷◌, ◌≡◌, ◌≢◌, ◌≤◌}
 use Rattle.heat_plan.specs.Plans.{PlanData}
 use Rattle.heat_plan.specs.declared.facts.KnownFacts.{KnownFacts}
 use Rattle.heat_plan.specs.declared.item.Item.{Item}
@@ -26,7 +26,7 @@ use Rattle.step_relation.specs.declared.What.TheVariants as what
 -- the last entry gives up no token, and the row of one that is given up goes at once
 abbrev pub IsPaired : Opening → List Entry → Entry → List Entry → Type 0
 IsPaired o g e [] = (token : Token) → e.what ≢ what.Release token
-IsPaired o g e (next ∷ rest) = FollowedBy o g e next
+IsPaired o g e (next ∷ rest) = FollowedBy e (Some next)
 
 -- behind h, and these entries
 abbrev pub AllSaid : Opening → List Entry → List Entry → List Entry → Type 0
@@ -90,20 +90,15 @@ said_entry o h p (x ∷ es) k (suc n) e at =
     subst (λ (y : List Entry). FitsIn o (h ++ y) e) (append_assoc p (x ∷ []) (take n es))
     (said_entry o h (p ++ x ∷ []) es k.3 n e at)
 
-pub said_pair : (o : Opening) (h p es : List Entry) → AllSaid o h p es → (n : ℕ) (e next : Entry)
-    → slice_get es n ≡ Some e → slice_get es (suc n) ≡ Some next
-    → FollowedBy o (h ++ (p ++ take n es)) e next
-said_pair o h p [] k n e next at at_next = cc
-said_pair o h p (x ∷ []) k zero e next at at_next = cc
-said_pair o h p (x ∷ y ∷ es) k zero e next at at_next =
+pub said_pair : (o : Opening) (h p es : List Entry) → AllSaid o h p es → (n : ℕ) (e : Entry)
+    → slice_get es n ≡ Some e → FollowedBy e (slice_get es (suc n))
+said_pair o h p [] k n e at = cc
+said_pair o h p (x ∷ []) k zero e at =
     let is : x ≡ e = cc in
-    let next_is : y ≡ next = cc in
-    subst (λ (z : List Entry). FollowedBy o (h ++ z) e next) (sym (append-nil p))
-    (subst (λ (z : Entry). FollowedBy o (h ++ p) e z) next_is
-    (subst (λ (z : Entry). FollowedBy o (h ++ p) z y) is k.2))
-said_pair o h p (x ∷ es) k (suc n) e next at at_next =
-    subst (λ (y : List Entry). FollowedBy o (h ++ y) e next) (append_assoc p (x ∷ []) (take n es))
-    (said_pair o h (p ++ x ∷ []) es k.3 n e next at at_next)
+    record { purges = λ token given. absurd (k.2 token (ap (λ (y : Entry). y.what) is ∙ given)) }
+said_pair o h p (x ∷ y ∷ es) k zero e at =
+    let is : x ≡ e = cc in subst (λ (z : Entry). FollowedBy z (Some y)) is k.2
+said_pair o h p (x ∷ es) k (suc n) e at = said_pair o h (p ++ x ∷ []) es k.3 n e at
 
 -- ---- entries that say little
 
@@ -124,9 +119,9 @@ fits_plain o g e (unmarking, uncalling, keeps) = record {
   releases = λ token is. absurd (keeps token is);
 }
 
-pub followed_plain : (o : Opening) (g : List Entry) (e next : Entry) → ((token : Token) → e.what ≢ what.Release token)
-    → FollowedBy o g e next
-followed_plain o g e next keeps = record { purges = λ token is. absurd (keeps token is) }
+pub followed_plain : (e : Entry) (next : Option Entry) → ((token : Token) → e.what ≢ what.Release token)
+    → FollowedBy e next
+followed_plain e next keeps = record { purges = λ token is. absurd (keeps token is) }
 
 -- ---- what holds of a prefix
 

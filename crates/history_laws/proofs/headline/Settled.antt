@@ -92,6 +92,7 @@ marks_or name e b m cause failed_ is = by e.what refl is where
   by (what.Note line code path) w_is eq = inr eq
   by (what.Ran idle turns) w_is eq = inr eq
   by (what.Turned engine_ lost) w_is eq = inr eq
+  by (what.Preview stack forecast) w_is eq = inr eq
   by what.Closed w_is eq = inr eq
 
 pub marked_from : (name : List ℕ) (b : Option Marked) (h : List Entry) (m : Marked) (cause : Cause)

@@ -18,7 +18,7 @@ use Rattle.step_relation.specs.Orders.{Command, cancel, create, create_sets, del
 use Rattle.step_relation.specs.Orders.{rollback_sets, update, update_sets}
 use Rattle.step_relation.specs.Runs.{IsTied, IsTiedStep, Judges, Run, begins, goes_on}
 use Rattle.step_relation.specs.Steps.{BeginsWithCall, IsNote, Step, close, command, enlist, note, notes, ran, restart}
-use Rattle.step_relation.specs.Steps.{shows, stop, turn, turned, unstored}
+use Rattle.step_relation.specs.Steps.{previews, shows, stop, turn, turned, unstored}
 use Rattle.step_relation.specs.Turns.{Turn, plain, rolls}
 use Rattle.step_relation.specs.Writes.{call_entry, entry_of}
 use Rattle.step_relation.specs.Could.{IsPossible}
@@ -60,6 +60,7 @@ note_plain _ (shows it stack) = (tt, tt, λ t i. cc)
 note_plain _ (notes line code path) = (tt, tt, λ t i. cc)
 note_plain _ (ran idle turns) = (tt, tt, λ t i. cc)
 note_plain _ (turned e lost) = (tt, tt, λ t i. cc)
+note_plain _ (previews stack forecast) = (tt, tt, λ t i. cc)
 
 module _ (keeps : KeepsSound) (judges : Judges) (o : Opening) (h : List Entry) (s : StateData) (x : Sound o h s) where
   command_said : (cs : List Change) (es : List Entry) → Command s cs es → AtPrefix o h → AtPrefix o (h ++ es)

@@ -34,6 +34,7 @@ use Rattle.history_laws.proofs.agrees.LaidTold.{commands_tell}
 use Rattle.history_laws.proofs.agrees.MoveTold.{move_outcome, moves_agree, moves_release, moves_tell}
 use Rattle.history_laws.proofs.agrees.Others.{others_agree, others_release, others_tell}
 use Rattle.history_laws.proofs.agrees.Outcome.{CallMade, called, uncalled}
+use Rattle.history_laws.proofs.policies.Fits.{commands_fit_policies, moves_fit_policies, others_fit_policies}
 use Rattle.history_laws.proofs.headline.Made.{proper}
 use Rattle.history_laws.proofs.headline.Once.{possible_before}
 use Rattle.history_laws.specs.headline.Kept.{StandingKept}
@@ -60,24 +61,28 @@ keeps_sound kept_ = record {
     agrees = moves_agree judges o h s e given failed_ cs es x move tied possible;
     tells = moves_tell judges o h s e given failed_ cs es x move tied possible;
     released = moves_release judges o h s e given failed_ cs es x move tied possible;
+    policies = moves_fit_policies judges o h s e given failed_ cs es x move tied possible;
   };
   commands = λ o h s name items it k x ordered. record {
     standing = kept_.commands s name items it k x.standing ordered;
     agrees = commands_agree o h s name items it k x ordered;
     tells = commands_tell o h s name items it k x ordered;
     released = commands_release o h s name items it k x ordered;
+    policies = commands_fit_policies o h s name items it k x ordered;
   };
   unstored = λ o h s e given failed_ cs es call x move begins_ possible. record {
     standing = x.standing;
     agrees = others_agree.unstored o h s e given failed_ cs es call x move begins_ possible;
     tells = others_tell.unstored o h s e given failed_ cs es call x move begins_ possible;
     released = others_release.unstored o h s e given failed_ cs es call x move begins_ possible;
+    policies = others_fit_policies.unstored o h s e given failed_ cs es call x move begins_ possible;
   };
   quiet = λ o h s t it x quiet_ to standing_. record {
     standing = standing_;
     agrees = others_agree.quiet o h s t it x quiet_ to;
     tells = others_tell.quiet o h s t it x quiet_ to;
     released = others_release.quiet o h s t it x quiet_ to;
+    policies = others_fit_policies.quiet o h s t it x quiet_ to;
   };
   engines = kept_.engines;
 }

@@ -31,6 +31,7 @@ IsApart name (what.Show it stack) = Unit {0}
 IsApart name (what.Note line code path) = Unit {0}
 IsApart name (what.Ran idle turns) = Unit {0}
 IsApart name (what.Turned engine lost) = Unit {0}
+IsApart name (what.Preview stack forecast) = Unit {0}
 IsApart name what.Closed = Unit {0}
 
 pub record AreApart (name : List ℕ) (es : List Entry) : Type 0 where
@@ -60,6 +61,7 @@ could_one t states (what.Show it stack) ne = refl
 could_one t states (what.Note line code path) ne = refl
 could_one t states (what.Ran idle turns) ne = refl
 could_one t states (what.Turned engine lost) ne = refl
+could_one t states (what.Preview stack forecast) ne = refl
 could_one t states what.Closed ne = refl
 
 pub could_apart : (t : Token) (states : List TokenState) (es : List Entry) → AreApart t.stack es
@@ -81,6 +83,7 @@ newest_one name b (what.Show it stack) ne = refl
 newest_one name b (what.Note line code path) ne = refl
 newest_one name b (what.Ran idle turns) ne = refl
 newest_one name b (what.Turned engine lost) ne = refl
+newest_one name b (what.Preview stack forecast) ne = refl
 newest_one name b what.Closed ne = refl
 
 pub newest_apart : (name : List ℕ) (b : Option Latest) (es : List Entry) → AreApart name es → newest_on name b es ≡ b
@@ -101,6 +104,7 @@ marked_one name b (what.Show it stack) ne = refl
 marked_one name b (what.Note line code path) ne = refl
 marked_one name b (what.Ran idle turns) ne = refl
 marked_one name b (what.Turned engine lost) ne = refl
+marked_one name b (what.Preview stack forecast) ne = refl
 marked_one name b what.Closed ne = refl
 
 pub marked_apart : (name : List ℕ) (b : Option Marked) (es : List Entry) → AreApart name es → marked_on name b es ≡ b
@@ -121,6 +125,7 @@ rollback_one name b (what.Show it stack) ne = refl
 rollback_one name b (what.Note line code path) ne = refl
 rollback_one name b (what.Ran idle turns) ne = refl
 rollback_one name b (what.Turned engine lost) ne = refl
+rollback_one name b (what.Preview stack forecast) ne = refl
 rollback_one name b what.Closed ne = refl
 
 pub rollback_apart : (name : List ℕ) (b : Bool) (es : List Entry) → AreApart name es → rollback_on name b es ≡ b
@@ -150,6 +155,7 @@ released_one t tokens (what.Show it stack) ne = (λ has. has, λ has. has)
 released_one t tokens (what.Note line code path) ne = (λ has. has, λ has. has)
 released_one t tokens (what.Ran idle turns) ne = (λ has. has, λ has. has)
 released_one t tokens (what.Turned engine lost) ne = (λ has. has, λ has. has)
+released_one t tokens (what.Preview stack forecast) ne = (λ has. has, λ has. has)
 released_one t tokens what.Closed ne = (λ has. has, λ has. has)
 
 pub released_apart : (t : Token) (tokens : List Token) (es : List Entry) → AreApart t.stack es

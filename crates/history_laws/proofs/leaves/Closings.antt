@@ -29,7 +29,7 @@ use Rattle.step_relation.specs.Moves.{takeover_overrun}
 use Rattle.step_relation.specs.Orders.{Command, cancel, create, delete, update}
 use Rattle.step_relation.specs.Runs.{ClosesOnce, IsClosed, begins, goes_on}
 use Rattle.step_relation.specs.Steps.{IsNote, Step, close, command, enlist, notes, note, ran, restart}
-use Rattle.step_relation.specs.Steps.{shows, stop, turn, turned, unstored}
+use Rattle.step_relation.specs.Steps.{previews, shows, stop, turn, turned, unstored}
 use Rattle.step_relation.specs.Turns.{Turn, plain, rolls}
 use Rattle.step_relation.specs.Writes.{failed_mark, lock_writes, mail_entry, rows_entry, unlock_writes}
 use Rattle.history_laws.proofs.tables.Puts.{all_append, contains_cases, contains_head, contains_none, contains_there}
@@ -49,6 +49,7 @@ IsOpen (what.Show it stack) = Unit {0}
 IsOpen (what.Note line code path) = Unit {0}
 IsOpen (what.Ran idle turns) = Unit {0}
 IsOpen (what.Turned engine lost) = Unit {0}
+IsOpen (what.Preview stack forecast) = Unit {0}
 IsOpen what.Closed = ⊥
 
 abbrev AllOpen : List Entry → Type 0
@@ -151,6 +152,7 @@ note_open _ (shows it stack) = tt
 note_open _ (notes line code path) = tt
 note_open _ (ran idle turns) = tt
 note_open _ (turned e lost) = tt
+note_open _ (previews stack forecast) = tt
 
 -- such entries don't close the input, and so close it once at most
 open_not_closed : (es : List Entry) → AllOpen es → ¬ IsClosed es

@@ -18,7 +18,7 @@ use Rattle.step_relation.specs.Given.{Answer, Given}
 use Rattle.step_relation.specs.Orders.{Command, cancel, create, create_sets, delete, delete_sets, plan_back}
 use Rattle.step_relation.specs.Orders.{rollback_sets, update, update_sets}
 use Rattle.step_relation.specs.Steps.{IsNote, close, command, engines_from, enlist, notes, note, ran, restart, shows}
-use Rattle.step_relation.specs.Steps.{stop, turn, turned, unstored}
+use Rattle.step_relation.specs.Steps.{previews, stop, turn, turned, unstored}
 use Rattle.step_relation.specs.Turns.{Turn, plain, rolls}
 use Rattle.step_relation.specs.Could.{could_of}
 use Rattle.step_relation.specs.Marked.{marked_of}
@@ -183,6 +183,7 @@ note_apart name _ (shows it stack) = tt
 note_apart name _ (notes line code path) = tt
 note_apart name _ (ran idle turns) = tt
 note_apart name _ (turned e lost) = tt
+note_apart name _ (previews stack forecast) = tt
 
 by_step : (o : Opening) (name : List ℕ) (s : StateData) (h : List Entry) (cs ds : List Change) (es fs : List Entry)
     → cs ≡ ds → es ≡ fs

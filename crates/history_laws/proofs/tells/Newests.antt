@@ -59,6 +59,7 @@ command_or stack e b = by e.what refl where
   by (what.Note line code path) is = inr (λ it c. let eq = sym is ∙ c.is in cc, refl)
   by (what.Ran idle turns) is = inr (λ it c. let eq = sym is ∙ c.is in cc, refl)
   by (what.Turned engine lost) is = inr (λ it c. let eq = sym is ∙ c.is in cc, refl)
+  by (what.Preview stack forecast) is = inr (λ it c. let eq = sym is ∙ c.is in cc, refl)
   by what.Closed is = inr (λ it c. let eq = sym is ∙ c.is in cc, refl)
 
 pub newest_from : (stack : List ℕ) (b : Option Latest) (h : List Entry) (it : Latest) → newest_on stack b h ≡ Some it
@@ -105,7 +106,7 @@ uncommanded_mark stack trav e done x it among c = elim (cases x e [] among) [
 at_end : (h : List Entry) (e : Entry) → Contains (h ++ e ∷ []) e
 at_end h e = Contains-append_right h (e ∷ []) e (here e e [] refl)
 
-opening_stack : (found : Option Stack) (it : Latest) → option_map latest_of found ≡ Some it
+pub opening_stack : (found : Option Stack) (it : Latest) → option_map latest_of found ≡ Some it
     → (st : Stack) × (found ≡ Some st) × (latest_of st ≡ it)
 opening_stack None it is = cc
 opening_stack (Some st) it is = (st, refl, cc)

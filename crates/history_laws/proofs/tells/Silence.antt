@@ -30,6 +30,7 @@ IsUnmarking (what.Show it stack) = Unit {0}
 IsUnmarking (what.Note line code path) = Unit {0}
 IsUnmarking (what.Ran idle turns) = Unit {0}
 IsUnmarking (what.Turned engine lost) = Unit {0}
+IsUnmarking (what.Preview stack forecast) = Unit {0}
 IsUnmarking what.Closed = Unit {0}
 
 -- not a call
@@ -45,6 +46,7 @@ IsUncalling (what.Show it stack) = Unit {0}
 IsUncalling (what.Note line code path) = Unit {0}
 IsUncalling (what.Ran idle turns) = Unit {0}
 IsUncalling (what.Turned engine lost) = Unit {0}
+IsUncalling (what.Preview stack forecast) = Unit {0}
 IsUncalling what.Closed = Unit {0}
 
 abbrev pub AreUnmarking : List Entry → Type 0
@@ -91,6 +93,7 @@ newest-skip s b (what.Show it stack) h = refl
 newest-skip s b (what.Note line code path) h = refl
 newest-skip s b (what.Ran idle turns) h = refl
 newest-skip s b (what.Turned engine lost) h = refl
+newest-skip s b (what.Preview stack forecast) h = refl
 newest-skip s b what.Closed h = refl
 
 marked-skip : (s : List ℕ) (b : Option Marked) (w : What) → IsUnmarking w → marked_by s b w ≡ b
@@ -105,6 +108,7 @@ marked-skip s b (what.Show it stack) h = refl
 marked-skip s b (what.Note line code path) h = refl
 marked-skip s b (what.Ran idle turns) h = refl
 marked-skip s b (what.Turned engine lost) h = refl
+marked-skip s b (what.Preview stack forecast) h = refl
 marked-skip s b what.Closed h = refl
 
 rollback-skip : (s : List ℕ) (b : Bool) (w : What) → IsUnmarking w → rollback_by s b w ≡ b
@@ -119,6 +123,7 @@ rollback-skip s b (what.Show it stack) h = refl
 rollback-skip s b (what.Note line code path) h = refl
 rollback-skip s b (what.Ran idle turns) h = refl
 rollback-skip s b (what.Turned engine lost) h = refl
+rollback-skip s b (what.Preview stack forecast) h = refl
 rollback-skip s b what.Closed h = refl
 
 could-skip : (t : Token) (b : List TokenState) (w : What) → IsUncalling w → could_by t b w ≡ b
@@ -133,6 +138,7 @@ could-skip t b (what.Show it stack) h = refl
 could-skip t b (what.Note line code path) h = refl
 could-skip t b (what.Ran idle turns) h = refl
 could-skip t b (what.Turned engine lost) h = refl
+could-skip t b (what.Preview stack forecast) h = refl
 could-skip t b what.Closed h = refl
 
 pub newest_on-silent : (s : List ℕ) (b : Option Latest) (es : List Entry) → AreUnmarking es → newest_on s b es ≡ b

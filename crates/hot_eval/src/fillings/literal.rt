@@ -1,15 +1,19 @@
 //! Where the parts of a replaced template stood in the literal one.
-ghost use Rattle.std.specs.Prelude.{◌≡◌, IfOk, option_map};
+ghost use Rattle.std.specs.Prelude.{◌≡◌, ◌≤◌, IfOk, option_map};
+ghost use Rattle.heat_value.specs.Data.{words};
 ghost use Rattle.heat_value.specs.Meaning.{data_of, nodes_of, members_of};
 ghost use Rattle.heat_value.specs.declared.path.Step.TheVariants.{Index};
 ghost use Rattle.eval_words.specs.Faults.{IsSeenFrom};
 ghost use Rattle.eval_words.specs.Fillings.{literal_path as the_literal_path, literal_step as the_literal_step};
 ghost use Rattle.eval_words.specs.Fillings.{step_in_list, member_becoming as the_member_becoming};
+ghost use Rattle.eval_words.specs.Fillings.{filled_size, members_size, text_filled as the_text_filled};
+ghost use Rattle.eval_words.specs.Outcomes.{size, cost_limit};
 ghost use Rattle.hot_eval.specs.Repeats.{choice_of, IsChoice};
 
-use super::key_filled;
+use super::text_filled;
 use crate::EvalFault;
 use crate::choices::Choice;
+use crate::sum::MAX_COST;
 use heat_value::{Member, Path, Step, Text, TryCopy, Value};
 use std::alloc::{AllocError, Global};
 
@@ -21,7 +25,8 @@ pub fn at_literal_place(
     template: &Value,
     fault: EvalFault,
 ) -> EvalFault
-    requires { IsChoice choice.now }
+    requires choice { IsChoice choice.now }
+    requires made { filled_size (choice_of choice.now) (data_of template.now) ≤ cost_limit }
     ensures { IsSeenFrom (the_literal_path (choice_of choice.now) (data_of template.now)) fault result }
 {
     match fault {
@@ -45,7 +50,8 @@ fn literal_path(
     template: &Value,
     steps: &[Step],
 ) -> Result<Path, AllocError>
-    requires { IsChoice choice.now }
+    requires choice { IsChoice choice.now }
+    requires made { filled_size (choice_of choice.now) (data_of template.now) ≤ cost_limit }
     ensures { IfOk result (λ p. p ≡ the_literal_path (choice_of choice.now) (data_of template.now) steps.now) }
 {
     let mut path = Path::root(alloc);
@@ -69,7 +75,8 @@ fn literal_step<'a>(
     template: &'a Value,
     step: &Step,
 ) -> Result<Option<(Step, &'a Value)>, AllocError>
-    requires { IsChoice choice.now }
+    requires choice { IsChoice choice.now }
+    requires made { filled_size (choice_of choice.now) (data_of template.now) ≤ cost_limit }
     ensures { IfOk result (λ o. option_map (λ p. (p.0, data_of p.1.now)) o
         ≡ the_literal_step (choice_of choice.now) (data_of template.now) step.now) }
 {
@@ -100,7 +107,8 @@ fn member_becoming<'a>(
     key: &Text,
     members: &'a [Member],
 ) -> Result<Option<(Step, &'a Value)>, AllocError>
-    requires { IsChoice choice.now }
+    requires choice { IsChoice choice.now }
+    requires made { members_size (choice_of choice.now) (members_of members.now) ≤ cost_limit }
     ensures { IfOk result (λ o. option_map (λ p. (p.0, data_of p.1.now)) o
         ≡ the_member_becoming (choice_of choice.now) key.now (members_of members.now)) }
 {
@@ -110,4 +118,16 @@ fn member_becoming<'a>(
         }
     }
     Ok(None)
+}
+
+// An object's key with keys replaced, of a template that was made.
+fn key_filled(alloc: Global, choice: &Choice, key: &Text) -> Result<Text, AllocError>
+    requires choice { IsChoice choice.now }
+    requires made { size (words (the_text_filled (choice_of choice.now) key.now)) ≤ cost_limit }
+    ensures { IfOk result (λ t. t ≡ the_text_filled (choice_of choice.now) key.now) }
+{
+    match text_filled(alloc, choice, key, MAX_COST)? {
+        Some(text) => Ok(text),
+        None => unreachable!(),
+    }
 }

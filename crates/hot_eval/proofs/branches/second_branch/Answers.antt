@@ -3,39 +3,39 @@ use Rattle.heat_value.specs.Data.{null}
 use Rattle.heat_value.specs.Meaning.{data_of, nodes_of}
 use Rattle.heat_value.specs.declared.value.Value.{Value}
 use Rattle.eval_words.specs.Evaluation.{branch_outcome, value_outcome, alone}
-use Rattle.eval_words.specs.Evaluation.{Evaluating}
+use Rattle.eval_words.specs.Evaluation.{Leveled}
 use Rattle.eval_words.specs.Outcomes.{Gives, made_into, under}
 use Rattle.eval_words.specs.Scenes.{SceneData}
 use Rattle.heat_value.specs.declared.path.Step.TheVariants.{Index}
 use Rattle.hot_eval.proofs.branches.second_branch.Goals as goal
 
-second : (inner : Evaluating) (scene : SceneData) (spent : ℕ) (vs : List Value) (w : Value) → 2 ≤ length vs
+second : (inner : Leveled) (scene : SceneData) (levels spent : ℕ) (vs : List Value) (w : Value) → 2 ≤ length vs
     → w ≡ get_or vs 1 w
-    → branch_outcome inner scene (Some false) (nodes_of vs) spent
-    ≡ made_into alone (under (Index 2) (value_outcome inner scene (data_of w) spent))
-second inner scene spent [] w above at = absurd (omega (arith, above))
-second inner scene spent (x ∷ []) w above at = absurd (omega (arith, above))
-second inner scene spent (x ∷ y ∷ vs) w above at =
-    ap (λ (z : Value). made_into alone (under (Index 2) (value_outcome inner scene (data_of z) spent))) (sym at)
+    → branch_outcome inner scene levels (Some false) (nodes_of vs) spent
+    ≡ made_into alone (under (Index 2) (value_outcome inner scene levels (data_of w) spent))
+second inner scene levels spent [] w above at = absurd (omega (arith, above))
+second inner scene levels spent (x ∷ []) w above at = absurd (omega (arith, above))
+second inner scene levels spent (x ∷ y ∷ vs) w above at =
+    ap (λ (z : Value). made_into alone (under (Index 2) (value_outcome inner scene levels (data_of z) spent))) (sym at)
 
-nothing : (inner : Evaluating) (scene : SceneData) (spent : ℕ) (vs : List Value) → length vs < 1
-    → branch_outcome inner scene (Some false) (nodes_of vs) spent ≡ Gives (alone null) spent
-nothing inner scene spent [] below = refl
-nothing inner scene spent (x ∷ vs) below = absurd (omega (arith, below))
+nothing : (inner : Leveled) (scene : SceneData) (levels spent : ℕ) (vs : List Value) → length vs < 1
+    → branch_outcome inner scene levels (Some false) (nodes_of vs) spent ≡ Gives (alone null) spent
+nothing inner scene levels spent [] below = refl
+nothing inner scene levels spent (x ∷ vs) below = absurd (omega (arith, below))
 
 pub returns-in-empty : goal.returns-in-empty
-returns-in-empty c inner scene spent = nothing inner scene spent c.args.branches.now c.in-empty.len_below
+returns-in-empty c inner scene levels spent = nothing inner scene levels spent c.args.branches.now c.in-empty.len_below
 
-one : (inner : Evaluating) (scene : SceneData) (spent : ℕ) (vs : List Value) → 1 ≤ length vs → length vs < 2
-    → branch_outcome inner scene (Some false) (nodes_of vs) spent ≡ Gives (alone null) spent
-one inner scene spent [] above below = absurd (omega (arith, above))
-one inner scene spent (x ∷ []) above below = refl
-one inner scene spent (x ∷ y ∷ vs) above below = absurd (omega (arith, below))
+one : (inner : Leveled) (scene : SceneData) (levels spent : ℕ) (vs : List Value) → 1 ≤ length vs → length vs < 2
+    → branch_outcome inner scene levels (Some false) (nodes_of vs) spent ≡ Gives (alone null) spent
+one inner scene levels spent [] above below = absurd (omega (arith, above))
+one inner scene levels spent (x ∷ []) above below = refl
+one inner scene levels spent (x ∷ y ∷ vs) above below = absurd (omega (arith, below))
 
 pub returns-in-len1 : goal.returns-in-len1
-returns-in-len1 c inner scene spent =
-    one inner scene spent c.args.branches.now c.in-len1.len_at_least c.in-len1.len_below
+returns-in-len1 c inner scene levels spent =
+    one inner scene levels spent c.args.branches.now c.in-len1.len_at_least c.in-len1.len_below
 
 pub returns-in-len2-up : goal.returns-in-len2-up
-returns-in-len2-up c inner scene spent =
-    second inner scene spent c.args.branches.now c.second-item.result c.in-len2-up.len_at_least c.second-item.is
+returns-in-len2-up c inner scene levels spent =
+    second inner scene levels spent c.args.branches.now c.second-item.result c.in-len2-up.len_at_least c.second-item.is

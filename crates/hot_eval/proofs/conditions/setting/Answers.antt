@@ -8,4 +8,4 @@ use Rattle.hot_eval.proofs.conditions.setting.Goals as goal
 pub returns-clause-again : goal.returns-clause-again
 returns-clause-again c =
     root_is c.root.result.repeats (in_conditions c.args.params.now (valued_data c.args.known))
-    (in_conditions c.args.params.now (valued_data c.args.known)) c.root.ensures refl
+    (in_conditions c.args.params.now (valued_data c.args.known)) c.root.ensures.repeats refl

@@ -3,11 +3,11 @@ use Rattle.std.proofs.lemmas.Result.{err_from_is_err_and}
 use Rattle.heat_value.specs.Data.{Members, fields}
 use Rattle.heat_value.specs.Meaning.{data_of, members_of}
 use Rattle.heat_value.specs.declared.path.Step.TheVariants.{Key}
-use Rattle.hot_eval.specs.Answers.{again, picked_outcome}
+use Rattle.hot_eval.specs.Answers.{again, inside_again, levels, picked_outcome}
 use Rattle.eval_words.specs.Evaluation.{value_outcome, values_outcome, members_outcome, all_but_outcome, alone}
 use Rattle.eval_words.specs.Choices.{choices, repetition}
 use Rattle.eval_words.specs.Evaluation.{condition_outcome, conditions_outcome, outcome_unless, choices_outcome}
-use Rattle.eval_words.specs.Evaluation.{call, sole_of}
+use Rattle.eval_words.specs.Evaluation.{call, replaced, sole_of}
 use Rattle.eval_words.specs.Names.{function_of, condition_function_of, named_in}
 use Rattle.eval_words.specs.Outcomes.{Gives, made_into, under}
 use Rattle.hot_eval.specs.Repeats.{lists_of, choice_of}
@@ -23,31 +23,31 @@ use Rattle.hot_eval.proofs.evaluation.+evaluation.Goals as goal
 
 pub values-loop-place-preserved : goal.values-loop-place-preserved
 values-loop-place-preserved t c =
-    list_goes_on (value_outcome (again c.args.set.now) (scene_data c.args.set.now.scene)) (values_outcome (again c.args.set.now) (scene_data c.args.set.now.scene)) (λ i n. refl) (λ i d ns n. refl)
+    list_goes_on (value_outcome (again c.args.set.now) (scene_data c.args.set.now.scene) (levels c.args.set.now)) (values_outcome (again c.args.set.now) (scene_data c.args.set.now.scene) (levels c.args.set.now)) (λ i n. refl) (λ i d ns n. refl)
     _ _ _ _ _ _ _ _ _ c.loop-place.invariant c.loop-place-test.true c.index-given-place.is c.in_ok-push.ensures.ok
     (c.in_ok-at_place.ensures _ _ c.value.ensures)
 
 pub values-returns : goal.values-returns
 values-returns t c =
-    list_ends (value_outcome (again c.args.set.now) (scene_data c.args.set.now.scene)) (values_outcome (again c.args.set.now) (scene_data c.args.set.now.scene)) (λ i n. refl) (λ i d ns n. refl)
+    list_ends (value_outcome (again c.args.set.now) (scene_data c.args.set.now.scene) (levels c.args.set.now)) (values_outcome (again c.args.set.now) (scene_data c.args.set.now.scene) (levels c.args.set.now)) (λ i n. refl) (λ i d ns n. refl)
     _ _ _ _ _ c.loop-place.invariant c.loop-place-test.false
 
 pub conditions-loop-place-preserved : goal.conditions-loop-place-preserved
 conditions-loop-place-preserved t c =
-    list_goes_on (condition_outcome (again c.args.set.now) (scene_data c.args.set.now.scene)) (conditions_outcome (again c.args.set.now) (scene_data c.args.set.now.scene)) (λ i n. refl) (λ i d ns n. refl)
+    list_goes_on (condition_outcome (again c.args.set.now) (scene_data c.args.set.now.scene) (levels c.args.set.now)) (conditions_outcome (again c.args.set.now) (scene_data c.args.set.now.scene) (levels c.args.set.now)) (λ i n. refl) (λ i d ns n. refl)
     _ _ _ _ _ _ _ _ _ c.loop-place.invariant c.loop-place-test.true c.index-given-place.is c.in_ok-push.ensures.ok
     (c.in_ok-at_place.ensures _ _ c.condition.ensures)
 
 pub conditions-returns : goal.conditions-returns
 conditions-returns t c =
-    list_ends (condition_outcome (again c.args.set.now) (scene_data c.args.set.now.scene)) (conditions_outcome (again c.args.set.now) (scene_data c.args.set.now.scene)) (λ i n. refl) (λ i d ns n. refl)
+    list_ends (condition_outcome (again c.args.set.now) (scene_data c.args.set.now.scene) (levels c.args.set.now)) (conditions_outcome (again c.args.set.now) (scene_data c.args.set.now.scene) (levels c.args.set.now)) (λ i n. refl) (λ i d ns n. refl)
     _ _ _ _ _ c.loop-place.invariant c.loop-place-test.false
 
 -- ---- maps
 
 pub members-loop-member-preserved : goal.members-loop-member-preserved
 members-loop-member-preserved t c =
-    map_goes_on (λ k d n. under (Key k) (value_outcome (again c.args.set.now) (scene_data c.args.set.now.scene) d n)) (members_outcome (again c.args.set.now) (scene_data c.args.set.now.scene))
+    map_goes_on (λ k d n. under (Key k) (value_outcome (again c.args.set.now) (scene_data c.args.set.now.scene) (levels c.args.set.now) d n)) (members_outcome (again c.args.set.now) (scene_data c.args.set.now.scene) (levels c.args.set.now))
     (λ n. refl) (λ k d ms n. refl) _ _ _ (members_of c.as_slice-member-items.result.now) _ _ _ _ _ _ _
     (rw c.as_slice-member-items.ensures.members c.as_slice-member-items.ensures.rising)
     c.loop-member.invariant c.loop-member-test.true c.member-item.is c.in_ok-copy.ensures c.in_ok-put.ensures.ok
@@ -55,14 +55,14 @@ members-loop-member-preserved t c =
 
 pub members-returns : goal.members-returns
 members-returns t c =
-    ap (λ (ms : Members). members_outcome (again c.args.set.now) (scene_data c.args.set.now.scene) ms c.args.sum.now) (sym c.as_slice-member-items.ensures.members)
-    ∙ map_ends (λ k d n. under (Key k) (value_outcome (again c.args.set.now) (scene_data c.args.set.now.scene) d n)) (members_outcome (again c.args.set.now) (scene_data c.args.set.now.scene))
+    ap (λ (ms : Members). members_outcome (again c.args.set.now) (scene_data c.args.set.now.scene) (levels c.args.set.now) ms c.args.sum.now) (sym c.as_slice-member-items.ensures.members)
+    ∙ map_ends (λ k d n. under (Key k) (value_outcome (again c.args.set.now) (scene_data c.args.set.now.scene) (levels c.args.set.now) d n)) (members_outcome (again c.args.set.now) (scene_data c.args.set.now.scene) (levels c.args.set.now))
     (λ n. refl) (λ k d ms n. refl) _ _ (members_of c.as_slice-member-items.result.now) _ _ _
     c.loop-member.invariant c.loop-member-test.false
 
 pub all_but-loop-member-preserved : goal.all_but-loop-member-preserved
 all_but-loop-member-preserved t c =
-    map_goes_on (outcome_unless (again c.args.set.now) (scene_data c.args.set.now.scene) c.args.but.now) (all_but_outcome (again c.args.set.now) (scene_data c.args.set.now.scene) c.args.but.now)
+    map_goes_on (outcome_unless (again c.args.set.now) (scene_data c.args.set.now.scene) (levels c.args.set.now) c.args.but.now) (all_but_outcome (again c.args.set.now) (scene_data c.args.set.now.scene) (levels c.args.set.now) c.args.but.now)
     (λ n. refl) (λ k d ms n. refl) _ _ _ (members_of c.as_slice-member-items.result.now) _ _ _ _ _ _ _
     (rw c.as_slice-member-items.ensures.members c.as_slice-member-items.ensures.rising)
     c.loop-member.invariant c.loop-member-test.true c.member-item.is c.in_ok-copy.ensures c.in_ok-put.ensures.ok
@@ -70,9 +70,9 @@ all_but-loop-member-preserved t c =
 
 pub all_but-returns : goal.all_but-returns
 all_but-returns t c =
-    ap (λ (ms : Members). all_but_outcome (again c.args.set.now) (scene_data c.args.set.now.scene) c.args.but.now ms c.args.sum.now)
+    ap (λ (ms : Members). all_but_outcome (again c.args.set.now) (scene_data c.args.set.now.scene) (levels c.args.set.now) c.args.but.now ms c.args.sum.now)
     (sym c.as_slice-member-items.ensures.members)
-    ∙ map_ends (outcome_unless (again c.args.set.now) (scene_data c.args.set.now.scene) c.args.but.now) (all_but_outcome (again c.args.set.now) (scene_data c.args.set.now.scene) c.args.but.now)
+    ∙ map_ends (outcome_unless (again c.args.set.now) (scene_data c.args.set.now.scene) (levels c.args.set.now) c.args.but.now) (all_but_outcome (again c.args.set.now) (scene_data c.args.set.now.scene) (levels c.args.set.now) c.args.but.now)
     (λ n. refl) (λ k d ms n. refl) _ _ (members_of c.as_slice-member-items.result.now) _ _ _
     c.loop-member.invariant c.loop-member-test.false
 
@@ -80,15 +80,15 @@ all_but-returns t c =
 
 pub branch_value-returns-in_ok-at_place-in-Branch : goal.branch_value-returns-in_ok-at_place-in-Branch
 branch_value-returns-in_ok-at_place-in-Branch t c flag branches picked =
-    picked (again c.args.set.now) (scene_data c.args.set.now.scene) c.args.sum.now
-    ∙ ap (λ (p : Picked). picked_outcome (again c.args.set.now) (scene_data c.args.set.now.scene) p c.args.sum.now) c.in-Branch.is
+    picked (again c.args.set.now) (scene_data c.args.set.now.scene) (levels c.args.set.now) c.args.sum.now
+    ∙ ap (λ (p : Picked). picked_outcome (again c.args.set.now) (scene_data c.args.set.now.scene) (levels c.args.set.now) p c.args.sum.now) c.in-Branch.is
     ∙ ap (made_into alone) (c.in_ok-at_place-in-Branch.ensures _ _ c.value.ensures)
 
 pub branch_value-returns-in_err-at_place-in-Branch : goal.branch_value-returns-in_err-at_place-in-Branch
 branch_value-returns-in_err-at_place-in-Branch t c flag branches picked =
     let p = err_from_is_err_and c.from_residual.result c.from_residual.ensures.1 in
     rw (p.1, p.2) (fault_same _ _ _
-    (picked (again c.args.set.now) (scene_data c.args.set.now.scene) c.args.sum.now ∙ ap (λ (p : Picked). picked_outcome (again c.args.set.now) (scene_data c.args.set.now.scene) p c.args.sum.now) c.in-Branch.is)
+    (picked (again c.args.set.now) (scene_data c.args.set.now.scene) (levels c.args.set.now) c.args.sum.now ∙ ap (λ (p : Picked). picked_outcome (again c.args.set.now) (scene_data c.args.set.now.scene) (levels c.args.set.now) p c.args.sum.now) c.in-Branch.is)
     (fault_made _ alone _ (c.in_err-at_place-in-Branch.ensures _ _ c.value.ensures)))
 
 -- ---- choices
@@ -97,16 +97,16 @@ pub choice_values-returns-in_err-choice_value : goal.choice_values-returns-in_er
 choice_values-returns-in_err-choice_value t c =
     let p = err_from_is_err_and c.from_residual-in_err-choice_value.result
     c.from_residual-in_err-choice_value.ensures.1 in
-    rw (p.1, p.2) (turn_stops (again c.args.set.now) (data_of c.args.repetition.now.template.now)
-    (choices_outcome (again c.args.set.now) (data_of c.args.repetition.now.template.now) (choices (lists_of c.args.repetition.now.lists.items)) c.args.sum.now)
+    rw (p.1, p.2) (turn_stops (inside_again c.args.set.now) (data_of c.args.repetition.now.template.now)
+    (choices_outcome (inside_again c.args.set.now) (data_of c.args.repetition.now.template.now) (choices (lists_of c.args.repetition.now.lists.items)) c.args.sum.now)
     (lists_of c.as_slice-lists.result.now) c.loop-places.places.items (choice_of c.in_ok-choice.choice) c.in_ok-choice.ensures.choice
     c.in_err-choice_value.field-0.0 c.loop-places.items c.loop-places.sum c.loop-places.invariant.1
     c.loop-places.invariant.0 c.in_err-choice_value.ensures)
 
 pub choice_values-returns-then-not-go_on : goal.choice_values-returns-then-not-go_on
 choice_values-returns-then-not-go_on t c =
-    turn_ends (again c.args.set.now) (data_of c.args.repetition.now.template.now)
-    (choices_outcome (again c.args.set.now) (data_of c.args.repetition.now.template.now) (choices (lists_of c.args.repetition.now.lists.items)) c.args.sum.now)
+    turn_ends (inside_again c.args.set.now) (data_of c.args.repetition.now.template.now)
+    (choices_outcome (inside_again c.args.set.now) (data_of c.args.repetition.now.template.now) (choices (lists_of c.args.repetition.now.lists.items)) c.args.sum.now)
     (lists_of c.as_slice-lists.result.now) c.loop-places.places.items (choice_of c.in_ok-choice.choice) c.in_ok-choice.ensures.choice
     c.go_on.result c.go_on.new.places.items c.loop-places.items c.push.new.self
     (data_of c.in_ok-choice_value.field-0) c.loop-places.sum c.choice_value.new.sum c.if-not-go_on.true
@@ -114,8 +114,8 @@ choice_values-returns-then-not-go_on t c =
 
 pub choice_values-loop-places-preserved : goal.choice_values-loop-places-preserved
 choice_values-loop-places-preserved t c =
-    turn_goes_on (again c.args.set.now) (data_of c.args.repetition.now.template.now)
-    (choices_outcome (again c.args.set.now) (data_of c.args.repetition.now.template.now) (choices (lists_of c.args.repetition.now.lists.items)) c.args.sum.now)
+    turn_goes_on (inside_again c.args.set.now) (data_of c.args.repetition.now.template.now)
+    (choices_outcome (inside_again c.args.set.now) (data_of c.args.repetition.now.template.now) (choices (lists_of c.args.repetition.now.lists.items)) c.args.sum.now)
     (lists_of c.as_slice-lists.result.now) c.loop-places.places.items (choice_of c.in_ok-choice.choice) c.in_ok-choice.ensures.choice
     c.go_on.result c.go_on.new.places.items c.loop-places.items c.push.new.self
     (data_of c.in_ok-choice_value.field-0) c.loop-places.sum c.choice_value.new.sum c.if-not-go_on.false
@@ -124,7 +124,7 @@ choice_values-loop-places-preserved t c =
 pub repeated-returns-in_ok-items-in-Ok : goal.repeated-returns-in_ok-items-in-Ok
 repeated-returns-in_ok-items-in-Ok t c =
     outcome_is data_of c.answered.result c.answered.new.sum _ _
-    (repeated_gives (again c.args.set.now) (repetition (data_of c.args.given.now)) c.in-Ok.repetition c.args.sum.now
+    (repeated_gives (inside_again c.args.set.now) (repetition (data_of c.args.given.now)) c.in-Ok.repetition c.args.sum.now
     c.choice_values.new.sum _ c.in-Ok.ensures.exact c.in_ok-items-in-Ok.ensures)
     (c.answered.ensures _ refl)
 
@@ -133,19 +133,19 @@ repeated-returns-in_ok-items-in-Ok t c =
 pub object-returns-in-Some : goal.object-returns-in-Some
 object-returns-in-Some t c =
     outcome_is data_of c.call.result c.call.new.sum _ _
-    (object_calls (again c.args.set.now) (scene_data c.args.set.now.scene) c.args.sum.now c.args.given.now
+    (object_calls (again c.args.set.now) (scene_data c.args.set.now.scene) (levels c.args.set.now) (levels c.in_ok-set.field-0) c.args.sum.now c.in_ok-set.ensures.less c.args.given.now
     (c.in-Some.member.now.key, data_of c.in-Some.member.now.value, c.in-Some.function)
     (c.in-Some.ensures ∙ ap (named_in function_of) c.as_slice.ensures.members)
-    ∙ there (λ X T b. call X T c.in-Some.function b (sole_of X T c.in-Some.member.now.key
+    ∙ there (λ X T b. call (replaced X (levels c.in_ok-set.field-0)) T c.in-Some.function b (sole_of X T (levels c.in_ok-set.field-0) c.in-Some.member.now.key
     (data_of c.in-Some.member.now.value)) c.args.sum.now) (again c.args.set.now) _ (scene_data c.args.set.now.scene) _ _ _ c.in_ok-set.ensures.again
     c.in_ok-set.ensures.scene c.is_formed.ensures)
     c.call.ensures
 
 pub object-returns-in_ok-members-in-None : goal.object-returns-in_ok-members-in-None
 object-returns-in_ok-members-in-None t c =
-    object_plain (again c.args.set.now) (scene_data c.args.set.now.scene) c.args.sum.now c.args.given.now
+    object_plain (again c.args.set.now) (scene_data c.args.set.now.scene) (levels c.args.set.now) (levels c.in_ok-set.field-0) c.args.sum.now c.in_ok-set.ensures.less c.args.given.now
     (c.in-None.ensures ∙ ap (named_in function_of) c.as_slice.ensures.members)
-    ∙ ap (made_into fields) (there (λ X T (l : Members). members_outcome X T l c.args.sum.now) (again c.args.set.now) _ (scene_data c.args.set.now.scene) _
+    ∙ ap (made_into fields) (there (λ X T (l : Members). members_outcome X T (levels c.in_ok-set.field-0) l c.args.sum.now) (again c.args.set.now) _ (scene_data c.args.set.now.scene) _
     c.args.given.now c.args.given.now c.in_ok-set.ensures.again c.in_ok-set.ensures.scene refl
     ∙ c.in_ok-members-in-None.ensures)
 
@@ -153,25 +153,32 @@ pub object-returns-in_err-members-in-None : goal.object-returns-in_err-members-i
 object-returns-in_err-members-in-None t c =
     let p = err_from_is_err_and c.from_residual-in_err-members-in-None.result
     c.from_residual-in_err-members-in-None.ensures.1 in
-    rw (p.1, p.2) (fault_same _ _ _ (object_plain (again c.args.set.now) (scene_data c.args.set.now.scene) c.args.sum.now c.args.given.now
+    rw (p.1, p.2) (fault_same _ _ _ (object_plain (again c.args.set.now) (scene_data c.args.set.now.scene) (levels c.args.set.now) (levels c.in_ok-set.field-0) c.args.sum.now c.in_ok-set.ensures.less c.args.given.now
     (c.in-None.ensures ∙ ap (named_in function_of) c.as_slice.ensures.members))
-    (fault_made _ fields _ (fault_same _ _ _ (there (λ X T (l : Members). members_outcome X T l c.args.sum.now)
+    (fault_made _ fields _ (fault_same _ _ _ (there (λ X T (l : Members). members_outcome X T (levels c.in_ok-set.field-0) l c.args.sum.now)
     (again c.args.set.now) _ (scene_data c.args.set.now.scene) _ c.args.given.now c.args.given.now c.in_ok-set.ensures.again c.in_ok-set.ensures.scene refl)
     c.in_err-members-in-None.ensures)))
 
 pub condition_object-returns-in-Some : goal.condition_object-returns-in-Some
 condition_object-returns-in-Some t c =
     outcome_is data_of c.call.result c.call.new.sum _ _
-    (condition_calls (again c.args.set.now) (scene_data c.args.set.now.scene) c.args.sum.now c.args.given.now
+    (condition_calls (again c.args.set.now) (scene_data c.args.set.now.scene) (levels c.args.set.now) (levels c.in_ok-set.field-0) c.args.sum.now c.in_ok-set.ensures.less c.args.given.now
     (c.in-Some.member.now.key, data_of c.in-Some.member.now.value, c.in-Some.function)
     (c.in-Some.ensures ∙ ap (named_in condition_function_of) c.as_slice.ensures.members)
-    ∙ there (λ X T b. call X T c.in-Some.function b (sole_of X T c.in-Some.member.now.key
+    ∙ there (λ X T b. call (replaced X (levels c.in_ok-set.field-0)) T c.in-Some.function b (sole_of X T (levels c.in_ok-set.field-0) c.in-Some.member.now.key
     (data_of c.in-Some.member.now.value)) c.args.sum.now) (again c.args.set.now) _ (scene_data c.args.set.now.scene) _ _ _ c.in_ok-set.ensures.again
     c.in_ok-set.ensures.scene c.is_condition_formed.ensures)
     c.call.ensures
 
 pub condition_object-returns-in_ok-copy-in-None : goal.condition_object-returns-in_ok-copy-in-None
 condition_object-returns-in_ok-copy-in-None t c =
-    condition_plain (again c.args.set.now) (scene_data c.args.set.now.scene) c.args.sum.now c.args.given.now
+    condition_plain (again c.args.set.now) (scene_data c.args.set.now.scene) (levels c.args.set.now) (levels c.in_ok-set.field-0) c.args.sum.now c.in_ok-set.ensures.less c.args.given.now
     (c.in-None.ensures ∙ ap (named_in condition_function_of) c.as_slice.ensures.members)
     ∙ ap (λ (l : Members). Gives (fields l) c.args.sum.now) (sym c.in_ok-copy-in-None.ensures)
+
+-- ---- levels
+
+pub replaced_value-returns-in_err-repeated : goal.replaced_value-returns-in_err-repeated
+replaced_value-returns-in_err-repeated t c =
+    let p = err_from_is_err_and c.from_residual.result c.from_residual.ensures.1 in
+    rw (p.1, p.2, c.in_err-repeated.ensures.err.0) (c.in_err-repeated.ensures.err.1 _ _)

@@ -1,6 +1,6 @@
 use Rattle.std.proofs.Common.{◌+◌, ◌*◌, length}
 use Rattle.heat_value.specs.Meaning.{data_of, nodes_of, members_of}
-use Rattle.hot_eval.specs.Answers.{again}
+use Rattle.hot_eval.specs.Answers.{again, inside_again, levels}
 use Rattle.eval_words.specs.Choices.{choices}
 use Rattle.eval_words.specs.Evaluation.{values_outcome, members_outcome, all_but_outcome, conditions_outcome}
 use Rattle.eval_words.specs.Evaluation.{choices_outcome}
@@ -13,31 +13,31 @@ use Rattle.hot_eval.proofs.evaluation.+evaluation.Given as goal
 
 abbrev pub invariant-values-loop-place : goal.invariant-values-loop-place
 invariant-values-loop-place l =
-    IsListWay (values_outcome (again l.set) (scene_data l.set.scene))
-    (values_outcome (again l.set) (scene_data l.set.scene) 0 (nodes_of l.given) l.fn.sum) l.items l.place l.given l.sum
+    IsListWay (values_outcome (again l.set) (scene_data l.set.scene) (levels l.set))
+    (values_outcome (again l.set) (scene_data l.set.scene) (levels l.set) 0 (nodes_of l.given) l.fn.sum) l.items l.place l.given l.sum
 
 abbrev pub invariant-conditions-loop-place : goal.invariant-conditions-loop-place
 invariant-conditions-loop-place l =
-    IsListWay (conditions_outcome (again l.set) (scene_data l.set.scene))
-    (conditions_outcome (again l.set) (scene_data l.set.scene) 0 (nodes_of l.given) l.fn.sum) l.items l.place l.given
+    IsListWay (conditions_outcome (again l.set) (scene_data l.set.scene) (levels l.set))
+    (conditions_outcome (again l.set) (scene_data l.set.scene) (levels l.set) 0 (nodes_of l.given) l.fn.sum) l.items l.place l.given
     l.sum
 
 abbrev pub invariant-members-loop-member : goal.invariant-members-loop-member
 invariant-members-loop-member l =
-    IsMapWay (members_outcome (again l.set) (scene_data l.set.scene))
-    (members_outcome (again l.set) (scene_data l.set.scene) (members_of l.member-items) l.fn.sum) l.fields
+    IsMapWay (members_outcome (again l.set) (scene_data l.set.scene) (levels l.set))
+    (members_outcome (again l.set) (scene_data l.set.scene) (levels l.set) (members_of l.member-items) l.fn.sum) l.fields
     (members_of l.member-items) l.member-index l.member-items l.sum
 
 abbrev pub invariant-all_but-loop-member : goal.invariant-all_but-loop-member
 invariant-all_but-loop-member l =
-    IsMapWay (all_but_outcome (again l.set) (scene_data l.set.scene) l.but)
-    (all_but_outcome (again l.set) (scene_data l.set.scene) l.but (members_of l.member-items) l.fn.sum) l.fields
+    IsMapWay (all_but_outcome (again l.set) (scene_data l.set.scene) (levels l.set) l.but)
+    (all_but_outcome (again l.set) (scene_data l.set.scene) (levels l.set) l.but (members_of l.member-items) l.fn.sum) l.fields
     (members_of l.member-items) l.member-index l.member-items l.sum
 
 abbrev pub invariant-choice_values-loop-places : goal.invariant-choice_values-loop-places
 invariant-choice_values-loop-places l =
-    IsChoiceWay (again l.set) (data_of l.repetition.template.now)
-    (choices_outcome (again l.set) (data_of l.repetition.template.now) (choices (lists_of l.repetition.lists.items))
+    IsChoiceWay (inside_again l.set) (data_of l.repetition.template.now)
+    (choices_outcome (inside_again l.set) (data_of l.repetition.template.now) (choices (lists_of l.repetition.lists.items))
     l.fn.sum) l.items (choices_from (lists_of l.lists) l.places.items) l.sum
     × ArePlaces (lists_of l.lists) l.places.items
 
@@ -96,3 +96,6 @@ decreases-object l = l.set.now.depth.levels * 16 + 4
 
 abbrev pub decreases-condition_object : goal.decreases-condition_object
 decreases-condition_object l = l.set.now.depth.levels * 16 + 4
+
+abbrev pub decreases-replaced_value : goal.decreases-replaced_value
+decreases-replaced_value l = l.set.now.depth.levels * 16 + 4

@@ -1,5 +1,5 @@
 -- The closure compares a key with the text that is looked for.
-use Rattle.std.proofs.Common.{◌≡◌, ◌∙◌, ap, sym, subst, arith, rules, length, List, ℕ}
+use Rattle.std.proofs.Common.{◌∙◌, ap, sym, subst, arith, rules, length, List, ℕ}
 use Rattle.std.proofs.lemmas.Fn.{always_returns_same}
 use Rattle.std.specs.Ordering.{nat_cmp}
 use Rattle.std.specs.Cmp.Lexicographic.{slice_cmp}

@@ -5,4 +5,4 @@ use Rattle.hot_eval.proofs.resolving.setting.Goals as goal
 pub returns-clause-again : goal.returns-clause-again
 returns-clause-again c =
     root_is c.root.result.repeats (scene_of c.args.plan.now c.args.known.now) (scene_data c.of_plan.result)
-    c.root.ensures c.of_plan.ensures
+    c.root.ensures.repeats c.of_plan.ensures

@@ -1,7 +1,7 @@
-use Rattle.std.proofs.Common.{take}
+use Rattle.std.proofs.Common.{◌+◌, length, take}
 use Rattle.traversal_graph.specs.Candidates.{each, required_behind}
-use Rattle.traversal_graph.specs.Drafts.{Draws}
+use Rattle.traversal_graph.specs.Fans.{Adds}
 use Rattle.traversal_graph.proofs.candidates.add_requires.Given as goal
 
 abbrev pub invariant-loop-r : goal.invariant-loop-r
-invariant-loop-r l = Draws (each (take l.r l.rows) (required_behind l.first l.rows)) l.initial.draft l.draft
+invariant-loop-r l = Adds (l.first + length l.rows) (each (take l.r l.rows) (required_behind l.first l.rows)) l.initial.fans l.fans

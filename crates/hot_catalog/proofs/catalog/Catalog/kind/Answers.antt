@@ -9,4 +9,4 @@ returns-in-Some c =
 pub returns-in-None : goal.returns-in-None
 returns-in-None c =
     then_found c.args.name.now c.args.self.now.registered c.args.self.now.given _
-    (rw c.as_slice.ensures at c.in-None.ensures) (rw c.as_slice-in-None.ensures at c.named-in-None.ensures)
+    (rw c.as_slice.ensures at c.in-None.ensures) (rw c.as_slice-in-None.ensures.kinds at c.named-in-None.ensures)

@@ -1,0 +1,4 @@
+pub mod Calm
+pub mod Heard
+pub mod Moves
+pub mod Fits
