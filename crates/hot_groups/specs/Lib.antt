@@ -1,0 +1,15 @@
+pub mod Codes
+pub mod Counts
+pub mod Gathering
+pub mod Indexed
+pub mod Variables
+pub mod Forms
+pub mod Groups
+pub mod Members
+pub mod Naming
+pub mod Present
+pub mod References
+pub mod Rewritten
+pub mod Marks
+pub mod Expanded
+pub mod Expansions
