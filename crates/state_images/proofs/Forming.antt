@@ -1,11 +1,12 @@
 -- Every change that applies keeps what a state has that changes made of nothing.
-use Rattle.std.proofs.Common.{◌≡◌, ◌≢◌, inl, inr, ℕ, Bool, true, false, cond, List, [], ◌∷◌, ◌++◌, Some, None, refl, sym, ap, ◌∙◌, subst, arith}
+use Rattle.std.proofs.Common.{◌≡◌, ◌≢◌, inl, inr, ◌+◌, length, suc, ℕ, Bool, true, false, cond, List, [], ◌∷◌, ◌++◌, Some, None, refl, sym, ap, ◌∙◌, subst, arith}
 use Rattle.std.specs.Prelude.{Decides, IsSome, not, nat_eq, slice_set}
 use Rattle.std.specs.List.{AllByRecursion}
 use Rattle.std.specs.Str.{bytes_eq}
 use Rattle.std.proofs.lemmas.Bool.Decides.{Decides-eqb}
 use Rattle.std.proofs.lemmas.Slice.Eq.{bytes_eq-Decides}
 use Rattle.heat_plan.specs.Tables.{at}
+use Rattle.traversal_graph.specs.declared.shape.Node.{Node}
 use Rattle.traversal_graph.specs.declared.shape.TravGraph.{TravGraph}
 use Rattle.row_table.specs.Rows.{row_key}
 use Rattle.mail_table.specs.Mails.{job_key, letter_key}
@@ -22,7 +23,7 @@ use Rattle.core_state.specs.declared.stack.Stack.{Stack}
 use Rattle.step_relation.specs.Images.{IsMade}
 use Rattle.step_relation.specs.Opening.{bare}
 use Rattle.history_laws.proofs.tables.Tables.{at-cut_other, cases, some_put}
-use Rattle.state_images.specs.Formed.{AreByNode, AreNew, HasKeysOnce, IsFormed, IsLaid, IsOfThese, StacksStand}
+use Rattle.state_images.specs.Formed.{AreByNode, AreNew, HasKeysOnce, IsAligned, IsFormed, IsLaid, IsOfThese, StacksStand}
 use Rattle.state_images.proofs.Keys.{once_cut, once_put}
 use Rattle.state_images.proofs.News.{new_filter, new_push}
 use Rattle.state_images.proofs.Alls.{all_cut, all_put, all_weaker}
@@ -144,57 +145,97 @@ formed_apply (change.PutPast p) s a f = let k = f.stacks in record {
   work = f.work;
   lists = f.lists;
 }
-formed_apply (change.PutRow r) s a f = record { stacks = f.stacks; lists = f.lists; work = record {
-  rows_once = once_put nat_eq Decides-eqb row_key r s.rows f.work.rows_once;
-  letters_once = f.work.letters_once;
-  jobs_once = f.work.jobs_once;
-} }
-formed_apply (change.DropRow n) s a f = record { stacks = f.stacks; lists = f.lists; work = record {
-  rows_once = once_cut nat_eq Decides-eqb row_key n s.rows f.work.rows_once;
-  letters_once = f.work.letters_once;
-  jobs_once = f.work.jobs_once;
-} }
-formed_apply (change.Send l) s a f = record { stacks = f.stacks; lists = f.lists; work = record {
-  rows_once = f.work.rows_once;
-  letters_once = once_put nat_eq Decides-eqb letter_key l s.letters f.work.letters_once;
-  jobs_once = f.work.jobs_once;
-} }
-formed_apply (change.Drop n) s a f = record { stacks = f.stacks; lists = f.lists; work = record {
-  rows_once = f.work.rows_once;
-  letters_once = once_cut nat_eq Decides-eqb letter_key n s.letters f.work.letters_once;
-  jobs_once = f.work.jobs_once;
-} }
-formed_apply (change.PutJob j) s a f = record { stacks = f.stacks; lists = f.lists; work = record {
-  rows_once = f.work.rows_once;
-  letters_once = f.work.letters_once;
-  jobs_once = once_put nat_eq Decides-eqb job_key j s.jobs f.work.jobs_once;
-} }
-formed_apply (change.EndJob e) s a f = record { stacks = f.stacks; lists = f.lists; work = record {
-  rows_once = f.work.rows_once;
-  letters_once = f.work.letters_once;
-  jobs_once = once_cut nat_eq Decides-eqb job_key e s.jobs f.work.jobs_once;
-} }
-formed_apply (change.Enlist e) s a f = record { stacks = f.stacks; work = f.work; lists = record {
-  live_once = new_push [] s.live e f.lists.live_once a;
-  released_once = f.lists.released_once;
-  begun = f.lists.begun;
-} }
-formed_apply (change.Stop e) s a f = record { stacks = f.stacks; work = f.work; lists = record {
-  live_once = new_filter (λ x. not (nat_eq x e)) [] [] s.live (λ x c. c) f.lists.live_once;
-  released_once = f.lists.released_once;
-  begun = f.lists.begun;
-} }
-formed_apply (change.Numbers n) s a f = record { stacks = f.stacks; work = f.work; lists = record {
-  live_once = f.lists.live_once;
-  released_once = f.lists.released_once;
-  begun = let b = f.lists.begun in
-      record { stack = omega arith; trav = omega arith; row = omega arith; engine = omega arith; letter = omega arith };
-} }
-formed_apply (change.Release t) s a f = record { stacks = f.stacks; work = f.work; lists = record {
-  live_once = f.lists.live_once;
-  released_once = new_push [] s.released t f.lists.released_once a;
-  begun = f.lists.begun;
-} }
+formed_apply (change.PutRow r) s a f = record {
+  stacks = f.stacks;
+  lists = f.lists;
+  work = record {
+    rows_once = once_put nat_eq Decides-eqb row_key r s.rows f.work.rows_once;
+    letters_once = f.work.letters_once;
+    jobs_once = f.work.jobs_once;
+  };
+}
+formed_apply (change.DropRow n) s a f = record {
+  stacks = f.stacks;
+  lists = f.lists;
+  work = record {
+    rows_once = once_cut nat_eq Decides-eqb row_key n s.rows f.work.rows_once;
+    letters_once = f.work.letters_once;
+    jobs_once = f.work.jobs_once;
+  };
+}
+formed_apply (change.Send l) s a f = record {
+  stacks = f.stacks;
+  lists = f.lists;
+  work = record {
+    rows_once = f.work.rows_once;
+    letters_once = once_put nat_eq Decides-eqb letter_key l s.letters f.work.letters_once;
+    jobs_once = f.work.jobs_once;
+  };
+}
+formed_apply (change.Drop n) s a f = record {
+  stacks = f.stacks;
+  lists = f.lists;
+  work = record {
+    rows_once = f.work.rows_once;
+    letters_once = once_cut nat_eq Decides-eqb letter_key n s.letters f.work.letters_once;
+    jobs_once = f.work.jobs_once;
+  };
+}
+formed_apply (change.PutJob j) s a f = record {
+  stacks = f.stacks;
+  lists = f.lists;
+  work = record {
+    rows_once = f.work.rows_once;
+    letters_once = f.work.letters_once;
+    jobs_once = once_put nat_eq Decides-eqb job_key j s.jobs f.work.jobs_once;
+  };
+}
+formed_apply (change.EndJob e) s a f = record {
+  stacks = f.stacks;
+  lists = f.lists;
+  work = record {
+    rows_once = f.work.rows_once;
+    letters_once = f.work.letters_once;
+    jobs_once = once_cut nat_eq Decides-eqb job_key e s.jobs f.work.jobs_once;
+  };
+}
+formed_apply (change.Enlist e) s a f = record {
+  stacks = f.stacks;
+  work = f.work;
+  lists = record {
+    live_once = new_push [] s.live e f.lists.live_once a;
+    released_once = f.lists.released_once;
+    begun = f.lists.begun;
+  };
+}
+formed_apply (change.Stop e) s a f = record {
+  stacks = f.stacks;
+  work = f.work;
+  lists = record {
+    live_once = new_filter (λ x. not (nat_eq x e)) [] [] s.live (λ x c. c) f.lists.live_once;
+    released_once = f.lists.released_once;
+    begun = f.lists.begun;
+  };
+}
+formed_apply (change.Numbers n) s a f = record {
+  stacks = f.stacks;
+  work = f.work;
+  lists = record {
+    live_once = f.lists.live_once;
+    released_once = f.lists.released_once;
+    begun = let b = f.lists.begun in
+        record { stack = omega arith; trav = omega arith; row = omega arith; engine = omega arith; letter = omega arith };
+  };
+}
+formed_apply (change.Release t) s a f = record {
+  stacks = f.stacks;
+  work = f.work;
+  lists = record {
+    live_once = f.lists.live_once;
+    released_once = new_push [] s.released t f.lists.released_once a;
+    begun = f.lists.begun;
+  };
+}
 
 pub formed_bare : IsFormed bare
 formed_bare = record {
@@ -213,3 +254,15 @@ formed_applied (c ∷ cs) s a f = formed_applied cs (apply c s) a.1 (formed_appl
 
 pub made_formed : (s : StateData) → IsMade s → IsFormed s
 made_formed s m = subst IsFormed (sym m.replayed) (formed_applied m.written bare m.applies formed_bare)
+
+-- as many points as nodes
+lengths : (stack : List ℕ) (place : ℕ) (nodes : List Node) (ps : List Point) → AreByNode stack place nodes ps
+    → length ps ≡ length nodes
+lengths stack place [] [] h = refl
+lengths stack place [] (p ∷ ps) h = absurd h
+lengths stack place (node ∷ nodes) [] h = absurd h
+lengths stack place (node ∷ nodes) (p ∷ ps) h = ap suc (lengths stack (place + 1) nodes ps h.2)
+
+pub made_aligned : (s : StateData) → IsMade s → AllByRecursion IsAligned s.graphs
+made_aligned s m = all_weaker (IsLaid s.stacks) IsAligned s.graphs
+    (λ g l. lengths g.stack 0 g.graph.nodes g.points l.points) (made_formed s m).stacks.laid

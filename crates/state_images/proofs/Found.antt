@@ -62,7 +62,7 @@ point_there stack place (n ∷ nodes) (p ∷ ps) (suc i) node h at_i = point_the
 pub formed_whole : (s : StateData) → IsFormed s → AreWhole s
 formed_whole s f name g stands its =
     let laid : IsLaid s.stacks g = all_contains (IsLaid s.stacks) s.graphs g f.stacks.laid
-        (found_among bytes_eq bytes_eq-Decides graph_key s.graphs name g its) in record {
+    (found_among bytes_eq bytes_eq-Decides graph_key s.graphs name g its) in record {
       points = λ i node at_i. point_there g.stack 0 g.graph.nodes g.points i node laid.points at_i;
       ends = laid.ends;
     }
@@ -119,9 +119,9 @@ none_points : (gs : List Graph) → PutsNone (flat_map (λ (g : Graph). map chan
 none_points [] r (k, lt, is) = omega (arith, lt)
 none_points (g ∷ gs) r c = elim (Contains-append_cases (map change.PutPoint g.points)
     (flat_map (λ (g : Graph). map change.PutPoint g.points) gs) (change.PutRow r) c) [
-  | inl x ↦ none_mapped change.PutPoint (λ p q e. cc) g.points r x
-  | inr y ↦ none_points gs r y
-]
+      | inl x ↦ none_mapped change.PutPoint (λ p q e. cc) g.points r x
+      | inr y ↦ none_points gs r y
+    ]
 
 rows_mapped : (rs : List Row) (r : Row) → Contains (map change.PutRow rs) (change.PutRow r) → Contains rs r
 rows_mapped [] r (k, lt, is) = absurd (omega (arith, lt))

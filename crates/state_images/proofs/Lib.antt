@@ -3,6 +3,15 @@ pub mod News
 pub mod Alls
 pub mod Points
 pub mod Forming
-pub mod Writing
+pub mod Written
 pub mod Snapping
 pub mod Found
+pub mod Making
+pub mod Pointing
+pub mod Snapshotting
+pub mod Listed
+pub mod Singles
+pub mod Below
+pub mod Claiming
+pub mod Newest
+pub mod Tying

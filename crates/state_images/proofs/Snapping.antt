@@ -26,8 +26,8 @@ use Rattle.state_images.specs.Formed.{AreByNode, HasKeysOnce, IsFormed, IsLaid}
 use Rattle.state_images.specs.Snapshots.{last_changes, snapshot, stack_changes, work_changes}
 use Rattle.state_images.proofs.Keys.{AreFree, free_more, free_of_none, none_append, none_cons, none_head}
 use Rattle.state_images.proofs.Points.{set_behind}
-use Rattle.state_images.proofs.Writing.{Leads, engines_written, fresh_of, graph_change, graphs_written, jobs_written, joined}
-use Rattle.state_images.proofs.Writing.{letters_written, pasts_written, rows_written, stacks_written, tokens_written}
+use Rattle.state_images.proofs.Written.{Leads, engines_written, fresh_of, graph_change, graphs_written, jobs_written, joined}
+use Rattle.state_images.proofs.Written.{letters_written, pasts_written, rows_written, stacks_written, tokens_written}
 
 -- the graph behind those of other stacks is found, and its point written
 module _ (before : List Graph) (g : Graph) (after : List Graph) (name : List ℕ) (free : graph_at before name ≡ None) (own : g.stack ≡ name) where

@@ -1,5 +1,5 @@
 -- What a state has that changes made of nothing: each key once, the stack of each graph and past, and points by nodes.
-use Rattle.std.specs.Prelude.{Bool, Contains, IsSome, List, None, Some, [], nat_eq, ℕ, ◌+◌, ◌++◌, ◌∷◌, ◌≡◌}
+use Rattle.std.specs.Prelude.{Bool, Contains, IsSome, List, None, Some, [], length, nat_eq, ℕ, ◌+◌, ◌++◌, ◌∷◌, ◌≡◌}
 use Rattle.std.specs.List.{AllByRecursion}
 use Rattle.std.specs.Str.{bytes_eq}
 use Rattle.heat_plan.specs.Tables.{at}
@@ -36,6 +36,10 @@ AreByNode stack place [] (p ∷ ps) = ⊥
 AreByNode stack place (node ∷ nodes) [] = ⊥
 AreByNode stack place (node ∷ nodes) (p ∷ ps) =
     (p.stack ≡ stack) × (p.node ≡ place) × AreByNode stack (place + 1) nodes ps
+
+-- as many points as nodes
+abbrev pub IsAligned : Graph → Type 0
+IsAligned g = length g.points ≡ length g.graph.nodes
 
 -- a graph as changes leave it, whose stack is one of these
 pub record IsLaid (stacks : List Stack) (g : Graph) : Type 0 where
