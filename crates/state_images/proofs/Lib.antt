@@ -9,3 +9,9 @@ pub mod Found
 pub mod Making
 pub mod Pointing
 pub mod Snapshotting
+pub mod Listed
+pub mod Singles
+pub mod Below
+pub mod Claiming
+pub mod Newest
+pub mod Tying

@@ -1,4 +1,7 @@
 pub mod Formed
 pub mod Snapshots
 pub mod Replays
+pub mod Ties
+pub mod Claims
+pub mod Tokens
 pub mod Laws

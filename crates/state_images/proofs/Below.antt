@@ -1,0 +1,26 @@
+-- What is below a number: of all, or of each that stands.
+use Rattle.std.proofs.Common.{◌<◌, ◌≡◌, ℕ, List, Some, subst, sym}
+use Rattle.std.specs.Prelude.{All, Contains, slice_get, ◌↔◌}
+use Rattle.std.proofs.lemmas.Option.{slice_get-get_or}
+use Rattle.sync_points.specs.declared.point.Input.{Input}
+use Rattle.core_state.specs.declared.graph.Graph.{Graph}
+use Rattle.step_relation.specs.Numbered.{AllBelow, GraphBelow}
+use Rattle.state_images.specs.Ties.{HasLowInputs, HasLowRow}
+use Rattle.state_images.proofs.Listed.{all_of_each, at_has, each_of_all, has_at}
+
+pub all_below : (next : ℕ) (xs : List ℕ) → All (λ (n : ℕ). n < next) xs ↔ AllBelow next xs
+all_below next xs = (each_of_all (λ (n : ℕ). n < next) xs, all_of_each (λ (n : ℕ). n < next) xs)
+
+pub graph_below : (next : ℕ) (g : Graph) → (All (HasLowRow next) g.graph.nodes × All (HasLowInputs next) g.points) ↔ GraphBelow next g
+graph_below next g = (
+  (λ both. record {
+    nodes = λ i node at. each_of_all (HasLowRow next) g.graph.nodes both.0 node (at_has g.graph.nodes i node at);
+    inputs = λ i p x at among. each_of_all (λ (y : Input). y.row < next) p.inputs
+        (each_of_all (HasLowInputs next) g.points both.1 p (at_has g.points i p at)) x among;
+  }),
+  (λ below. (
+    all_of_each (HasLowRow next) g.graph.nodes (λ node c. let (i, at) = has_at g.graph.nodes node c in below.nodes i node at),
+    all_of_each (HasLowInputs next) g.points (λ p c. let (i, at) = has_at g.points p c in
+        all_of_each (λ (y : Input). y.row < next) p.inputs (λ x among. below.inputs i p x at among)),
+  )),
+)
