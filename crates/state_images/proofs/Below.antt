@@ -2,7 +2,7 @@
 use Rattle.std.proofs.Common.{◌<◌, ◌≡◌, ℕ, List, Some, subst, sym}
 use Rattle.std.specs.Prelude.{All, Contains, slice_get, ◌↔◌}
 use Rattle.std.proofs.lemmas.Option.{slice_get-get_or}
-use Rattle.sync_points.specs.declared.point.Input.{Input}
+use Rattle.core_state.specs.declared.Input.{Input}
 use Rattle.core_state.specs.declared.graph.Graph.{Graph}
 use Rattle.step_relation.specs.Numbered.{AllBelow, GraphBelow}
 use Rattle.state_images.specs.Ties.{HasLowInputs, HasLowRow}

@@ -7,9 +7,9 @@ use Rattle.std.proofs.lemmas.List.Elements.{Contains-append_cases, Contains-appe
 use Rattle.std.proofs.lemmas.Slice.Eq.{bytes_eq-Decides}
 use Rattle.traversal_graph.specs.declared.shape.Node.{Node}
 use Rattle.row_table.specs.Rows.{row_at, row_key}
-use Rattle.row_table.specs.declared.row.Row.{Row}
+use Rattle.core_state.specs.declared.Row.{Row}
 use Rattle.mail_table.specs.Mails.{job_at, job_key}
-use Rattle.mail_table.specs.declared.mail.Job.{Job}
+use Rattle.core_state.specs.declared.Job.{Job}
 use Rattle.core_state.specs.State.{StateData, graph_at, graph_key}
 use Rattle.core_state.specs.declared.graph.Graph.{Graph}
 use Rattle.step_relation.specs.Linked.{IsOf, Owned, by_job, by_node, by_row}

@@ -10,7 +10,7 @@ use Rattle.traversal_graph.specs.declared.shape.Node.{Node}
 use Rattle.traversal_graph.specs.declared.shape.TravGraph.{TravGraph}
 use Rattle.row_table.specs.Rows.{row_key}
 use Rattle.mail_table.specs.Mails.{job_key, letter_key}
-use Rattle.sync_points.specs.declared.point.Point.{Point}
+use Rattle.core_state.specs.declared.Point.{Point}
 use Rattle.core_state.specs.Applies.{AllApply, Applies, IsWithin, NoneFalls}
 use Rattle.core_state.specs.Changes.{applied, apply, fresh_graph, put_point, with_point}
 use Rattle.core_state.specs.State.{StateData, cut_graph, cut_past, cut_stack, graph_key, past_key, put_graph}

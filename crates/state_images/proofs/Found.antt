@@ -9,8 +9,8 @@ use Rattle.std.proofs.lemmas.Slice.Eq.{bytes_eq-Decides}
 use Rattle.heat_plan.specs.Tables.{at}
 use Rattle.traversal_graph.specs.declared.shape.Node.{Node}
 use Rattle.row_table.specs.Rows.{row_at, row_key}
-use Rattle.row_table.specs.declared.row.Row.{Row}
-use Rattle.sync_points.specs.declared.point.Point.{Point}
+use Rattle.core_state.specs.declared.Row.{Row}
+use Rattle.core_state.specs.declared.Point.{Point}
 use Rattle.core_state.specs.Changes.{applied, apply}
 use Rattle.core_state.specs.State.{StateData, graph_key}
 use Rattle.core_state.specs.declared.change.Change.{Change}

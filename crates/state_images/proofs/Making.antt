@@ -1,11 +1,12 @@
 -- Changes that are made one after another, and lists of them: what is left decides, and makes what the whole makes.
 use Rattle.std.proofs.Common.{◌≡◌, ◌≢◌, ◌⊎◌, inl, inr, ◌<◌, ◌≤◌, ℕ, List, [], ◌∷◌, ◌++◌, length, None, Option, Some, refl, sym, ap, ◌∙◌, subst, arith}
 use Rattle.std.specs.Prelude.{All, Contains, IsSome}
+use Rattle.std.proofs.lemmas.Bool.{cases_lt}
 use Rattle.std.proofs.lemmas.List.Elements.{All-cons, All-head, All-nil, All-tail}
 use Rattle.heat_plan.specs.declared.token.Token.{Token}
 use Rattle.traversal_graph.specs.declared.shape.TravGraph.{TravGraph}
 use Rattle.row_table.specs.Rows.{row_at}
-use Rattle.sync_points.specs.declared.point.Point.{Point}
+use Rattle.core_state.specs.declared.Point.{Point}
 use Rattle.mail_table.specs.Mails.{job_at, letter_at}
 use Rattle.core_state.specs.Applies.{AllApply, Applies, HasNode, IsWithin, NoneFalls}
 use Rattle.core_state.specs.Changes.{applied, apply}
@@ -18,11 +19,23 @@ use Rattle.step_relation.specs.Images.{IsMade}
 use Rattle.step_relation.specs.Tokens.{token_at}
 use Rattle.history_laws.proofs.tables.Frame.{applied-append}
 use Rattle.history_laws.proofs.tables.Rows.{same_or_not, same_some, text_or_not}
-use Rattle.next_laws.proofs.Decide.{below_or_not, member_or_not, not_or}
-use Rattle.workable_laws.proofs.Applying.{apply-append}
+use Rattle.history_laws.proofs.tables.Puts.{contains_cases, contains_head, contains_none, contains_there}
 use Rattle.state_images.specs.Replays.{IsReplay, joined}
+use Rattle.state_images.proofs.Written.{joined as led_on}
 
 -- whether a change applies is one or the other
+not_or : {P : Type 0} → P ⊎ ¬ P → ¬ P ⊎ ¬ ¬ P
+not_or (inl p) = inr (λ n. n p)
+not_or (inr n) = inl n
+
+among_or_not : {A : Type 0} → ((x y : A) → (x ≡ y) ⊎ (x ≢ y)) → (xs : List A) (x : A) → Contains xs x ⊎ ¬ Contains xs x
+among_or_not same [] x = inr (contains_none x)
+among_or_not same (y ∷ ys) x = by (same y x) (among_or_not same ys x) where
+  by : ((y ≡ x) ⊎ (y ≢ x)) → (Contains ys x ⊎ ¬ Contains ys x) → Contains (y ∷ ys) x ⊎ ¬ Contains (y ∷ ys) x
+  by (inl is) rest = inl (subst (Contains (y ∷ ys)) is (contains_head y ys))
+  by (inr ne) (inl there) = inl (contains_there y x ys there)
+  by (inr ne) (inr none) = inr (λ c. elim (contains_cases y x ys c) [ inl is ↦ ne is | inr there ↦ none there ])
+
 some_or_not : {A : Type 0} (o : Option A) → IsSome o ⊎ ¬ IsSome o
 some_or_not (Some x) = inl refl
 some_or_not None = inr (λ h. cc)
@@ -34,7 +47,7 @@ none_or_not None = inl refl
 ends_or_not : (n : ℕ) (edges : List (ℕ × ℕ)) → All (λ ((before, after) : ℕ × ℕ). (before < n) × (after < n)) edges
     ⊎ ¬ All (λ ((before, after) : ℕ × ℕ). (before < n) × (after < n)) edges
 ends_or_not n [] = inl (All-nil (λ ((before, after) : ℕ × ℕ). (before < n) × (after < n)))
-ends_or_not n (e ∷ edges) = by (below_or_not e.0 n) (below_or_not e.1 n) (ends_or_not n edges) where
+ends_or_not n (e ∷ edges) = by (cases_lt e.0 n) (cases_lt e.1 n) (ends_or_not n edges) where
   by : ((e.0 < n) ⊎ (n ≤ e.0)) → ((e.1 < n) ⊎ (n ≤ e.1))
       → (All (λ ((before, after) : ℕ × ℕ). (before < n) × (after < n)) edges ⊎ ¬ All (λ ((before, after) : ℕ × ℕ). (before < n) × (after < n)) edges)
       → All (λ ((before, after) : ℕ × ℕ). (before < n) × (after < n)) (e ∷ edges)
@@ -48,15 +61,15 @@ node_or_not : (s : StateData) (p : Point) → HasNode s p ⊎ ¬ HasNode s p
 node_or_not s p = by (graph_at s.graphs p.stack) refl where
   by : (o : Option Graph) → graph_at s.graphs p.stack ≡ o → HasNode s p ⊎ ¬ HasNode s p
   by None e = inr (λ h. let f = h.its_graph in cc)
-  by (Some g) e = elim (below_or_not p.node (length g.graph.nodes)) [
+  by (Some g) e = elim (cases_lt p.node (length g.graph.nodes)) [
     | inl lt ↦ inl (record { graph = g; its_graph = e; within = lt })
     | inr le ↦ inr (λ h. let is : h.graph ≡ g = same_some h.graph g h.its_graph e in
         let lt : p.node < length g.graph.nodes = subst (λ (x : Graph). p.node < length x.graph.nodes) is h.within in omega (arith, lt, le))
   ]
 
 falls_or_not : (old new : Numbers) → NoneFalls old new ⊎ ¬ NoneFalls old new
-falls_or_not old new = by (below_or_not new.stack old.stack) (below_or_not new.trav old.trav) (below_or_not new.row old.row)
-    (below_or_not new.engine old.engine) (below_or_not new.letter old.letter) where
+falls_or_not old new = by (cases_lt new.stack old.stack) (cases_lt new.trav old.trav) (cases_lt new.row old.row)
+    (cases_lt new.engine old.engine) (cases_lt new.letter old.letter) where
       by : ((new.stack < old.stack) ⊎ (old.stack ≤ new.stack)) → ((new.trav < old.trav) ⊎ (old.trav ≤ new.trav))
           → ((new.row < old.row) ⊎ (old.row ≤ new.row)) → ((new.engine < old.engine) ⊎ (old.engine ≤ new.engine))
           → ((new.letter < old.letter) ⊎ (old.letter ≤ new.letter)) → NoneFalls old new ⊎ ¬ NoneFalls old new
@@ -99,11 +112,11 @@ applies_or_not s (change.Send l) = none_or_not (letter_at s.letters l.no)
 applies_or_not s (change.Drop n) = some_or_not (letter_at s.letters n)
 applies_or_not s (change.PutJob j) = inl tt
 applies_or_not s (change.EndJob e) = some_or_not (job_at s.jobs e)
-applies_or_not s (change.Enlist e) = not_or (member_or_not same_or_not s.live e)
-applies_or_not s (change.Stop e) = member_or_not same_or_not s.live e
+applies_or_not s (change.Enlist e) = not_or (among_or_not same_or_not s.live e)
+applies_or_not s (change.Stop e) = among_or_not same_or_not s.live e
 applies_or_not s (change.Numbers next) = falls_or_not s.next next
 applies_or_not s (change.PutPast p) = some_or_not (stack_at s.stacks p.stack)
-applies_or_not s (change.Release t) = not_or (member_or_not token_or_not s.released t)
+applies_or_not s (change.Release t) = not_or (among_or_not token_or_not s.released t)
 
 pub applies_then : (s : StateData) (c : Change) → (¬ Applies s c → ⊥) → Applies s c
 applies_then s c f = elim (applies_or_not s c) [ inl a ↦ a | inr n ↦ absurd (f n) ]
@@ -134,7 +147,8 @@ pub list_made : (l : List Change) (ls before : List (List Change)) (all : List C
     → AllApply l s → t ≡ applied l s → Leaves (joined before) s all first → Leaves (joined ls) t all first
 list_made l ls before all s t first e a is k = record {
   back = λ h. k.back (subst (λ (b : List (List Change)). AllApply (joined b) s) (sym e)
-      (apply-append l (joined ls) s a (subst (AllApply (joined ls)) is h)));
+      (led_on l (joined ls) s (applied l s) (applied (joined ls) (applied l s)) (record { applies = a; gives = refl })
+      (record { applies = subst (AllApply (joined ls)) is h; gives = refl })).applies);
   on = λ h. subst (AllApply (joined ls)) (sym is)
       (apply-last l (joined ls) s (subst (λ (b : List (List Change)). AllApply (joined b) s) e (k.on h)));
   makes = ap (applied (joined ls)) is ∙ (sym (applied-append l (joined ls) s)

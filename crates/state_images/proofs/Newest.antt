@@ -1,31 +1,30 @@
 -- Sorted tokens tell whether each current row is the newest of its stack and name.
 use Rattle.std.proofs.Common.{◌≡◌, ◌≢◌, ◌⊎◌, inl, inr, ◌<◌, ◌≤◌, ◌+◌, ◌-◌, ℕ, zero, suc, Bool, true, false, List, map, Some, get_or, length, refl, sym, ap, ◌∙◌, subst, arith, lt-ltb, true≢false}
 use Rattle.std.specs.Prelude.{Contains, nat_eq}
-use Rattle.std.specs.Ordering.{is_lt, nat_cmp, ordering_then}
+use Rattle.std.specs.Ordering.{is_lt, nat_cmp, ordering_reverse, ordering_then}
 use Rattle.std.specs.Cmp.{IsTotalOrder, nat_cmp_total, on_total, then_total, tied_itself}
-use Rattle.std.specs.Cmp.Lexicographic.{nat_list_cmp_total}
+use Rattle.std.specs.Cmp.Lexicographic.{nat_list_cmp_total, slice_cmp}
 use Rattle.std.specs.List.Sorted.{IsPermutation}
 use Rattle.std.specs.declared.cmp.Ordering.{Ordering}
 use Rattle.std.specs.declared.cmp.Ordering.TheVariants.{Equal, Greater, Less}
+use Rattle.std.proofs.lemmas.Bool.{cases_lt}
 use Rattle.std.proofs.lemmas.Bool.Decides.{Decides-eqb}
+use Rattle.std.proofs.lemmas.List.{get_or_default}
 use Rattle.std.proofs.lemmas.List.Elements.{Contains-get_or}
 use Rattle.std.proofs.lemmas.List.Sorted.{Contains-permutation, IsPermutation-sym, ranks_by, sorted_far}
+use Rattle.std.proofs.lemmas.Map.Lookups.{exact_bytes}
 use Rattle.heat_plan.specs.declared.token.Token.{Token}
-use Rattle.keyed_table.specs.Sortings.{text_cmp}
-use Rattle.keyed_table.proofs.Sortings.{text_sorting}
 use Rattle.row_table.specs.Chains.{IsCurrent}
 use Rattle.row_table.specs.Rows.{row_at, row_key}
-use Rattle.row_table.specs.declared.row.Row.{Row}
+use Rattle.core_state.specs.declared.Row.{Row}
 use Rattle.step_relation.specs.Linked.{OneCurrent}
 use Rattle.step_relation.specs.Rows.{token_of}
 use Rattle.step_relation.specs.Tokens.{token_at}
-use Rattle.next_laws.proofs.Decide.{below_or_not}
 use Rattle.history_laws.proofs.tables.Rows.{row-key, same_or_not, same_some}
 use Rattle.state_images.specs.Formed.{HasKeysOnce}
 use Rattle.state_images.specs.Tokens.{AreSorted, IsBeaten, NoneIsBeaten, token_cmp}
 use Rattle.state_images.proofs.Found.{among_found, found_among}
 use Rattle.state_images.proofs.Listed.{map_has, of_map}
-use Rattle.state_images.proofs.Singles.{same_default}
 
 token_total : IsTotalOrder token_cmp
 token_total = then_total (on_total (λ (t : Token). t.stack) nat_list_cmp_total)
@@ -37,11 +36,11 @@ first_low Less p h = h
 first_low Equal p h = refl
 first_low Greater p h = refl
 
-second_low : (x : List ℕ) (p : Ordering) → is_lt (ordering_then (text_cmp x x) p) ≡ false → is_lt p ≡ false
+second_low : (x : List ℕ) (p : Ordering) → is_lt (ordering_then (slice_cmp nat_cmp x x) p) ≡ false → is_lt p ≡ false
 second_low x p h = subst (λ (o : Ordering). is_lt (ordering_then o p) ≡ false) (tied_itself nat_list_cmp_total x) h
 
 number_low : (m n : ℕ) → is_lt (nat_cmp m n) ≡ false → n ≤ m
-number_low m n h = elim (below_or_not m n) [
+number_low m n h = elim (cases_lt m n) [
   | inl below ↦ absurd (never (is_lt (nat_cmp m n)) h (less m n below))
   | inr le ↦ le
 ] where
@@ -51,27 +50,35 @@ number_low m n h = elim (below_or_not m n) [
   less : (m n : ℕ) → m < n → is_lt (nat_cmp m n) ≡ true
   less m n lt = rw (lt-ltb m n lt) refl
 
+-- of two texts neither of which is below the other, both are one
+even : (a b : List ℕ) → is_lt (slice_cmp nat_cmp a b) ≡ false → is_lt (slice_cmp nat_cmp b a) ≡ false → a ≡ b
+even a b up down = by (slice_cmp nat_cmp a b) refl up where
+  by : (o : Ordering) → slice_cmp nat_cmp a b ≡ o → is_lt o ≡ false → a ≡ b
+  by Less e h = absurd (true≢false h)
+  by Equal e h = exact_bytes a b e
+  by Greater e h = absurd (true≢false (sym (ap is_lt (nat_list_cmp_total.antisymm b a ∙ ap ordering_reverse e)) ∙ down))
+
 -- what stands between two texts that are one is that text
-between_texts : (a b c : List ℕ) → is_lt (text_cmp b a) ≡ false → is_lt (text_cmp c b) ≡ false → a ≡ c → b ≡ a
-between_texts a b c low up same = text_sorting.either b a low (subst (λ (x : List ℕ). is_lt (text_cmp x b) ≡ false) (sym same) up)
+between_texts : (a b c : List ℕ) → is_lt (slice_cmp nat_cmp b a) ≡ false → is_lt (slice_cmp nat_cmp c b) ≡ false → a ≡ c → b ≡ a
+between_texts a b c low up same = even b a low (subst (λ (x : List ℕ). is_lt (slice_cmp nat_cmp x b) ≡ false) (sym same) up)
 
 -- the first word and the second one, and the rest
-module _ (xa xb xc ya yb yc : List ℕ) (p q : Ordering) (low : is_lt (ordering_then (text_cmp xb xa) (ordering_then (text_cmp yb ya) p)) ≡ false)
-    (up : is_lt (ordering_then (text_cmp xc xb) (ordering_then (text_cmp yc yb) q)) ≡ false) (stacks : xa ≡ xc) (names : ya ≡ yc) where
+module _ (xa xb xc ya yb yc : List ℕ) (p q : Ordering) (low : is_lt (ordering_then (slice_cmp nat_cmp xb xa) (ordering_then (slice_cmp nat_cmp yb ya) p)) ≡ false)
+    (up : is_lt (ordering_then (slice_cmp nat_cmp xc xb) (ordering_then (slice_cmp nat_cmp yc yb) q)) ≡ false) (stacks : xa ≡ xc) (names : ya ≡ yc) where
   stack_between : xb ≡ xa
-  stack_between = between_texts xa xb xc (first_low (text_cmp xb xa) (ordering_then (text_cmp yb ya) p) low)
-      (first_low (text_cmp xc xb) (ordering_then (text_cmp yc yb) q) up) stacks
+  stack_between = between_texts xa xb xc (first_low (slice_cmp nat_cmp xb xa) (ordering_then (slice_cmp nat_cmp yb ya) p) low)
+      (first_low (slice_cmp nat_cmp xc xb) (ordering_then (slice_cmp nat_cmp yc yb) q) up) stacks
 
-  low_names : is_lt (ordering_then (text_cmp yb ya) p) ≡ false
-  low_names = second_low xa (ordering_then (text_cmp yb ya) p)
-      (subst (λ (x : List ℕ). is_lt (ordering_then (text_cmp x xa) (ordering_then (text_cmp yb ya) p)) ≡ false) stack_between low)
+  low_names : is_lt (ordering_then (slice_cmp nat_cmp yb ya) p) ≡ false
+  low_names = second_low xa (ordering_then (slice_cmp nat_cmp yb ya) p)
+      (subst (λ (x : List ℕ). is_lt (ordering_then (slice_cmp nat_cmp x xa) (ordering_then (slice_cmp nat_cmp yb ya) p)) ≡ false) stack_between low)
 
-  up_names : is_lt (ordering_then (text_cmp yc yb) q) ≡ false
-  up_names = second_low xb (ordering_then (text_cmp yc yb) q)
-      (subst (λ (x : List ℕ). is_lt (ordering_then (text_cmp x xb) (ordering_then (text_cmp yc yb) q)) ≡ false) (sym stacks ∙ sym stack_between) up)
+  up_names : is_lt (ordering_then (slice_cmp nat_cmp yc yb) q) ≡ false
+  up_names = second_low xb (ordering_then (slice_cmp nat_cmp yc yb) q)
+      (subst (λ (x : List ℕ). is_lt (ordering_then (slice_cmp nat_cmp x xb) (ordering_then (slice_cmp nat_cmp yc yb) q)) ≡ false) (sym stacks ∙ sym stack_between) up)
 
   name_between : yb ≡ ya
-  name_between = between_texts ya yb yc (first_low (text_cmp yb ya) p low_names) (first_low (text_cmp yc yb) q up_names) names
+  name_between = between_texts ya yb yc (first_low (slice_cmp nat_cmp yb ya) p low_names) (first_low (slice_cmp nat_cmp yc yb) q up_names) names
 
 between : (t u v : Token) → is_lt (token_cmp u t) ≡ false → is_lt (token_cmp v u) ≡ false → t.stack ≡ v.stack → t.name ≡ v.name
     → (u.stack ≡ t.stack) × (u.name ≡ t.name)
@@ -88,9 +95,9 @@ same_token t u stacks names rows = same_parts t.stack u.stack t.name u.name t.ro
 
 -- of one name, the one that isn't below has no lower number
 rises_with : (xa xb ya yb : List ℕ) (m n : ℕ) → xa ≡ xb → ya ≡ yb
-    → is_lt (ordering_then (text_cmp xb xa) (ordering_then (text_cmp yb ya) (nat_cmp n m))) ≡ false → m ≤ n
+    → is_lt (ordering_then (slice_cmp nat_cmp xb xa) (ordering_then (slice_cmp nat_cmp yb ya) (nat_cmp n m))) ≡ false → m ≤ n
 rises_with xa xb ya yb m n stacks names low = number_low n m (second_low yb (nat_cmp n m)
-    (second_low xb (ordering_then (text_cmp yb yb) (nat_cmp n m)) (rw (stacks, names) at low)))
+    (second_low xb (ordering_then (slice_cmp nat_cmp yb yb) (nat_cmp n m)) (rw (stacks, names) at low)))
 
 module _ (rows : List Row) (tokens : List Token) (once : HasKeysOnce nat_eq row_key rows) (same : IsPermutation (map token_of rows) tokens)
     (sorted : AreSorted tokens) where
@@ -154,8 +161,8 @@ module _ (rows : List Row) (tokens : List Token) (once : HasKeysOnce nat_eq row_
   none_newer : NoneIsBeaten rows tokens → (a b : Row) → row_at rows a.no ≡ Some a → IsCurrent a → a.stack ≡ b.stack → a.name ≡ b.name
       → a.no < b.no → Contains tokens (token_of a) → Contains tokens (token_of b) → ⊥
   none_newer none a b own current stacks names below (p, in_p, is_a) (q, in_q, its_b) =
-      let is_b : get_or tokens q (token_of a) ≡ token_of b = same_default tokens q (token_of a) (token_of b) in_q ∙ its_b in
-      elim (below_or_not p q) [
+      let is_b : get_or tokens q (token_of a) ≡ token_of b = get_or_default tokens q (token_of a) (token_of b) in_q ∙ its_b in
+      elim (cases_lt p q) [
         | inl lt ↦ (let e : p + (q - p) ≡ q = omega (arith, lt) in
             walk none a b own current stacks names below (q - p) p (omega (arith, e, in_q)) is_a
             (ap (λ (k : ℕ). get_or tokens k (token_of a)) e ∙ is_b))
@@ -166,7 +173,7 @@ module _ (rows : List Row) (tokens : List Token) (once : HasKeysOnce nat_eq row_
   newest_unbeaten none = record { newest = λ n m a b at_n at_m stacks names current.
       let no_a = row-key rows n a at_n in
       let no_b = row-key rows m b at_m in
-      elim (below_or_not n m) [
+      elim (cases_lt n m) [
         | inl lt ↦ absurd (none_newer none a b (subst (λ (k : ℕ). row_at rows k ≡ Some a) (sym no_a) at_n) current stacks names
             (omega (arith, lt, no_a, no_b)) (place_of n a at_n) (place_of m b at_m))
         | inr le ↦ le

@@ -2,7 +2,7 @@
 use Rattle.std.proofs.Common.{◌≡◌, ℕ, zero, suc, ◌+◌, List, [], ◌∷◌, ◌++◌, length, refl, sym, ap, ◌∙◌, subst, arith, append_assoc}
 use Rattle.std.specs.Prelude.{slice_set}
 use Rattle.traversal_graph.specs.declared.shape.Node.{Node}
-use Rattle.sync_points.specs.declared.point.Point.{Point}
+use Rattle.core_state.specs.declared.Point.{Point}
 use Rattle.core_state.specs.Graphs.{fresh_points}
 use Rattle.state_images.specs.Formed.{AreByNode}
 

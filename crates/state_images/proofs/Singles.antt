@@ -1,16 +1,13 @@
 -- Of a list by rising numbers, neighbours of one number tell whether what has one number is one thing.
-use Rattle.std.proofs.Common.{◌≡◌, inl, inr, ◌<◌, ◌≤◌, ◌+◌, ◌-◌, ℕ, zero, suc, List, Some, get_or, length, refl, sym, ap, ◌∙◌, subst, arith}
+use Rattle.std.proofs.Common.{◌≡◌, inl, inr, ◌<◌, ◌≤◌, ◌+◌, ◌-◌, ℕ, zero, suc, List, get_or, length, refl, sym, ap, ◌∙◌, subst, arith}
 use Rattle.std.specs.Prelude.{Contains}
 use Rattle.std.specs.List.{AllAdjacentBelow}
 use Rattle.std.specs.List.Sorted.{IsNonDecreasingBy, IsPermutation}
+use Rattle.std.proofs.lemmas.Bool.{cases_lt}
+use Rattle.std.proofs.lemmas.List.{get_or_default}
 use Rattle.std.proofs.lemmas.List.Elements.{Contains-get_or}
 use Rattle.std.proofs.lemmas.List.Sorted.{Contains-permutation, IsPermutation-sym}
-use Rattle.std.proofs.lemmas.Option.{slice_get-get_or}
-use Rattle.next_laws.proofs.Decide.{below_or_not}
 use Rattle.state_images.specs.Ties.{IsSingleBy}
-
-pub same_default : {A : Type 0} (xs : List A) (i : ℕ) (d e : A) → i < length xs → get_or xs i d ≡ get_or xs i e
-same_default xs i d e lt = let a = slice_get-get_or xs i d lt in let b = slice_get-get_or xs i e lt in cc
 
 module _ {A B : Type 0} (number : A → ℕ) (what : A → B) where
   -- two of one number are one thing
@@ -33,11 +30,11 @@ module _ {A B : Type 0} (number : A → ℕ) (what : A → B) where
     forth : (k m : ℕ) (a b : A) → k ≤ m → m < length xs → get_or xs k a ≡ a → get_or xs m b ≡ b → number a ≡ number b → what a ≡ what b
     forth k m a b le lt at_k at_m e =
         let is : k + (m - k) ≡ m = omega (arith, le) in
-        let at_far : get_or xs (k + (m - k)) a ≡ b = ap (λ (i : ℕ). get_or xs i a) is ∙ (same_default xs m a b lt ∙ at_m) in
+        let at_far : get_or xs (k + (m - k)) a ≡ b = ap (λ (i : ℕ). get_or xs i a) is ∙ (get_or_default xs m a b lt ∙ at_m) in
         sym (ap what at_k) ∙ (far (m - k) k a (omega (arith, lt, is)) (ap number at_k ∙ (e ∙ sym (ap number at_far))) ∙ ap what at_far)
 
     pub single : IsSingleBy number what xs
-    single a b (k, lt_k, at_k) (m, lt_m, at_m) e = elim (below_or_not m k) [
+    single a b (k, lt_k, at_k) (m, lt_m, at_m) e = elim (cases_lt m k) [
       | inl below ↦ sym (forth m k b a (omega (arith, below)) lt_k at_m at_k (sym e))
       | inr le ↦ forth k m a b le lt_m at_k at_m e
     ]

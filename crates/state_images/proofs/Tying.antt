@@ -7,10 +7,10 @@ use Rattle.std.proofs.lemmas.List.Elements.{Contains-append_left, Contains-appen
 use Rattle.std.proofs.lemmas.Slice.Eq.{bytes_eq-Decides}
 use Rattle.heat_plan.specs.declared.token.Token.{Token}
 use Rattle.row_table.specs.Rows.{row_at, row_key}
-use Rattle.row_table.specs.declared.row.Row.{Row}
+use Rattle.core_state.specs.declared.Row.{Row}
 use Rattle.mail_table.specs.Mails.{job_at, job_key, letter_at, letter_key}
-use Rattle.mail_table.specs.declared.mail.Job.{Job}
-use Rattle.mail_table.specs.declared.mail.Letter.{Letter}
+use Rattle.core_state.specs.declared.Job.{Job}
+use Rattle.core_state.specs.declared.Letter.{Letter}
 use Rattle.core_state.specs.State.{StateData, graph_at, graph_key, stack_at, stack_key}
 use Rattle.core_state.specs.declared.graph.Graph.{Graph}
 use Rattle.core_state.specs.declared.stack.Stack.{Stack}

@@ -8,10 +8,10 @@ use Rattle.std.proofs.lemmas.Bool.Decides.{Decides-eqb}
 use Rattle.std.proofs.lemmas.Slice.Eq.{bytes_eq-Decides}
 use Rattle.heat_plan.specs.declared.token.Token.{Token}
 use Rattle.row_table.specs.Rows.{row_key}
-use Rattle.row_table.specs.declared.row.Row.{Row}
+use Rattle.core_state.specs.declared.Row.{Row}
 use Rattle.mail_table.specs.Mails.{job_key, letter_key}
-use Rattle.mail_table.specs.declared.mail.Job.{Job}
-use Rattle.mail_table.specs.declared.mail.Letter.{Letter}
+use Rattle.core_state.specs.declared.Job.{Job}
+use Rattle.core_state.specs.declared.Letter.{Letter}
 use Rattle.core_state.specs.Applies.{AllApply}
 use Rattle.core_state.specs.Changes.{applied, apply, fresh_graph}
 use Rattle.core_state.specs.State.{StateData, graph_key, past_key, stack_key}

@@ -2,8 +2,8 @@
 use Rattle.std.specs.Prelude.{List, flat_map, length, map, ℕ, ◌++◌, ◌≡◌}
 use Rattle.std.specs.List.{AllAdjacentBelow}
 use Rattle.traversal_graph.specs.declared.shape.Node.{Node}
-use Rattle.row_table.specs.declared.row.Row.{Row}
-use Rattle.mail_table.specs.declared.mail.Job.{Job}
+use Rattle.core_state.specs.declared.Row.{Row}
+use Rattle.core_state.specs.declared.Job.{Job}
 use Rattle.core_state.specs.State.{StateData}
 use Rattle.core_state.specs.declared.graph.Graph.{Graph}
 use Rattle.step_relation.specs.Numbered.{row_of}

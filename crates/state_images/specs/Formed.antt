@@ -6,11 +6,11 @@ use Rattle.heat_plan.specs.Tables.{at}
 use Rattle.heat_plan.specs.declared.token.Token.{Token}
 use Rattle.traversal_graph.specs.declared.shape.Node.{Node}
 use Rattle.row_table.specs.Rows.{row_key}
-use Rattle.row_table.specs.declared.row.Row.{Row}
-use Rattle.sync_points.specs.declared.point.Point.{Point}
+use Rattle.core_state.specs.declared.Row.{Row}
+use Rattle.core_state.specs.declared.Point.{Point}
 use Rattle.mail_table.specs.Mails.{job_key, letter_key}
-use Rattle.mail_table.specs.declared.mail.Job.{Job}
-use Rattle.mail_table.specs.declared.mail.Letter.{Letter}
+use Rattle.core_state.specs.declared.Job.{Job}
+use Rattle.core_state.specs.declared.Letter.{Letter}
 use Rattle.core_state.specs.Applies.{IsWithin, NoneFalls}
 use Rattle.core_state.specs.State.{StateData, graph_key, past_key, stack_at, stack_key}
 use Rattle.core_state.specs.declared.graph.Graph.{Graph}

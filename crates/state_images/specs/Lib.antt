@@ -5,3 +5,4 @@ pub mod Ties
 pub mod Claims
 pub mod Tokens
 pub mod Laws
+pub use Rattle.step_relation.specs.Images

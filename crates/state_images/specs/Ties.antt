@@ -5,11 +5,11 @@ use Rattle.heat_plan.specs.declared.phase.Status.TheVariants.{InProgress}
 use Rattle.heat_plan.specs.declared.token.Token.{Token}
 use Rattle.traversal_graph.specs.declared.shape.Node.{Node}
 use Rattle.row_table.specs.Rows.{row_at}
-use Rattle.row_table.specs.declared.row.Row.{Row}
-use Rattle.sync_points.specs.declared.point.Input.{Input}
-use Rattle.sync_points.specs.declared.point.Point.{Point}
+use Rattle.core_state.specs.declared.Row.{Row}
+use Rattle.core_state.specs.declared.Input.{Input}
+use Rattle.core_state.specs.declared.Point.{Point}
 use Rattle.mail_table.specs.Mails.{job_at}
-use Rattle.mail_table.specs.declared.mail.Job.{Job}
+use Rattle.core_state.specs.declared.Job.{Job}
 use Rattle.core_state.specs.State.{StateData, stack_at}
 use Rattle.step_relation.specs.Linked.{IsReplacedBy}
 use Rattle.step_relation.specs.Numbered.{GraphBelow, JobBelow, LetterBelow, RowBelow, StackBelow, row_of}

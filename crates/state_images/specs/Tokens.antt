@@ -2,16 +2,17 @@
 use Rattle.std.specs.Prelude.{List, Some, length, ℕ, ◌≡◌, ◌≢◌}
 use Rattle.std.specs.List.{AllAdjacentBelow}
 use Rattle.std.specs.List.Sorted.{IsSorted}
+use Rattle.std.specs.Cmp.Lexicographic.{slice_cmp}
 use Rattle.std.specs.Ordering.{nat_cmp, ordering_then}
 use Rattle.std.specs.declared.cmp.Ordering.{Ordering}
 use Rattle.heat_plan.specs.declared.token.Token.{Token}
-use Rattle.keyed_table.specs.Sortings.{text_cmp}
 use Rattle.row_table.specs.Chains.{IsCurrent}
 use Rattle.row_table.specs.Rows.{row_at}
-use Rattle.row_table.specs.declared.row.Row.{Row}
+use Rattle.core_state.specs.declared.Row.{Row}
 
 abbrev pub token_cmp : Token → Token → Ordering
-token_cmp a b = ordering_then (text_cmp a.stack b.stack) (ordering_then (text_cmp a.name b.name) (nat_cmp a.row b.row))
+token_cmp a b = ordering_then (slice_cmp nat_cmp a.stack b.stack)
+    (ordering_then (slice_cmp nat_cmp a.name b.name) (nat_cmp a.row b.row))
 
 abbrev pub AreSorted : List Token → Type 0
 AreSorted = IsSorted token_cmp

@@ -1,7 +1,7 @@
 //! Who claims a row's number.
 
 use heat_plan::{EngineNo, StackName};
-use heat_value::Equals;
+use heat_plan::Equals;
 
 /// Who claims it: a stack, or an engine.
 #[derive(Debug, Drop)]

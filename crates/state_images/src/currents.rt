@@ -10,7 +10,7 @@ ghost use Rattle.state_images.specs.Tokens.{AreSorted, HasCurrent, IsBeaten, Non
 
 use core_state::{Row, State};
 use heat_plan::{Act, RowNo, Token};
-use heat_value::{Equals, TryCopy};
+use heat_plan::{Equals, TryCopy};
 use std::alloc::{AllocError, Global};
 
 // Whether no row is newer than a current one of its stack and name.

@@ -13,8 +13,6 @@ mod owners;
 mod records;
 mod replaying;
 mod single;
-#[cfg(test)]
-mod tests;
 mod tied;
 mod ties;
 mod writing;

@@ -1,6 +1,6 @@
 //! Whether each number that stands in a record is below the next one of its sort.
 ghost use Rattle.std.specs.Prelude.{◌≡◌, ◌<◌, ◌↔◌, All, IsTrue};
-ghost use Rattle.sync_points.specs.declared.point.Input.{Input as input_type};
+ghost use Rattle.core_state.specs.declared.Input.{Input as input_type};
 ghost use Rattle.step_relation.specs.Numbered.{AllBelow, BelowIfThere, GraphBelow, JobBelow, LetterBelow, RowBelow};
 ghost use Rattle.step_relation.specs.Numbered.{StackBelow, row_of};
 ghost use Rattle.state_images.specs.Formed.{IsAligned};

@@ -9,7 +9,7 @@ use crate::claim::{Claim, Claimant};
 use crate::numbering::number_of;
 use crate::single::are_single;
 use core_state::{Graph, Job, Row, State};
-use heat_value::TryCopy;
+use heat_plan::TryCopy;
 use std::alloc::{AllocError, Global};
 
 // Whether each row's number is one stack's.

@@ -5,7 +5,7 @@ ghost use Rattle.std.specs.List.Sorted.{IsNonDecreasingBy, IsPermutation};
 ghost use Rattle.state_images.specs.Claims.{Agree, AreSingle, NeighboursAgree, claimed};
 
 use crate::claim::Claim;
-use heat_value::Equals;
+use heat_plan::Equals;
 use std::alloc::AllocError;
 
 // Whether each number is claimed by one.

@@ -1,6 +1,6 @@
 use Rattle.std.proofs.Common.{◌<◌, ℕ}
 use Rattle.std.specs.Prelude.{slice_index_or}
-use Rattle.sync_points.specs.declared.point.Input.{Input}
+use Rattle.core_state.specs.declared.Input.{Input}
 use Rattle.state_images.proofs.numbering.inputs_are_below.Given as goal
 
 abbrev pub invariant-loop-input : goal.invariant-loop-input

@@ -1,6 +1,6 @@
 use Rattle.std.proofs.Common.{◌<◌, ℕ}
 use Rattle.std.specs.Prelude.{slice_index_or}
-use Rattle.sync_points.specs.declared.point.Point.{Point}
+use Rattle.core_state.specs.declared.Point.{Point}
 use Rattle.state_images.specs.Ties.{HasLowInputs}
 use Rattle.state_images.proofs.numbering.points_are_below.Given as goal
 

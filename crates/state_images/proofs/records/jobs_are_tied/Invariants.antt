@@ -1,6 +1,6 @@
 use Rattle.std.proofs.Common.{◌<◌, ℕ}
 use Rattle.std.specs.Prelude.{slice_index_or}
-use Rattle.mail_table.specs.declared.mail.Job.{Job}
+use Rattle.core_state.specs.declared.Job.{Job}
 use Rattle.state_images.specs.Ties.{IsTiedJob}
 use Rattle.state_images.proofs.records.jobs_are_tied.Given as goal
 

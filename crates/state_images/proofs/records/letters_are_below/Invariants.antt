@@ -1,6 +1,6 @@
 use Rattle.std.proofs.Common.{◌<◌, ℕ}
 use Rattle.std.specs.Prelude.{slice_index_or}
-use Rattle.mail_table.specs.declared.mail.Letter.{Letter}
+use Rattle.core_state.specs.declared.Letter.{Letter}
 use Rattle.step_relation.specs.Numbered.{LetterBelow}
 use Rattle.state_images.proofs.records.letters_are_below.Given as goal
 

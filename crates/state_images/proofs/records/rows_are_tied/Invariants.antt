@@ -1,6 +1,6 @@
 use Rattle.std.proofs.Common.{◌<◌, ℕ}
 use Rattle.std.specs.Prelude.{slice_index_or}
-use Rattle.row_table.specs.declared.row.Row.{Row}
+use Rattle.core_state.specs.declared.Row.{Row}
 use Rattle.state_images.specs.Ties.{IsTiedRow}
 use Rattle.state_images.proofs.records.rows_are_tied.Given as goal
 

@@ -1,7 +1,7 @@
 use Rattle.std.proofs.Common.{◌≡◌, ◌<◌, ◌++◌, ◌∷◌, ◌∙◌, [], false, length, Some, ap, sym, arith}
 use Rattle.std.specs.Prelude.{slice_get}
 use Rattle.std.proofs.lemmas.Option.{slice_get-get_or}
-use Rattle.sync_points.specs.declared.point.Point.{Point}
+use Rattle.core_state.specs.declared.Point.{Point}
 use Rattle.core_state.specs.declared.change.Change.TheVariants.{PutPoint}
 use Rattle.state_images.proofs.Pointing.{point_more}
 use Rattle.state_images.proofs.writing.add_points_of.Goals as goal
