@@ -7,7 +7,7 @@ ghost use Rattle.state_images.specs.Formed.{IsAligned};
 ghost use Rattle.state_images.specs.Ties.{HasLowInputs, HasLowRow};
 
 use core_state::{Graph, Job, Letter, Numbers, Row, SharedInput, Stack};
-use heat_plan::{EngineNo, RowNo};
+use heat_plan::{EngineNo, RowNo, Seq};
 use traversal_graph::Node;
 
 // Whether a stack's number and its traversal were drawn.
@@ -41,17 +41,17 @@ pub(crate) fn row_is_below(row: &Row, next: &Numbers) -> bool
     let rows = next.row.get();
     row.no.get() < rows
         && row.trav.get() < next.trav.get()
-        && are_below(row.requires_.as_slice(), rows)
+        && are_below(&row.requires_, rows)
         && row_below(row.replaces, rows)
         && row_below(row.replaced_by, rows)
         && engine_below(row.engine, next.engine.get())
 }
 
 // Whether each number is below this one.
-fn are_below(rows: &[RowNo], next: u64) -> bool
+fn are_below(rows: &Seq<RowNo>, next: u64) -> bool
     ensures { IsTrue result ↔ AllBelow next rows.now }
 {
-    for row in rows {
+    for row in rows.as_slice() {
         if next <= row.get() {
             return false;
         }
@@ -80,6 +80,7 @@ fn engine_below(engine: Option<EngineNo>, next: u64) -> bool
 }
 
 // Whether the rows of a graph's nodes and of what its points were given were drawn.
+#[tactic(auto, using(crate::proofs::Below::graph_below))]
 pub(crate) fn graph_is_below(graph: &Graph, next: u64) -> bool
     requires { IsAligned graph.now }
     ensures { IsTrue result ↔ GraphBelow next graph.now }
