@@ -1,6 +1,8 @@
 -- What stands in a list that a function makes of another.
-use Rattle.std.proofs.Common.{◌≡◌, ◌⊎◌, inl, inr, ◌<◌, ℕ, List, [], ◌∷◌, map, Some, length, refl, sym, ap, ◌∙◌, subst, arith}
+use Rattle.std.proofs.Common.{◌≡◌, ◌⊎◌, inl, inr, ◌<◌, ◌+◌, ℕ, List, [], ◌∷◌, map, Some, get_or, length, refl, sym, ap, ◌∙◌, subst, arith}
 use Rattle.std.specs.Prelude.{All, Contains, flat_map, slice_get}
+use Rattle.std.proofs.lemmas.Bool.{cases_lt}
+use Rattle.std.proofs.lemmas.List.{get_or_default}
 use Rattle.std.proofs.lemmas.List.Elements.{All-contains, Contains-append_cases, Contains-append_left, Contains-append_right, Contains-get_or}
 use Rattle.std.proofs.lemmas.Option.{get_or_from_slice_get, slice_get-get_or, slice_get_within}
 use Rattle.history_laws.proofs.tables.Puts.{contains_cases, contains_head, contains_none, contains_there}
@@ -47,3 +49,12 @@ each_of_all P xs all x c = All-contains P xs x all c
 
 pub all_of_each : {A : Type 0} (P : A → Type 0) (xs : List A) → ((x : A) → Contains xs x → P x) → All P xs
 all_of_each P xs each k d lt = each _ (Contains-get_or xs k d lt)
+
+-- of all before a place, and of what stands there
+pub all_more : {A : Type 0} (P : A → Type 0) (xs : List A) (i : ℕ) (x : A) → i < length xs → get_or xs i x ≡ x → P x
+    → ((k : ℕ) (d : A) → k < i → P (get_or xs k d)) → (k : ℕ) (d : A) → k < i + 1 → P (get_or xs k d)
+all_more P xs i x lt is p before k d below = elim (cases_lt k i) [
+  | inl less ↦ before k d less
+  | inr le ↦ (let e : i ≡ k = omega (arith, below, le) in
+      subst (λ (j : ℕ). P (get_or xs j d)) e (subst P (sym is ∙ get_or_default xs i x d lt) p))
+]

@@ -12,7 +12,8 @@ use Rattle.mail_table.specs.Mails.{job_at}
 use Rattle.core_state.specs.declared.Job.{Job}
 use Rattle.core_state.specs.State.{StateData, stack_at}
 use Rattle.step_relation.specs.Linked.{IsReplacedBy}
-use Rattle.step_relation.specs.Numbered.{GraphBelow, JobBelow, LetterBelow, RowBelow, StackBelow, row_of}
+use Rattle.step_relation.specs.Numbered.{AllBelow, BelowIfThere, GraphBelow, JobBelow, LetterBelow, RowBelow}
+use Rattle.step_relation.specs.Numbered.{StackBelow, row_of}
 use Rattle.step_relation.specs.Rows.{token_of}
 
 -- the row of a node is below a number
@@ -22,6 +23,18 @@ HasLowRow next node = row_of node < next
 -- the rows of a point's inputs are
 abbrev pub HasLowInputs : ℕ → Point → Type 0
 HasLowInputs next p = All (λ (x : Input). x.row < next) p.inputs
+
+-- the row's number, its traversal and its engine are below the next ones
+pub record OwnBelow (row trav engine : ℕ) (r : Row) : Type 0 where
+  pub no_ : r.no < row
+  pub newest : r.trav < trav
+  pub holder : BelowIfThere engine r.engine
+
+-- the rows that it names are
+pub record NamedBelow (next : ℕ) (r : Row) : Type 0 where
+  pub required : AllBelow next r.requires_
+  pub replaces : BelowIfThere next r.replaces
+  pub replaced_by : BelowIfThere next r.replaced_by
 
 -- the row that replaced it has a greater number, and tells of it where it stands
 pub record LeadsOn (rows : List Row) (r : Row) : Type 0 where

@@ -4,7 +4,7 @@ ghost use Rattle.core_state.specs.declared.Input.{Input as input_type};
 ghost use Rattle.step_relation.specs.Numbered.{AllBelow, BelowIfThere, GraphBelow, JobBelow, LetterBelow, RowBelow};
 ghost use Rattle.step_relation.specs.Numbered.{StackBelow, row_of};
 ghost use Rattle.state_images.specs.Formed.{IsAligned};
-ghost use Rattle.state_images.specs.Ties.{HasLowInputs, HasLowRow};
+ghost use Rattle.state_images.specs.Ties.{HasLowInputs, HasLowRow, NamedBelow, OwnBelow};
 
 use core_state::{Graph, Job, Letter, Numbers, Row, SharedInput, Stack};
 use heat_plan::{EngineNo, RowNo, Seq};
@@ -38,13 +38,25 @@ pub(crate) fn job_is_below(job: &Job, next: &Numbers) -> bool
 pub(crate) fn row_is_below(row: &Row, next: &Numbers) -> bool
     ensures { IsTrue result ↔ RowBelow next.now.row next.now.trav next.now.engine row.now }
 {
-    let rows = next.row.get();
-    row.no.get() < rows
+    own_are_below(row, next) && named_are_below(row, next.row.get())
+}
+
+// Whether the row's number, its traversal and its engine were.
+fn own_are_below(row: &Row, next: &Numbers) -> bool
+    ensures { IsTrue result ↔ OwnBelow next.now.row next.now.trav next.now.engine row.now }
+{
+    row.no.get() < next.row.get()
         && row.trav.get() < next.trav.get()
-        && are_below(&row.requires_, rows)
-        && row_below(row.replaces, rows)
-        && row_below(row.replaced_by, rows)
         && engine_below(row.engine, next.engine.get())
+}
+
+// Whether the rows that it names were.
+fn named_are_below(row: &Row, next: u64) -> bool
+    ensures { IsTrue result ↔ NamedBelow next row.now }
+{
+    are_below(&row.requires_, next)
+        && row_below(row.replaces, next)
+        && row_below(row.replaced_by, next)
 }
 
 // Whether each number is below this one.

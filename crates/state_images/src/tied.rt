@@ -17,8 +17,11 @@ pub fn is_tied(alloc: Global, s: &State) -> Result<bool, AllocError>
     if !are_tied(s) {
         return Ok(false);
     }
-    let apart = are_apart(alloc, s)?;
-    let owned = is_owned(alloc, s)?;
-    let newest = is_current_newest(alloc, s)?;
-    Ok(apart && owned && newest)
+    if !are_apart(alloc, s)? {
+        return Ok(false);
+    }
+    if !is_owned(alloc, s)? {
+        return Ok(false);
+    }
+    is_current_newest(alloc, s)
 }
