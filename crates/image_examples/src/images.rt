@@ -31,14 +31,38 @@ enum Fate {
 
 const CASES: &[(&str, Odd, Fate)] = &[
     ("a stack with a row", Odd::Nothing, Fate::Taken),
-    ("a letter for a node that isn't there", Odd::LetterAstray, Fate::Taken),
-    ("a point of a node that isn't there", Odd::PointAstray, Fate::NotMade),
+    (
+        "a letter for a node that isn't there",
+        Odd::LetterAstray,
+        Fate::Taken,
+    ),
+    (
+        "a point of a node that isn't there",
+        Odd::PointAstray,
+        Fate::NotMade,
+    ),
     ("numbers that fall", Odd::NumbersFall, Fate::NotMade),
-    ("a job of an engine not yet drawn", Odd::EngineUndrawn, Fate::Untied),
+    (
+        "a job of an engine not yet drawn",
+        Odd::EngineUndrawn,
+        Fate::Untied,
+    ),
     ("two jobs on one row", Odd::OneRowForTwo, Fate::Untied),
-    ("a row that replaces itself", Odd::ReplacesItself, Fate::Untied),
-    ("an update under way without a target", Odd::NoTarget, Fate::Untied),
-    ("a released token of a row that stands", Odd::ReleasedRow, Fate::Untied),
+    (
+        "a row that replaces itself",
+        Odd::ReplacesItself,
+        Fate::Untied,
+    ),
+    (
+        "an update under way without a target",
+        Odd::NoTarget,
+        Fate::Untied,
+    ),
+    (
+        "a released token of a row that stands",
+        Odd::ReleasedRow,
+        Fate::Untied,
+    ),
 ];
 
 #[test]

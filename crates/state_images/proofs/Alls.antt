@@ -1,5 +1,5 @@
 -- What holds of each record of a table, behind a put and a cut.
-use Rattle.std.proofs.Common.{◌≡◌, ◌≢◌, inl, inr, Bool, List, [], ◌∷◌, refl, sym}
+use Rattle.std.proofs.Common.{◌≡◌, ◌≢◌, inl, inr, Bool, List, [], ◌∷◌}
 use Rattle.std.specs.Prelude.{Decides}
 use Rattle.std.specs.List.{AllByRecursion}
 use Rattle.heat_plan.specs.Tables.{cut, put}

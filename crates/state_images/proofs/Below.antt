@@ -1,7 +1,6 @@
 -- What is below a number: of all, or of each that stands.
-use Rattle.std.proofs.Common.{◌<◌, ◌≡◌, ℕ, List, Some, subst, sym}
-use Rattle.std.specs.Prelude.{All, Contains, slice_get, ◌↔◌}
-use Rattle.std.proofs.lemmas.Option.{slice_get-get_or}
+use Rattle.std.proofs.Common.{◌<◌, ℕ}
+use Rattle.std.specs.Prelude.{All, ◌↔◌}
 use Rattle.core_state.specs.declared.Input.{Input}
 use Rattle.core_state.specs.declared.Row.{Row}
 use Rattle.core_state.specs.declared.graph.Graph.{Graph}

@@ -1,17 +1,13 @@
 -- Claims tell whose a row's number is.
-use Rattle.std.proofs.Common.{◌≡◌, inl, inr, ℕ, List, map, ◌++◌, Some, refl, sym, ap, ◌∙◌, subst}
-use Rattle.std.specs.Prelude.{Contains, flat_map, nat_eq, slice_get, ◌↔◌}
+use Rattle.std.proofs.Common.{◌≡◌, inl, inr, ℕ, List, map, ◌++◌, refl, sym, ap, ◌∙◌, subst}
+use Rattle.std.specs.Prelude.{Contains, flat_map, nat_eq, ◌↔◌}
 use Rattle.std.specs.Str.{bytes_eq}
 use Rattle.std.proofs.lemmas.Bool.Decides.{Decides-eqb}
 use Rattle.std.proofs.lemmas.List.Elements.{Contains-append_cases, Contains-append_left, Contains-append_right}
 use Rattle.std.proofs.lemmas.Slice.Eq.{bytes_eq-Decides}
-use Rattle.traversal_graph.specs.declared.shape.Node.{Node}
-use Rattle.row_table.specs.Rows.{row_at, row_key}
-use Rattle.core_state.specs.declared.Row.{Row}
-use Rattle.mail_table.specs.Mails.{job_at, job_key}
-use Rattle.core_state.specs.declared.Job.{Job}
-use Rattle.core_state.specs.State.{StateData, graph_at, graph_key}
-use Rattle.core_state.specs.declared.graph.Graph.{Graph}
+use Rattle.row_table.specs.Rows.{row_key}
+use Rattle.mail_table.specs.Mails.{job_key}
+use Rattle.core_state.specs.State.{StateData, graph_key}
 use Rattle.step_relation.specs.Linked.{IsOf, Owned, by_job, by_node, by_row}
 use Rattle.step_relation.specs.Numbered.{row_of}
 use Rattle.history_laws.proofs.tables.Rows.{graph-key, job-key, row-key}
@@ -94,25 +90,27 @@ module _ (s : StateData) (f : IsFormed s) where
 
   pub owned_single : AreSingle (stack_claims s) ↔ Owned s.rows s.graphs s.jobs
   owned_single = (
-    (λ one. record { one = λ n a b x y.
-      same_stack a b (one (by_stack n a) (by_stack n b) (claim_of n a x) (claim_of n b y) refl) }),
+    (λ one. record {
+      one = λ n a b x y.
+          same_stack a b (one (by_stack n a) (by_stack n b) (claim_of n a x) (claim_of n b y) refl);
+    }),
     (λ owned c d in_c in_d e.
-      let x = whose c in_c in
-      let y = whose d in_d in
-      x.by_ ∙ (ap Stack (owned.one d.no x.name y.name (subst (λ (n : ℕ). IsOf s.rows s.graphs s.jobs n x.name) e x.its) y.its) ∙ sym y.by_)),
+        let x = whose c in_c in
+        let y = whose d in_d in
+        x.by_ ∙ (ap Stack (owned.one d.no x.name y.name (subst (λ (n : ℕ). IsOf s.rows s.graphs s.jobs n x.name) e x.its) y.its) ∙ sym y.by_)),
   )
 
   pub apart_single : AreSingle (map holder_claim s.jobs) ↔ AreApart s.jobs
   apart_single = (
     (λ one e g j k at_e at_g same.
-      sym (job-key s.jobs e j at_e) ∙ (same_engine j.engine k.engine (one (holder_claim j) (holder_claim k)
-      (map_has holder_claim s.jobs j (found_among nat_eq Decides-eqb job_key s.jobs e j at_e))
-      (map_has holder_claim s.jobs k (found_among nat_eq Decides-eqb job_key s.jobs g k at_g)) same) ∙ job-key s.jobs g k at_g)),
+        sym (job-key s.jobs e j at_e) ∙ (same_engine j.engine k.engine (one (holder_claim j) (holder_claim k)
+        (map_has holder_claim s.jobs j (found_among nat_eq Decides-eqb job_key s.jobs e j at_e))
+        (map_has holder_claim s.jobs k (found_among nat_eq Decides-eqb job_key s.jobs g k at_g)) same) ∙ job-key s.jobs g k at_g)),
     (λ apart c d in_c in_d e.
-      let (j, there, is) = of_map holder_claim s.jobs c in_c in
-      let (k, also, its) = of_map holder_claim s.jobs d in_d in
-      let rows : j.row ≡ k.row = sym (ap (λ (x : Claim). x.no) is) ∙ (e ∙ ap (λ (x : Claim). x.no) its) in
-      let one : j.engine ≡ k.engine = apart j.engine k.engine j k (among_found nat_eq Decides-eqb job_key s.jobs j f.work.jobs_once there)
-          (among_found nat_eq Decides-eqb job_key s.jobs k f.work.jobs_once also) rows in
-      ap (λ (x : Claim). x.by) is ∙ (ap Engine one ∙ sym (ap (λ (x : Claim). x.by) its))),
+        let (j, there, is) = of_map holder_claim s.jobs c in_c in
+        let (k, also, its) = of_map holder_claim s.jobs d in_d in
+        let rows : j.row ≡ k.row = sym (ap (λ (x : Claim). x.no) is) ∙ (e ∙ ap (λ (x : Claim). x.no) its) in
+        let one : j.engine ≡ k.engine = apart j.engine k.engine j k (among_found nat_eq Decides-eqb job_key s.jobs j f.work.jobs_once there)
+        (among_found nat_eq Decides-eqb job_key s.jobs k f.work.jobs_once also) rows in
+        ap (λ (x : Claim). x.by) is ∙ (ap Engine one ∙ sym (ap (λ (x : Claim). x.by) its))),
   )

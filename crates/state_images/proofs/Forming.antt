@@ -1,6 +1,6 @@
 -- Every change that applies keeps what a state has that changes made of nothing.
-use Rattle.std.proofs.Common.{◌≡◌, ◌≢◌, inl, inr, ◌+◌, length, suc, ℕ, Bool, true, false, cond, List, [], ◌∷◌, ◌++◌, Some, None, refl, sym, ap, ◌∙◌, subst, arith}
-use Rattle.std.specs.Prelude.{Decides, IsSome, not, nat_eq, slice_set}
+use Rattle.std.proofs.Common.{◌≡◌, ◌≢◌, inl, inr, ◌+◌, length, suc, ℕ, Bool, true, false, cond, List, [], ◌∷◌, Some, None, refl, sym, ap, subst, arith}
+use Rattle.std.specs.Prelude.{IsSome, not, nat_eq}
 use Rattle.std.specs.List.{AllByRecursion}
 use Rattle.std.specs.Str.{bytes_eq}
 use Rattle.std.proofs.lemmas.Bool.Decides.{Decides-eqb}
@@ -11,19 +11,18 @@ use Rattle.traversal_graph.specs.declared.shape.TravGraph.{TravGraph}
 use Rattle.row_table.specs.Rows.{row_key}
 use Rattle.mail_table.specs.Mails.{job_key, letter_key}
 use Rattle.core_state.specs.declared.Point.{Point}
-use Rattle.core_state.specs.Applies.{AllApply, Applies, IsWithin, NoneFalls}
+use Rattle.core_state.specs.Applies.{AllApply, Applies, IsWithin}
 use Rattle.core_state.specs.Changes.{applied, apply, fresh_graph, put_point, with_point}
 use Rattle.core_state.specs.State.{StateData, cut_graph, cut_past, cut_stack, graph_key, past_key, put_graph}
 use Rattle.core_state.specs.State.{put_stack, stack_at, stack_key}
 use Rattle.core_state.specs.declared.change.Change.{Change}
 use Rattle.core_state.specs.declared.change.Change.TheVariants as change
 use Rattle.core_state.specs.declared.graph.Graph.{Graph}
-use Rattle.core_state.specs.declared.past.Past.{Past}
 use Rattle.core_state.specs.declared.stack.Stack.{Stack}
 use Rattle.step_relation.specs.Images.{IsMade}
 use Rattle.step_relation.specs.Opening.{bare}
 use Rattle.history_laws.proofs.tables.Tables.{at-cut_other, cases, some_put}
-use Rattle.state_images.specs.Formed.{AreByNode, AreNew, HasKeysOnce, IsAligned, IsFormed, IsLaid, IsOfThese, StacksStand}
+use Rattle.state_images.specs.Formed.{AreByNode, HasKeysOnce, IsAligned, IsFormed, IsLaid, IsOfThese, StacksStand}
 use Rattle.state_images.proofs.Keys.{once_cut, once_put}
 use Rattle.state_images.proofs.News.{new_filter, new_push}
 use Rattle.state_images.proofs.Alls.{all_cut, all_put, all_weaker}

@@ -1,14 +1,13 @@
 -- What is read of a state that changes made: its records are found, its graphs are whole, its rows keepable.
 use Rattle.std.proofs.Common.{◌≡◌, ◌≢◌, ◌⊎◌, inl, inr, ℕ, zero, suc, Bool, true, false, cond, List, [], ◌∷◌, ◌++◌, ◌+◌, map, Some, None, refl, sym, ap, ◌∙◌, subst, arith}
 use Rattle.std.specs.Prelude.{Contains, Decides, flat_map, nat_eq, slice_get}
-use Rattle.std.specs.List.{AllByRecursion}
 use Rattle.std.specs.Str.{bytes_eq}
 use Rattle.std.proofs.lemmas.Bool.Decides.{Decides-eqb}
 use Rattle.std.proofs.lemmas.List.Elements.{Contains-append_cases}
 use Rattle.std.proofs.lemmas.Slice.Eq.{bytes_eq-Decides}
 use Rattle.heat_plan.specs.Tables.{at}
 use Rattle.traversal_graph.specs.declared.shape.Node.{Node}
-use Rattle.row_table.specs.Rows.{row_at, row_key}
+use Rattle.row_table.specs.Rows.{row_key}
 use Rattle.core_state.specs.declared.Row.{Row}
 use Rattle.core_state.specs.declared.Point.{Point}
 use Rattle.core_state.specs.Changes.{applied, apply}
@@ -16,7 +15,7 @@ use Rattle.core_state.specs.State.{StateData, graph_key}
 use Rattle.core_state.specs.declared.change.Change.{Change}
 use Rattle.core_state.specs.declared.change.Change.TheVariants as change
 use Rattle.core_state.specs.declared.graph.Graph.{Graph}
-use Rattle.step_relation.specs.Images.{AreKeepable, AreWhole, HasKeepableRows, IsKeepable, IsRead, IsWhole}
+use Rattle.step_relation.specs.Images.{AreKeepable, AreWhole, HasKeepableRows, IsKeepable, IsRead}
 use Rattle.history_laws.proofs.tables.Puts.{all_contains, contains_cases, contains_head, contains_there}
 use Rattle.history_laws.proofs.tables.Rows.{row_cut, row_put}
 use Rattle.state_images.specs.Formed.{AreByNode, HasKeysOnce, IsFormed, IsLaid}

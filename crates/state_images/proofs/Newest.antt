@@ -22,7 +22,7 @@ use Rattle.step_relation.specs.Rows.{token_of}
 use Rattle.step_relation.specs.Tokens.{token_at}
 use Rattle.history_laws.proofs.tables.Rows.{row-key, same_or_not, same_some}
 use Rattle.state_images.specs.Formed.{HasKeysOnce}
-use Rattle.state_images.specs.Tokens.{AreSorted, IsBeaten, NoneIsBeaten, token_cmp}
+use Rattle.state_images.specs.Tokens.{AreSorted, NoneIsBeaten, token_cmp}
 use Rattle.state_images.proofs.Found.{among_found, found_among}
 use Rattle.state_images.proofs.Listed.{map_has, of_map}
 
@@ -154,8 +154,8 @@ module _ (rows : List Row) (tokens : List Token) (once : HasKeysOnce nat_eq row_
   ordered a b stacks names below p q in_p is_a is_b le =
       let low = far q p (token_of a) le in_p in
       let turned : is_lt (token_cmp (token_of a) (token_of b)) ≡ false =
-          subst (λ (t : Token). is_lt (token_cmp t (token_of b)) ≡ false) is_a
-          (subst (λ (t : Token). is_lt (token_cmp (get_or tokens p (token_of a)) t) ≡ false) is_b low) in
+      subst (λ (t : Token). is_lt (token_cmp t (token_of b)) ≡ false) is_a
+      (subst (λ (t : Token). is_lt (token_cmp (get_or tokens p (token_of a)) t) ≡ false) is_b low) in
       let up = rises_with b.stack a.stack b.name a.name b.no a.no (sym stacks) (sym names) turned in omega (arith, up, below)
 
   none_newer : NoneIsBeaten rows tokens → (a b : Row) → row_at rows a.no ≡ Some a → IsCurrent a → a.stack ≡ b.stack → a.name ≡ b.name
@@ -170,14 +170,16 @@ module _ (rows : List Row) (tokens : List Token) (once : HasKeysOnce nat_eq row_
       ]
 
   pub newest_unbeaten : NoneIsBeaten rows tokens → OneCurrent rows
-  newest_unbeaten none = record { newest = λ n m a b at_n at_m stacks names current.
-      let no_a = row-key rows n a at_n in
-      let no_b = row-key rows m b at_m in
-      elim (cases_lt n m) [
-        | inl lt ↦ absurd (none_newer none a b (subst (λ (k : ℕ). row_at rows k ≡ Some a) (sym no_a) at_n) current stacks names
-            (omega (arith, lt, no_a, no_b)) (place_of n a at_n) (place_of m b at_m))
-        | inr le ↦ le
-      ] }
+  newest_unbeaten none = record {
+    newest = λ n m a b at_n at_m stacks names current.
+        let no_a = row-key rows n a at_n in
+        let no_b = row-key rows m b at_m in
+        elim (cases_lt n m) [
+          | inl lt ↦ absurd (none_newer none a b (subst (λ (k : ℕ). row_at rows k ≡ Some a) (sym no_a) at_n) current stacks names
+              (omega (arith, lt, no_a, no_b)) (place_of n a at_n) (place_of m b at_m))
+          | inr le ↦ le
+        ];
+  }
 
   pub unbeaten_newest : OneCurrent rows → NoneIsBeaten rows tokens
   unbeaten_newest one k d lt beaten = clash (row_of_token (get_or tokens k d) (Contains-get_or tokens k d (omega (arith, lt))))
@@ -186,14 +188,14 @@ module _ (rows : List Row) (tokens : List Token) (once : HasKeysOnce nat_eq row_
             → (q : Row) × (row_at rows q.no ≡ Some q) × (get_or tokens (k + 1) d ≡ token_of q) → ⊥
         clash (r, at_r, is_r) (q, at_q, is_q) =
             let same_row : beaten.current.row ≡ r = same_some beaten.current.row r beaten.current.its
-                (ap (row_at rows) (ap (λ (t : Token). t.row) is_r) ∙ at_r) in
+            (ap (row_at rows) (ap (λ (t : Token). t.row) is_r) ∙ at_r) in
             let current : IsCurrent r = subst IsCurrent same_row beaten.current.current in
             let stacks : r.stack ≡ q.stack = sym (ap (λ (t : Token). t.stack) is_r) ∙ (beaten.stack ∙ ap (λ (t : Token). t.stack) is_q) in
             let names : r.name ≡ q.name = sym (ap (λ (t : Token). t.name) is_r) ∙ (beaten.name ∙ ap (λ (t : Token). t.name) is_q) in
             let le : q.no ≤ r.no = one.newest r.no q.no r q at_r at_q stacks names current in
             let low : is_lt (token_cmp (token_of q) (token_of r)) ≡ false =
-                subst (λ (t : Token). is_lt (token_cmp t (token_of r)) ≡ false) is_q
-                (subst (λ (t : Token). is_lt (token_cmp (get_or tokens (k + 1) d) t) ≡ false) is_r (far k (k + 1) d (omega arith) lt)) in
+            subst (λ (t : Token). is_lt (token_cmp t (token_of r)) ≡ false) is_q
+            (subst (λ (t : Token). is_lt (token_cmp (get_or tokens (k + 1) d) t) ≡ false) is_r (far k (k + 1) d (omega arith) lt)) in
             let up : r.no ≤ q.no = rises_with r.stack q.stack r.name q.name r.no q.no stacks names low in
             let even : r.no ≡ q.no = omega (arith, le, up) in
             beaten.apart (ap (λ (t : Token). t.row) is_r ∙ (even ∙ sym (ap (λ (t : Token). t.row) is_q)))

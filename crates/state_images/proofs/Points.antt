@@ -1,5 +1,5 @@
 -- Points by their nodes: fresh ones, one that is written, and all of them written one after another.
-use Rattle.std.proofs.Common.{◌≡◌, ℕ, zero, suc, ◌+◌, List, [], ◌∷◌, ◌++◌, length, refl, sym, ap, ◌∙◌, subst, arith, append_assoc}
+use Rattle.std.proofs.Common.{◌≡◌, ℕ, zero, suc, ◌+◌, List, [], ◌∷◌, ◌++◌, length, refl, ap, arith}
 use Rattle.std.specs.Prelude.{slice_set}
 use Rattle.traversal_graph.specs.declared.shape.Node.{Node}
 use Rattle.core_state.specs.declared.Point.{Point}

@@ -1,10 +1,9 @@
 -- The snapshot of a state makes it of nothing.
 use Rattle.std.proofs.Common.{◌≡◌, ◌<◌, true, false, ℕ, ◌+◌, List, [], ◌∷◌, ◌++◌, map, length, Some, None, refl, sym, ap, ◌∙◌, subst, arith, append_assoc, length-append}
-use Rattle.std.specs.Prelude.{Contains, IsSome, Option, flat_map, nat_eq, slice_set, slice_get}
+use Rattle.std.specs.Prelude.{flat_map, nat_eq}
 use Rattle.std.specs.List.{AllByRecursion}
 use Rattle.std.specs.Str.{bytes_eq}
 use Rattle.std.proofs.lemmas.Bool.Decides.{Decides-eqb}
-use Rattle.std.proofs.lemmas.List.{append-nil}
 use Rattle.std.proofs.lemmas.Slice.Eq.{bytes_eq-Decides}
 use Rattle.heat_plan.specs.Tables.{at}
 use Rattle.traversal_graph.specs.declared.shape.Node.{Node}
@@ -13,20 +12,18 @@ use Rattle.row_table.specs.Rows.{row_key}
 use Rattle.mail_table.specs.Mails.{job_key, letter_key}
 use Rattle.core_state.specs.declared.Point.{Point}
 use Rattle.core_state.specs.Graphs.{fresh_points}
-use Rattle.core_state.specs.Applies.{AllApply, HasNode}
-use Rattle.core_state.specs.Changes.{applied, apply, put_point, with_point}
+use Rattle.core_state.specs.Applies.{HasNode}
+use Rattle.core_state.specs.Changes.{apply, put_point, with_point}
 use Rattle.core_state.specs.State.{StateData, graph_at, graph_key, past_key, stack_key}
-use Rattle.core_state.specs.declared.change.Change.{Change}
-use Rattle.core_state.specs.declared.change.Change.TheVariants.{Numbers, PutPoint}
+use Rattle.core_state.specs.declared.change.Change.TheVariants.{PutPoint}
 use Rattle.core_state.specs.declared.graph.Graph.{Graph}
-use Rattle.core_state.specs.declared.stack.Stack.{Stack}
 use Rattle.step_relation.specs.Images.{IsMade}
 use Rattle.step_relation.specs.Opening.{bare}
 use Rattle.state_images.specs.Formed.{AreByNode, HasKeysOnce, IsFormed, IsLaid}
 use Rattle.state_images.specs.Snapshots.{last_changes, snapshot, stack_changes, work_changes}
-use Rattle.state_images.proofs.Keys.{AreFree, free_more, free_of_none, none_append, none_cons, none_head}
+use Rattle.state_images.proofs.Keys.{AreFree, free_more, free_of_none, none_head}
 use Rattle.state_images.proofs.Points.{set_behind}
-use Rattle.state_images.proofs.Written.{Leads, engines_written, fresh_of, graph_change, graphs_written, jobs_written, joined}
+use Rattle.state_images.proofs.Written.{Leads, engines_written, fresh_of, graphs_written, jobs_written, joined}
 use Rattle.state_images.proofs.Written.{letters_written, pasts_written, rows_written, stacks_written, tokens_written}
 
 -- the graph behind those of other stacks is found, and its point written

@@ -1,6 +1,6 @@
 -- What is asked of each record, of claims and of current rows is what is asked of an image.
-use Rattle.std.proofs.Common.{◌≡◌, ◌≢◌, inl, inr, ◌<◌, ◌+◌, ℕ, zero, suc, List, [], ◌∷◌, ◌++◌, Some, get_or, length, refl, sym, ap, ◌∙◌, subst, arith}
-use Rattle.std.specs.Prelude.{All, Contains, IsSome, nat_eq, slice_get, ◌↔◌}
+use Rattle.std.proofs.Common.{◌≡◌, inl, inr, ◌<◌, ℕ, zero, suc, List, [], ◌∷◌, ◌++◌, Some, sym, ap, ◌∙◌, subst, arith}
+use Rattle.std.specs.Prelude.{Contains, nat_eq}
 use Rattle.std.specs.Str.{bytes_eq}
 use Rattle.std.proofs.lemmas.Bool.Decides.{Decides-eqb}
 use Rattle.std.proofs.lemmas.List.Elements.{Contains-append_left, Contains-append_right, Contains-get_or}
@@ -8,17 +8,14 @@ use Rattle.std.proofs.lemmas.Slice.Eq.{bytes_eq-Decides}
 use Rattle.heat_plan.specs.declared.token.Token.{Token}
 use Rattle.row_table.specs.Rows.{row_at, row_key}
 use Rattle.core_state.specs.declared.Row.{Row}
-use Rattle.mail_table.specs.Mails.{job_at, job_key, letter_at, letter_key}
+use Rattle.mail_table.specs.Mails.{job_at, job_key, letter_key}
 use Rattle.core_state.specs.declared.Job.{Job}
-use Rattle.core_state.specs.declared.Letter.{Letter}
-use Rattle.core_state.specs.State.{StateData, graph_at, graph_key, stack_at, stack_key}
-use Rattle.core_state.specs.declared.graph.Graph.{Graph}
-use Rattle.core_state.specs.declared.stack.Stack.{Stack}
+use Rattle.core_state.specs.State.{StateData, graph_key, stack_key}
 use Rattle.step_relation.specs.Images.{IsTied}
 use Rattle.step_relation.specs.Linked.{Chained, Locked, OneCurrent, Owned}
-use Rattle.step_relation.specs.Numbered.{EachOnce, GraphBelow, JobBelow, LetterBelow, Numbered, RowBelow, StackBelow}
+use Rattle.step_relation.specs.Numbered.{EachOnce, GraphBelow, LetterBelow, Numbered, StackBelow}
 use Rattle.history_laws.proofs.tables.Puts.{contains_cases, contains_head}
-use Rattle.history_laws.proofs.tables.Rows.{graph-key, job-key, letter-key, row-key, stack-key}
+use Rattle.history_laws.proofs.tables.Rows.{job-key, row-key}
 use Rattle.state_images.specs.Formed.{AreNew, IsFormed}
 use Rattle.state_images.specs.Ties.{AreApart, AreTied, IsFree, IsTiedJob, IsTiedRow}
 use Rattle.state_images.proofs.Found.{among_found, found_among}

@@ -1,5 +1,5 @@
 -- What a state has that changes made of nothing: each key once, the stack of each graph and past, and points by nodes.
-use Rattle.std.specs.Prelude.{Bool, Contains, IsSome, List, None, Some, [], length, nat_eq, ℕ, ◌+◌, ◌++◌, ◌∷◌, ◌≡◌}
+use Rattle.std.specs.Prelude.{Bool, Contains, IsSome, List, None, [], length, nat_eq, ℕ, ◌+◌, ◌++◌, ◌∷◌, ◌≡◌}
 use Rattle.std.specs.List.{AllByRecursion}
 use Rattle.std.specs.Str.{bytes_eq}
 use Rattle.heat_plan.specs.Tables.{at}

@@ -5,7 +5,6 @@ use Rattle.core_state.specs.Changes.{applied}
 use Rattle.core_state.specs.State.{StateData}
 use Rattle.core_state.specs.declared.change.Change.{Change}
 use Rattle.step_relation.specs.Images.{AreKeepable, AreWhole, HasKeepableRows, IsMade, IsRead}
-use Rattle.step_relation.specs.Opening.{bare}
 use Rattle.state_images.specs.Formed.{IsFormed}
 use Rattle.state_images.specs.Snapshots.{IsSnapshot, snapshot}
 

@@ -1,7 +1,6 @@
 //! Who claims a row's number.
 
-use heat_plan::{EngineNo, StackName};
-use heat_plan::Equals;
+use heat_plan::{EngineNo, Equals, StackName};
 
 /// Who claims it: a stack, or an engine.
 #[derive(Debug, Drop)]

@@ -9,8 +9,7 @@ ghost use Rattle.step_relation.specs.Rows.{token_of};
 ghost use Rattle.state_images.specs.Tokens.{AreSorted, HasCurrent, IsBeaten, NoneIsBeaten};
 
 use core_state::{Row, State};
-use heat_plan::{Act, RowNo, Token};
-use heat_plan::{Equals, TryCopy};
+use heat_plan::{Act, Equals, RowNo, Token, TryCopy};
 use std::alloc::{AllocError, Global};
 
 // Whether no row is newer than a current one of its stack and name.

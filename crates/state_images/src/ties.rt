@@ -8,8 +8,7 @@ ghost use Rattle.state_images.specs.Ties.{LeadsBack, LeadsOn};
 
 use crate::numbering::{job_is_below, row_is_below};
 use core_state::{Job, Row, State};
-use heat_plan::{Act, Status, Token};
-use heat_plan::Equals;
+use heat_plan::{Act, Equals, Status, Token};
 
 // Whether a row has its stack, numbers that were drawn, its chain, its engine's job and its target.
 pub(crate) fn is_tied_row(s: &State, row: &Row) -> bool

@@ -8,8 +8,7 @@ ghost use Rattle.state_images.specs.Snapshots.{IsSnapshot, last_changes, snapsho
 
 use crate::aligned::aligned_graphs;
 use core_state::{Batch, Change, Graph, Job, Letter, Past, Row, Stack, State};
-use heat_plan::{EngineNo, Token};
-use heat_plan::TryCopy;
+use heat_plan::{EngineNo, Token, TryCopy};
 use std::alloc::{AllocError, Global};
 
 /// The changes that make this state of nothing: of stacks, graphs, points, pasts, rows, letters, jobs, live

@@ -14,8 +14,7 @@ returns c =
     let by = c.in_ok-sorted.ensures in
     let tokens = c.in_ok-sorted.sorted.items in
     let same = subst (λ (rows : List Row). IsPermutation (map token_of rows) tokens) c.rows.ensures by.same in
-    let e = c.as_slice.ensures.value in
-    (
+    let e = c.as_slice.ensures.value in (
       λ t. newest_unbeaten s.rows tokens once same by.sorted (subst (NoneIsBeaten s.rows) e (c.none_is_beaten.ensures.0 t)),
       λ one. c.none_is_beaten.ensures.1 (subst (NoneIsBeaten s.rows) (sym e) (unbeaten_newest s.rows tokens once same by.sorted one)),
     )

@@ -1,4 +1,4 @@
-use Rattle.std.proofs.Common.{◌≡◌, ◌∙◌, sym, true≢false}
+use Rattle.std.proofs.Common.{◌∙◌, sym, true≢false}
 use Rattle.state_images.proofs.numbering.named_are_below.Goals as goal
 use Rattle.state_images.proofs.numbering.named_are_below.Goals.{else-are_below, then-are_below}
 

@@ -9,8 +9,7 @@ returns-then-own_are_below c =
     let r = c.args.row.now in
     let told = row_below next.row next.trav next.engine r in
     let own = c.own_are_below.ensures.0 c.if-own_are_below.true in
-    let e = c.get.ensures.value in
-    (
+    let e = c.get.ensures.value in (
       λ t. told.0 (own, subst (λ (n : _). NamedBelow n r) e (c.named_are_below.ensures.0 t)),
       λ below. c.named_are_below.ensures.1 (subst (λ (n : _). NamedBelow n r) (sym e) (told.1 below).1),
     )

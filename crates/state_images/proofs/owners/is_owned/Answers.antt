@@ -1,7 +1,4 @@
-use Rattle.std.proofs.Common.{◌≡◌, List}
 use Rattle.std.proofs.lemmas.Result.{IfOk-weaker}
-use Rattle.state_images.specs.Claims.{AreSingle, stack_claims}
-use Rattle.state_images.specs.declared.claim.Claim.{Claim}
 use Rattle.state_images.proofs.Claiming.{owned_single}
 use Rattle.state_images.proofs.Forming.{made_formed}
 use Rattle.state_images.proofs.owners.is_owned.Goals as goal

@@ -1,4 +1,4 @@
-use Rattle.std.proofs.Common.{◌≡◌, sym, true≢false}
+use Rattle.std.proofs.Common.{sym, true≢false}
 use Rattle.std.proofs.lemmas.Bool.{iff_false}
 use Rattle.std.proofs.lemmas.Result.{IfOk-weaker}
 use Rattle.state_images.proofs.Forming.{made_formed}
@@ -7,8 +7,7 @@ use Rattle.state_images.proofs.tied.is_tied.Goals as goal
 
 pub returns-then-not-are_tied : goal.returns-then-not-are_tied
 returns-then-not-are_tied c =
-    let s = c.args.s.now.state in
-    (
+    let s = c.args.s.now.state in (
       λ t. absurd (true≢false (sym t)),
       λ it. absurd (iff_false c.are_tied.ensures c.if-not-are_tied.true (ties s (made_formed s c.requires) it)),
     )
