@@ -37,3 +37,4 @@ pub use shared_plan::SharedPlan;
 pub use stack::Stack;
 pub use state::State;
 pub use sync_points::{Input, Point, SharedInput};
+pub use traversal_graph::{Node, TravGraph};

@@ -6,8 +6,8 @@ use Rattle.std.specs.Str.{bytes_eq}
 use Rattle.std.proofs.lemmas.Bool.Decides.{Decides-eqb}
 use Rattle.std.proofs.lemmas.Slice.Eq.{bytes_eq-Decides}
 use Rattle.heat_plan.specs.Tables.{at}
-use Rattle.traversal_graph.specs.declared.shape.Node.{Node}
-use Rattle.traversal_graph.specs.declared.shape.TravGraph.{TravGraph}
+use Rattle.core_state.specs.declared.Node.{Node}
+use Rattle.core_state.specs.declared.TravGraph.{TravGraph}
 use Rattle.row_table.specs.Rows.{row_key}
 use Rattle.mail_table.specs.Mails.{job_key, letter_key}
 use Rattle.core_state.specs.declared.Point.{Point}

@@ -6,7 +6,7 @@ use Rattle.std.proofs.lemmas.Bool.Decides.{Decides-eqb}
 use Rattle.std.proofs.lemmas.List.Elements.{Contains-append_cases}
 use Rattle.std.proofs.lemmas.Slice.Eq.{bytes_eq-Decides}
 use Rattle.heat_plan.specs.Tables.{at}
-use Rattle.traversal_graph.specs.declared.shape.Node.{Node}
+use Rattle.core_state.specs.declared.Node.{Node}
 use Rattle.row_table.specs.Rows.{row_key}
 use Rattle.core_state.specs.declared.Row.{Row}
 use Rattle.core_state.specs.declared.Point.{Point}

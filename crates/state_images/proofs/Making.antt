@@ -4,7 +4,7 @@ use Rattle.std.specs.Prelude.{All, Contains, IsSome}
 use Rattle.std.proofs.lemmas.Bool.{cases_lt}
 use Rattle.std.proofs.lemmas.List.Elements.{All-cons, All-head, All-nil, All-tail}
 use Rattle.heat_plan.specs.declared.token.Token.{Token}
-use Rattle.traversal_graph.specs.declared.shape.TravGraph.{TravGraph}
+use Rattle.core_state.specs.declared.TravGraph.{TravGraph}
 use Rattle.row_table.specs.Rows.{row_at}
 use Rattle.core_state.specs.declared.Point.{Point}
 use Rattle.mail_table.specs.Mails.{job_at, letter_at}

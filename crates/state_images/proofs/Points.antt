@@ -1,7 +1,7 @@
 -- Points by their nodes: fresh ones, one that is written, and all of them written one after another.
 use Rattle.std.proofs.Common.{◌≡◌, ℕ, zero, suc, ◌+◌, List, [], ◌∷◌, ◌++◌, length, refl, ap, arith}
 use Rattle.std.specs.Prelude.{slice_set}
-use Rattle.traversal_graph.specs.declared.shape.Node.{Node}
+use Rattle.core_state.specs.declared.Node.{Node}
 use Rattle.core_state.specs.declared.Point.{Point}
 use Rattle.core_state.specs.Graphs.{fresh_points}
 use Rattle.state_images.specs.Formed.{AreByNode}

@@ -1,7 +1,7 @@
 -- Who claims a row's number.
 use Rattle.std.specs.Prelude.{List, flat_map, length, map, ℕ, ◌++◌, ◌≡◌}
 use Rattle.std.specs.List.{AllAdjacentBelow}
-use Rattle.traversal_graph.specs.declared.shape.Node.{Node}
+use Rattle.core_state.specs.declared.Node.{Node}
 use Rattle.core_state.specs.declared.Row.{Row}
 use Rattle.core_state.specs.declared.Job.{Job}
 use Rattle.core_state.specs.State.{StateData}

@@ -4,7 +4,7 @@ use Rattle.std.specs.List.{AllByRecursion}
 use Rattle.std.specs.Str.{bytes_eq}
 use Rattle.heat_plan.specs.Tables.{at}
 use Rattle.heat_plan.specs.declared.token.Token.{Token}
-use Rattle.traversal_graph.specs.declared.shape.Node.{Node}
+use Rattle.core_state.specs.declared.Node.{Node}
 use Rattle.row_table.specs.Rows.{row_key}
 use Rattle.core_state.specs.declared.Row.{Row}
 use Rattle.core_state.specs.declared.Point.{Point}

@@ -3,7 +3,7 @@ use Rattle.std.specs.Prelude.{All, Contains, IsSome, List, Some, ℕ, ◌<◌, �
 use Rattle.heat_plan.specs.declared.phase.Act.TheVariants.{Update}
 use Rattle.heat_plan.specs.declared.phase.Status.TheVariants.{InProgress}
 use Rattle.heat_plan.specs.declared.token.Token.{Token}
-use Rattle.traversal_graph.specs.declared.shape.Node.{Node}
+use Rattle.core_state.specs.declared.Node.{Node}
 use Rattle.row_table.specs.Rows.{row_at}
 use Rattle.core_state.specs.declared.Row.{Row}
 use Rattle.core_state.specs.declared.Input.{Input}

@@ -6,9 +6,8 @@ ghost use Rattle.step_relation.specs.Numbered.{StackBelow, row_of};
 ghost use Rattle.state_images.specs.Formed.{IsAligned};
 ghost use Rattle.state_images.specs.Ties.{HasLowInputs, HasLowRow, NamedBelow, OwnBelow};
 
-use core_state::{Graph, Job, Letter, Numbers, Row, SharedInput, Stack};
+use core_state::{Graph, Job, Letter, Node, Numbers, Row, SharedInput, Stack};
 use heat_plan::{EngineNo, RowNo, Seq};
-use traversal_graph::Node;
 
 // Whether a stack's number and its traversal were drawn.
 pub(crate) fn stack_is_below(stack: &Stack, next: &Numbers) -> bool

@@ -1,6 +1,6 @@
 use Rattle.std.proofs.Common.{◌<◌, ℕ}
 use Rattle.std.specs.Prelude.{slice_index_or}
-use Rattle.traversal_graph.specs.declared.shape.Node.{Node}
+use Rattle.core_state.specs.declared.Node.{Node}
 use Rattle.state_images.specs.Ties.{HasLowRow}
 use Rattle.state_images.proofs.numbering.nodes_are_below.Given as goal
 
