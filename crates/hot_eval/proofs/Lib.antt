@@ -8,6 +8,7 @@ pub mod Renames
 pub mod Replacements
 pub mod Turns
 pub mod Picks
+pub mod Linked
 pub mod Listings
 pub mod Fills
 pub mod Scalars

@@ -99,27 +99,27 @@ choice_values-returns-in_err-choice_value t c =
     c.from_residual-in_err-choice_value.ensures.1 in
     rw (p.1, p.2) (turn_stops (inside_again c.args.set.now) (data_of c.args.repetition.now.template.now)
     (choices_outcome (inside_again c.args.set.now) (data_of c.args.repetition.now.template.now) (choices (lists_of c.args.repetition.now.lists.items)) c.args.sum.now)
-    (lists_of c.as_slice-lists.result.now) c.loop-places.places.items (choice_of c.in_ok-choice.choice) c.in_ok-choice.ensures.choice
-    c.in_err-choice_value.field-0.0 c.loop-places.items c.loop-places.sum c.loop-places.invariant.1
-    c.loop-places.invariant.0 c.in_err-choice_value.ensures)
+    (lists_of c.as_slice-lists.result.now) c.loop-choice.places.items (choice_of c.loop-choice.choice) c.loop-choice.invariant.2.choice
+    c.in_err-choice_value.field-0.0 c.loop-choice.items c.loop-choice.sum c.loop-choice.invariant.1
+    c.loop-choice.invariant.0 c.in_err-choice_value.ensures)
 
 pub choice_values-returns-then-not-go_on : goal.choice_values-returns-then-not-go_on
 choice_values-returns-then-not-go_on t c =
     turn_ends (inside_again c.args.set.now) (data_of c.args.repetition.now.template.now)
     (choices_outcome (inside_again c.args.set.now) (data_of c.args.repetition.now.template.now) (choices (lists_of c.args.repetition.now.lists.items)) c.args.sum.now)
-    (lists_of c.as_slice-lists.result.now) c.loop-places.places.items (choice_of c.in_ok-choice.choice) c.in_ok-choice.ensures.choice
-    c.go_on.result c.go_on.new.places.items c.loop-places.items c.push.new.self
-    (data_of c.in_ok-choice_value.field-0) c.loop-places.sum c.choice_value.new.sum c.if-not-go_on.true
-    c.loop-places.invariant.0 c.in_ok-push.ensures.ok c.in_ok-choice_value.ensures c.go_on.ensures
+    (lists_of c.as_slice-lists.result.now) c.loop-choice.places.items (choice_of c.loop-choice.choice) c.loop-choice.invariant.2.choice
+    c.go_on.result c.go_on.new.places.items c.loop-choice.items c.push.new.self
+    (data_of c.in_ok-choice_value.field-0) c.loop-choice.sum c.choice_value.new.sum c.if-not-go_on.true
+    c.loop-choice.invariant.0 c.in_ok-push.ensures.ok c.in_ok-choice_value.ensures c.go_on.ensures.goes
 
-pub choice_values-loop-places-preserved : goal.choice_values-loop-places-preserved
-choice_values-loop-places-preserved t c =
+pub choice_values-loop-choice-preserved : goal.choice_values-loop-choice-preserved
+choice_values-loop-choice-preserved t c =
     turn_goes_on (inside_again c.args.set.now) (data_of c.args.repetition.now.template.now)
     (choices_outcome (inside_again c.args.set.now) (data_of c.args.repetition.now.template.now) (choices (lists_of c.args.repetition.now.lists.items)) c.args.sum.now)
-    (lists_of c.as_slice-lists.result.now) c.loop-places.places.items (choice_of c.in_ok-choice.choice) c.in_ok-choice.ensures.choice
-    c.go_on.result c.go_on.new.places.items c.loop-places.items c.push.new.self
-    (data_of c.in_ok-choice_value.field-0) c.loop-places.sum c.choice_value.new.sum c.if-not-go_on.false
-    c.loop-places.invariant.0 c.in_ok-push.ensures.ok c.in_ok-choice_value.ensures c.go_on.ensures
+    (lists_of c.as_slice-lists.result.now) c.loop-choice.places.items (choice_of c.loop-choice.choice) c.loop-choice.invariant.2.choice
+    c.go_on.result c.go_on.new.places.items c.loop-choice.items c.push.new.self
+    (data_of c.in_ok-choice_value.field-0) c.loop-choice.sum c.choice_value.new.sum c.if-not-go_on.false
+    c.loop-choice.invariant.0 c.in_ok-push.ensures.ok c.in_ok-choice_value.ensures c.go_on.ensures.goes
 
 pub repeated-returns-in_ok-items-in-Ok : goal.repeated-returns-in_ok-items-in-Ok
 repeated-returns-in_ok-items-in-Ok t c =
