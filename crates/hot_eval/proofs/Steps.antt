@@ -265,6 +265,15 @@ module _ (again : Evaluating) (template : Data) where
       same (Gives ns n) = refl
       same (Faults c p) = refl
 
+  -- at the first choice's places nothing was made yet
+  pub walk_begins : (lists ls : Lists) (ps : List ℕ) (made : Nodes) (n : ℕ) → ls ≡ lists → choices_from ls ps ≡ choices ls
+      → made ≡ no_nodes → IsChoiceWay (choices_outcome again template (choices lists) n) made (choices_from ls ps) n
+  walk_begins lists ls ps made n same first none =
+      choices_begin (choices lists) n
+      ∙ ap (λ (cs : List Choice). made_into (before no_nodes) (choices_outcome again template cs n))
+      (sym (first ∙ ap choices same))
+      ∙ ap (λ (ns : Nodes). made_into (before ns) (choices_outcome again template (choices_from ls ps) n)) (sym none)
+
   pub choices_go_on : (whole : Outcome Nodes) (made now : Nodes) (c : Choice) (cs : List Choice) (d : Data) (n m : ℕ)
       → IsChoiceWay whole made (c ∷ cs) n → now ≡ node_last made d
       → choice_outcome again template c (filled c template) n ≡ Gives d m → IsChoiceWay whole now cs m

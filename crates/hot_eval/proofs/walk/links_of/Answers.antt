@@ -1,5 +1,4 @@
-use Rattle.std.proofs.Common.{get_or}
-use Rattle.hot_eval.proofs.Linked.{linked_all}
+use Rattle.std.proofs.Common.{get_or, refl}
 use Rattle.hot_eval.proofs.Listings.{listed_link}
 use Rattle.hot_eval.proofs.walk.links_of.Goals as goal
 

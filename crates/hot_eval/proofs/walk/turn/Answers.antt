@@ -17,7 +17,7 @@ index-requires c =
 pub lend-requires-clause-from : goal.lend-requires-clause-from
 lend-requires-clause-from c =
     let below : c.args.at < length (lists_of c.args.lists.now) = omega (arith, c.requires.within, length-lists c.args.lists.now) in
-    omega (arith, c.index.ensures, c.index_mut.ensures.value, ap length c.index_mut.ensures.value,
+    omega (arith, c.index.ensures, ap length c.index_mut.ensures.value,
     stock_length _ _ _ _ c.args.at c.index_mut.result.now c.requires.choice below,
     place_within (lists_of c.args.lists.now) c.args.places.now.items c.args.at ([], no_nodes) c.index.result.now
     c.requires.places below)
