@@ -16,6 +16,7 @@ pub mod Literal
 pub mod Weights
 pub mod Kept
 pub mod Steps
+pub mod Gathers
 pub mod Made
 pub mod Calls
 pub mod Flags

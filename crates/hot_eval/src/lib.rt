@@ -10,6 +10,7 @@ mod depth;
 mod evaluation;
 mod fillings;
 mod functions;
+mod gathered;
 mod lists;
 mod lookups;
 mod maps;
