@@ -1,6 +1,6 @@
 -- Walking from choice to choice past the lists of one item, and a choice with one item set anew.
 use Rattle.std.proofs.Common.{◌≡◌, ◌∙◌, ◌<◌, ◌≤◌, ◌+◌, ◌⊎◌, inl, inr, ℕ, zero, suc, List, [], ◌∷◌, ◌++◌, Bool, true, false}
-use Rattle.std.proofs.Common.{length, get_or, set, map, refl, ap, sym, subst, arith, nat_le, if◌then◌else◌, ◌≢◌, ◌==◌, Decides}
+use Rattle.std.proofs.Common.{length, get_or, set, refl, ap, sym, subst, arith, nat_le, if◌then◌else◌, ◌≢◌, ◌==◌, Decides}
 use Rattle.std.proofs.lemmas.Bool.{cases_lt}
 use Rattle.std.proofs.lemmas.Bool.Decides.{Decides-eqb}
 use Rattle.std.proofs.lemmas.List.{get_or_append_left, get_or_push, length_push, set-get_or, length-set, length-map}
@@ -22,7 +22,7 @@ use Rattle.hot_eval.specs.Repeats.{item_texts, stocks_for}
 use Rattle.hot_eval.specs.Repeats.{with_items}
 use Rattle.hot_eval.specs.declared.choices.Choice.{Choice as Picked}
 use Rattle.hot_eval.proofs.Picks.{distinct_texts, rising_texts, full_texts}
-use Rattle.hot_eval.proofs.Turns.{AreTurned, place_within, places_length, places_set, turned_back}
+use Rattle.hot_eval.proofs.Turns.{AreTurned, place_within, places_length, turned_back}
 
 -- ---- links
 
@@ -156,8 +156,11 @@ items_longer (p ∷ ps) (v ∷ vs) e = omega (arith, items_longer ps vs (omega (
 pub items_there : (ls : Lists) (ps : List ℕ) (stocks : List (List (List ℕ))) (c : Picked) → ArePlaces ls ps
     → IsChoiceAt ls ps stocks c → length ls ≤ length c.items.items
 items_there ls ps stocks c h is =
-    omega (arith, keys_there ls ps stocks c h is,
-    items_longer c.texts.items c.items.items (ap length is.kept.texts ∙ mapped (choice_of c)))
+    omega (
+      arith,
+      keys_there ls ps stocks c h is,
+      items_longer c.texts.items c.items.items (ap length is.kept.texts ∙ mapped (choice_of c)),
+    )
   where
     mapped : (x : Choice) → length (texts_for x) ≡ length x
     mapped [] = refl
@@ -204,16 +207,16 @@ choice_first ls ps stocks c h all whole kept = record {
   kept = kept;
   size = ap length all ∙ length-map {B = List (List ℕ)} ls (λ l. item_texts l.1);
   lent = λ n d p t below. (
-    let stock : get_or stocks n d ≡ item_texts (list_at ls n) =
-    ap (λ (x : List (List (List ℕ))). get_or x n d) all ∙ stock_there ls n d below in
-    let within : get_or ps n p < count_of (list_at ls n) = place_within ls ps n ([], no_nodes) p h below in
-    let text : (get_or c.texts.items n t).1 ≡ get_or (item_texts (list_at ls n)) (get_or ps n p) [] =
-    ap (λ (x : Params). (get_or x n t).1) (kept.texts ∙ ap texts_for whole) ∙ text_at ls ps n p t h below
-    ∙ sym (text_there (list_at ls n) (get_or ps n p) [] within) in
-    ap (λ (x : List (List ℕ)). set x (get_or ps n p) (get_or c.texts.items n t).1) stock
-    ∙ ap (set (item_texts (list_at ls n)) (get_or ps n p)) text
-    ∙ set-get_or (item_texts (list_at ls n)) (get_or ps n p) []
-  );
+      let stock : get_or stocks n d ≡ item_texts (list_at ls n) =
+      ap (λ (x : List (List (List ℕ))). get_or x n d) all ∙ stock_there ls n d below in
+      let within : get_or ps n p < count_of (list_at ls n) = place_within ls ps n ([], no_nodes) p h below in
+      let text : (get_or c.texts.items n t).1 ≡ get_or (item_texts (list_at ls n)) (get_or ps n p) [] =
+      ap (λ (x : Params). (get_or x n t).1) (kept.texts ∙ ap texts_for whole) ∙ text_at ls ps n p t h below
+      ∙ sym (text_there (list_at ls n) (get_or ps n p) [] within) in
+      ap (λ (x : List (List ℕ)). set x (get_or ps n p) (get_or c.texts.items n t).1) stock
+      ∙ ap (set (item_texts (list_at ls n)) (get_or ps n p)) text
+      ∙ set-get_or (item_texts (list_at ls n)) (get_or ps n p) []
+      );
 }
 
 same_or_not : (m n : ℕ) → (m ≡ n) ⊎ (m ≢ n)

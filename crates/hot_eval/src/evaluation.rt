@@ -280,7 +280,13 @@ fn choice_values(set: &Setting, repetition: &Repetition, sum: &mut Sum) -> Resul
     let mut choice = choice_at(set.alloc, lists, &places)?;
     loop {
         items.push(choice_value(set, repetition.template, &choice, sum)?)?;
-        if !go_on(lists, links.as_slice(), &mut places, &mut stocks, &mut choice) {
+        if !go_on(
+            lists,
+            links.as_slice(),
+            &mut places,
+            &mut stocks,
+            &mut choice,
+        ) {
             return Ok(items);
         }
     }

@@ -96,8 +96,7 @@ branch_value-returns-in_err-at_place-in-Branch t c flag branches picked =
 
 pub choice_values-loop-choice-init : goal.choice_values-loop-choice-init
 choice_values-loop-choice-init t c =
-    let first = rw c.in-Some.is at c.in_ok-places.ensures in
-    (
+    let first = rw c.in-Some.is at c.in_ok-places.ensures in (
       walk_begins (inside_again c.args.set.now) (data_of c.args.repetition.now.template.now)
           (lists_of c.args.repetition.now.lists.items) (lists_of c.as_slice-lists.result.now) c.in-Some.places.items
           c.new-items.result c.args.sum.now (ap lists_of c.as_slice-lists.ensures.value) first.1 c.new-items.ensures,

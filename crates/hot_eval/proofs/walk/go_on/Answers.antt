@@ -1,4 +1,4 @@
-use Rattle.std.proofs.Common.{◌-◌, ◌<◌, ◌≡◌, get_or, length, refl, arith, subst, sym, List, ℕ}
+use Rattle.std.proofs.Common.{◌-◌, ◌<◌, get_or, length, refl, arith, subst, sym, List, ℕ}
 use Rattle.hot_eval.specs.Repeats.{lists_of, ArePlaces}
 use Rattle.hot_eval.proofs.Listings.{place_there, listed_next, listed_down, listed_start, listed_less, listed_count, length-lists}
 use Rattle.hot_eval.proofs.Turns.{AreTurned, Goes, places_length}
@@ -23,8 +23,12 @@ pub turn-requires-clause-place : goal.turn-requires-clause-place
 turn-requires-clause-place c =
     let below : c.loop-at.at - 1 < length c.args.lists.now =
     omega (arith, c.loop-at-test.true, c.loop-at.invariant.0.within, length-lists c.args.lists.now) in
-    omega (arith, c.in-Some.ensures.1, listed_count c.args.lists.now (c.loop-at.at - 1)
-    (get_or c.args.lists.now (c.loop-at.at - 1) c.index-lists-at.result) c.index-lists-at.result below refl)
+    omega (
+      arith,
+      c.in-Some.ensures.1,
+      listed_count c.args.lists.now (c.loop-at.at - 1)
+          (get_or c.args.lists.now (c.loop-at.at - 1) c.index-lists-at.result) c.index-lists-at.result below refl,
+    )
 
 pub returns-in-Some-clause-goes : goal.returns-in-Some-clause-goes
 returns-in-Some-clause-goes c =
@@ -38,11 +42,14 @@ pub turn-requires-in-None-clause-place : goal.turn-requires-in-None-clause-place
 turn-requires-in-None-clause-place c =
     let below : c.loop-at.at - 1 < length c.args.lists.now =
     omega (arith, c.loop-at-test.true, c.loop-at.invariant.0.within, length-lists c.args.lists.now) in
-    omega (arith, listed_count c.args.lists.now (c.loop-at.at - 1)
-    (get_or c.args.lists.now (c.loop-at.at - 1) c.index-lists-at.result) c.index-lists-at.result below refl,
-    place_there c.args.lists.now c.loop-at.places.items (c.loop-at.at - 1) c.index.result.now
-    (get_or c.args.lists.now (c.loop-at.at - 1) c.index-lists-at.result) c.index-lists-at.result
-    c.loop-at.invariant.0.places below refl c.index.ensures)
+    omega (
+      arith,
+      listed_count c.args.lists.now (c.loop-at.at - 1)
+          (get_or c.args.lists.now (c.loop-at.at - 1) c.index-lists-at.result) c.index-lists-at.result below refl,
+      place_there c.args.lists.now c.loop-at.places.items (c.loop-at.at - 1) c.index.result.now
+          (get_or c.args.lists.now (c.loop-at.at - 1) c.index-lists-at.result) c.index-lists-at.result
+          c.loop-at.invariant.0.places below refl c.index.ensures,
+    )
 
 pub loop-at-smaller : goal.loop-at-smaller
 loop-at-smaller c =

@@ -1,4 +1,4 @@
-use Rattle.std.proofs.Common.{◌≡◌, ◌<◌, ℕ, List, [], refl, ap, arith, length, get_or}
+use Rattle.std.proofs.Common.{◌<◌, [], refl, ap, arith, length, get_or}
 use Rattle.heat_value.specs.Data.{no_nodes}
 use Rattle.hot_eval.specs.Repeats.{lists_of}
 use Rattle.hot_eval.proofs.Linked.{keys_there, items_there, stock_length, set_anew}
@@ -17,21 +17,33 @@ index-requires c =
 pub lend-requires-clause-from : goal.lend-requires-clause-from
 lend-requires-clause-from c =
     let below : c.args.at < length (lists_of c.args.lists.now) = omega (arith, c.requires.within, length-lists c.args.lists.now) in
-    omega (arith, c.index.ensures, ap length c.index_mut.ensures.value,
-    stock_length _ _ _ _ c.args.at c.index_mut.result.now c.requires.choice below,
-    place_within (lists_of c.args.lists.now) c.args.places.now.items c.args.at ([], no_nodes) c.index.result.now
-    c.requires.places below)
+    omega (
+      arith,
+      c.index.ensures,
+      ap length c.index_mut.ensures.value,
+      stock_length _ _ _ _ c.args.at c.index_mut.result.now c.requires.choice below,
+      place_within (lists_of c.args.lists.now) c.args.places.now.items c.args.at ([], no_nodes) c.index.result.now
+          c.requires.places below,
+    )
 
 pub lend-requires-clause-to : goal.lend-requires-clause-to
 lend-requires-clause-to c =
     let below : c.args.at < length (lists_of c.args.lists.now) = omega (arith, c.requires.within, length-lists c.args.lists.now) in
-    omega (arith, ap length c.index_mut.ensures.value, c.requires.place,
-    stock_length _ _ _ _ c.args.at c.index_mut.result.now c.requires.choice below)
+    omega (
+      arith,
+      ap length c.index_mut.ensures.value,
+      c.requires.place,
+      stock_length _ _ _ _ c.args.at c.index_mut.result.now c.requires.choice below,
+    )
 
 pub item_at-requires : goal.item_at-requires
 item_at-requires c =
-    omega (arith, c.requires.place, listed_count c.args.lists.now c.args.at
-    (get_or c.args.lists.now c.args.at c.index-lists-at.result) c.index-lists-at.result c.requires.within refl)
+    omega (
+      arith,
+      c.requires.place,
+      listed_count c.args.lists.now c.args.at
+          (get_or c.args.lists.now c.args.at c.index-lists-at.result) c.index-lists-at.result c.requires.within refl,
+    )
 
 pub index_mut-requires-3 : goal.index_mut-requires-3
 index_mut-requires-3 c =
