@@ -8,6 +8,7 @@ pub mod Renames
 pub mod Replacements
 pub mod Turns
 pub mod Picks
+pub mod Linked
 pub mod Listings
 pub mod Fills
 pub mod Scalars
@@ -15,6 +16,7 @@ pub mod Literal
 pub mod Weights
 pub mod Kept
 pub mod Steps
+pub mod Gathers
 pub mod Made
 pub mod Calls
 pub mod Flags

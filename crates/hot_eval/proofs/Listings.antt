@@ -1,9 +1,10 @@
 -- The program's lists as keys with their lists.
 use Rattle.std.proofs.Common.{◌≡◌, ◌∙◌, ◌<◌, ◌≤◌, ◌+◌, ◌-◌, ◌==◌, ℕ, zero, suc, List, [], ◌∷◌, ◌++◌, Bool, true, false}
-use Rattle.std.proofs.Common.{Option, Some, None, Result, Ok, Err, ok_or, length, get_or, take, refl, ap, sym, subst, arith}
+use Rattle.std.proofs.Common.{Option, Some, None, Result, Ok, Err, ok_or, length, get_or, take, refl, ap, sym, subst, arith, nat_le, if◌then◌else◌}
 use Rattle.std.proofs.lemmas.Bool.Decides.{Decides-eqb}
 use Rattle.std.proofs.lemmas.List.{map-append, take_more, take_all, nil_from_length, length-map}
-use Rattle.heat_value.specs.Data.{Nodes, no_nodes}
+use Rattle.std.specs.Prelude.{unwrap_or}
+use Rattle.heat_value.specs.Data.{null, Nodes, no_nodes}
 use denote.Ref.{Bor}
 use Rattle.std.proofs.Math.ListN.{set}
 use Rattle.heat_value.specs.Coercion.{coerced}
@@ -12,10 +13,11 @@ use Rattle.hot_strings.specs.Pieces.{Params}
 use Rattle.eval_words.specs.Lookups.{node_at}
 use Rattle.heat_value.specs.declared.value.Value.{Value}
 use Rattle.eval_words.specs.Choices.{Lists, choices}
-use Rattle.hot_eval.specs.Repeats.{lists_of, count_of, ArePlaces, choices_from}
+use Rattle.hot_eval.specs.Repeats.{lists_of, count_of, ArePlaces, choices_from, list_at, link, AreLinks, item_texts, stocks_for}
 use Rattle.hot_eval.specs.declared.choices.Listed.{Listed}
 use Rattle.hot_eval.proofs.Turns.{AreZeros, zeros_push, zeros_first, zeros_are, no_choice, place_within, places_length}
-use Rattle.hot_eval.proofs.Turns.{AreTurned, Goes, turned_next, turned_back}
+use Rattle.hot_eval.proofs.Turns.{AreTurned, Goes, turned_next, turned_back, turned_none}
+use Rattle.hot_eval.proofs.Linked.{AreLinked, linked_next, link_below, turned_down}
 use Rattle.hot_eval.proofs.Picks.{IsMaking, making_next}
 
 -- a key with its list
@@ -122,3 +124,76 @@ listed_making ls ps n p l m d e texts texts' vs vs' q v below h at at' here item
     (omega (arith, below, length-lists ls)) (omega (arith, below, length-lists ls, places_length (lists_of ls) ps h))
     (listed_at ls n l d below at) here item
     (ap (λ x. x.0) (lists_at ls n m e (list_of l) below at' ∙ sym (listed_at ls n l d below at))) refl making)
+
+-- ---- the walk
+
+-- the program's next link
+pub listed_link : (ls : List Listed) (links pushed : List ℕ) (at x was : ℕ) (l d : Listed) → at < length ls
+    → AreLinked (lists_of ls) links at → l ≡ get_or ls at d → was ≡ get_or links at was
+    → x ≡ (if nat_le 2 (length l.items.now) then at + 1 else was) → pushed ≡ links ++ x ∷ []
+    → AreLinked (lists_of ls) pushed (at + 1)
+listed_link ls links pushed at x was l d below h here there is push =
+    linked_next (lists_of ls) links pushed at x h push (omega (arith, below, length-lists ls)) as_link
+  where
+    count : count_of (list_at (lists_of ls) at) ≡ length l.items.now
+    count = ap (λ m. count_of m.1) (sym (lists_at ls at l d ([], no_nodes) below here)) ∙ count_nodes l.items.now
+
+    next : at + 1 ≡ suc at
+    next = omega arith
+
+    as_link : x ≡ link (lists_of ls) (suc at)
+    as_link =
+        is ∙ ap (λ (n : ℕ). if nat_le 2 (length l.items.now) then n else was) next
+        ∙ ap (λ (n : ℕ). if nat_le 2 (length l.items.now) then suc at else n) (there ∙ h.each at was (omega arith))
+        ∙ ap (λ (n : ℕ). if nat_le 2 n then suc at else link (lists_of ls) at) (sym count)
+
+-- one list's texts more
+pub listed_stock : (ls : List Listed) (n : ℕ) (l d : Listed) (ss ts : List (List (List ℕ))) (s : List (List ℕ))
+    → n < length ls → l ≡ get_or ls n d → s ≡ item_texts (nodes_of l.items.now) → ts ≡ ss ++ s ∷ []
+    → ss ≡ stocks_for (lists_of (take n ls)) → ts ≡ stocks_for (lists_of (take (n + 1) ls))
+listed_stock ls n l d ss ts s below at is push h =
+    push ∙ ap (λ (x : List (List (List ℕ))). x ++ s ∷ []) h
+    ∙ ap (λ (x : List (List ℕ)). stocks_for (lists_of (take n ls)) ++ x ∷ []) is
+    ∙ sym (ap (λ (x : List Listed). stocks_for (lists_of x))
+    (take_more ls n d below ∙ ap (λ (m : Listed). take n ls ++ m ∷ []) (sym at))
+    ∙ ap stocks_for (map-append list_of (take n ls) (l ∷ []))
+    ∙ map-append (λ (m : List ℕ × Nodes). item_texts m.1) (lists_of (take n ls)) (list_of l ∷ []))
+
+-- how many items the list at a place has
+pub listed_count : (ls : List Listed) (n : ℕ) (l d : Listed) → n < length ls → l ≡ get_or ls n d
+    → count_of (list_at (lists_of ls) n) ≡ length l.items.now
+listed_count ls n l d below at =
+    ap (λ m. count_of m.1) (sym (lists_at ls n l d ([], no_nodes) below at)) ∙ count_nodes l.items.now
+
+-- the item at a place of it
+pub listed_item : (ls : List Listed) (n p : ℕ) (l d : Listed) (v : Bor Value) → n < length ls → l ≡ get_or ls n d
+    → Some (data_of v.now) ≡ node_at (nodes_of l.items.now) p → data_of v.now ≡ unwrap_or (node_at (list_at (lists_of ls) n) p) null
+listed_item ls n p l d v below at is =
+    ap (λ o. unwrap_or o null) is
+    ∙ ap (λ (m : List ℕ × Nodes). unwrap_or (node_at m.1 p) null) (lists_at ls n l d ([], no_nodes) below at)
+
+-- the list in front of the place turns back, and those of one item in front of it too
+pub listed_down : (ls : List Listed) (old now : List ℕ) (at p : ℕ) (l d : Listed) (links : List ℕ)
+    → ArePlaces (lists_of ls) old → AreLinks (lists_of ls) links → AreTurned (lists_of ls) old now at → 0 < at
+    → l ≡ get_or ls (at - 1) d → p ≡ get_or now (at - 1) p → length l.items.now ≤ p + 1
+    → AreTurned (lists_of ls) old (set now (at - 1) 0) (get_or links (at - 1) 0)
+listed_down ls old now at p l d links was linked h some is here last =
+    subst (AreTurned (lists_of ls) old (set now (at - 1) 0))
+    (sym (linked.each (at - 1) 0 (omega (arith, some, h.within))))
+    (turned_down (lists_of ls) old (set now (at - 1) 0) (at - 1) was
+    (listed_back ls old now at p l d was h some is here last))
+
+-- so from the first choice's places on, with no list turned yet
+pub listed_start : (ls : List Listed) (places links : List ℕ) → ArePlaces (lists_of ls) places
+    → AreLinks (lists_of ls) links → AreTurned (lists_of ls) places places (get_or links (length ls) 0)
+listed_start ls places links was linked =
+    subst (AreTurned (lists_of ls) places places)
+    (sym (linked.each (length ls) 0 (omega (arith, length-lists ls))))
+    (turned_down (lists_of ls) places places (length ls) was
+    (turned_none (lists_of ls) places (length ls) was (sym (length-lists ls))))
+
+-- the walk goes back
+pub listed_less : (ls : List Listed) (links : List ℕ) (at : ℕ) → AreLinks (lists_of ls) links → 0 < at
+    → at ≤ length (lists_of ls) → get_or links (at - 1) 0 < at
+listed_less ls links at linked some within =
+    omega (arith, linked.each (at - 1) 0 (omega (arith, some, within)), link_below (lists_of ls) (at - 1), some)

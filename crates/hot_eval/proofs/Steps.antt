@@ -133,11 +133,11 @@ abbrev pub member_last : Members → List ℕ → Data → Members
 member_last no_members k d = member k d no_members
 member_last (member l e ms) k d = member l e (member_last ms k d)
 
-in_front-none : (ms : Members) → in_front ms no_members ≡ ms
+pub in_front-none : (ms : Members) → in_front ms no_members ≡ ms
 in_front-none no_members = refl
 in_front-none (member k d ms) = ap (member k d) (in_front-none ms)
 
-in_front-last : (ms : Members) (k : List ℕ) (d : Data) (ps : Members)
+pub in_front-last : (ms : Members) (k : List ℕ) (d : Data) (ps : Members)
     → in_front (member_last ms k d) ps ≡ in_front ms (member k d ps)
 in_front-last no_members k d ps = refl
 in_front-last (member l e ms) k d ps = ap (member l e) (in_front-last ms k d ps)
@@ -169,7 +169,7 @@ no_more [] (suc i) past = refl
 no_more (w ∷ es) zero past = absurd (omega (arith, past))
 no_more (w ∷ es) (suc i) past = no_more es i (omega (arith, past))
 
-abbrev cmp : List ℕ → List ℕ → Ordering
+abbrev pub cmp : List ℕ → List ℕ → Ordering
 cmp = slice_cmp nat_cmp
 
 below : (l k : List ℕ) (ls ks : List (List ℕ)) → AllByRecursion (λ y. cmp l y ≡ Less) (ls ++ k ∷ ks) → cmp l k ≡ Less
@@ -177,7 +177,7 @@ below l k [] ks h = h.0
 below l k (m ∷ ls) ks h = below l k ls ks h.1
 
 -- a key above all others goes behind the last
-put_last : (ms : Members) (k : List ℕ) (d : Data) (ks : List (List ℕ)) → IsStrictlySortedBy cmp (keys_of ms ++ k ∷ ks)
+pub put_last : (ms : Members) (k : List ℕ) (d : Data) (ks : List (List ℕ)) → IsStrictlySortedBy cmp (keys_of ms ++ k ∷ ks)
     → put k d ms ≡ member_last ms k d
 unfolding IsStrictlySortedBy
 put_last no_members k d ks h = refl
@@ -264,6 +264,15 @@ module _ (again : Evaluating) (template : Data) where
       same : (o : Outcome Nodes) → o ≡ made_into (before no_nodes) o
       same (Gives ns n) = refl
       same (Faults c p) = refl
+
+  -- at the first choice's places nothing was made yet
+  pub walk_begins : (lists ls : Lists) (ps : List ℕ) (made : Nodes) (n : ℕ) → ls ≡ lists → choices_from ls ps ≡ choices ls
+      → made ≡ no_nodes → IsChoiceWay (choices_outcome again template (choices lists) n) made (choices_from ls ps) n
+  walk_begins lists ls ps made n same first none =
+      choices_begin (choices lists) n
+      ∙ ap (λ (cs : List Choice). made_into (before no_nodes) (choices_outcome again template cs n))
+      (sym (first ∙ ap choices same))
+      ∙ ap (λ (ns : Nodes). made_into (before ns) (choices_outcome again template (choices_from ls ps) n)) (sym none)
 
   pub choices_go_on : (whole : Outcome Nodes) (made now : Nodes) (c : Choice) (cs : List Choice) (d : Data) (n m : ℕ)
       → IsChoiceWay whole made (c ∷ cs) n → now ≡ node_last made d

@@ -1,4 +1,5 @@
 pub mod Repeats
 pub mod Rooms
 pub mod Seen
+pub mod Gathered
 pub mod Answers

@@ -1,10 +1,11 @@
 -- What the program's lists and choices of a repeat show, and how it goes from choice to choice.
 use Rattle.std.specs.Prelude.{◌≡◌, ◌≢◌, ◌<◌, ℕ, zero, suc, List, [], ◌∷◌, ◌++◌, ⊤, All, Bool, MatchBool, Option}
-use Rattle.std.specs.Prelude.{Some, None, Result, Ok, Err, map, unwrap_or}
+use Rattle.std.specs.Prelude.{Some, None, Result, Ok, Err, map, unwrap_or, length, get_or, set, nat_le, ◌≤◌, if◌then◌else◌}
 use Rattle.std.specs.Ordering.{nat_cmp}
 use Rattle.std.specs.Cmp.Lexicographic.{slice_cmp}
 use Rattle.std.specs.declared.cmp.Ordering.TheVariants.{Less}
 use denote.Ref.{Bor}
+use Rattle.heat_value.specs.Coercion.{coerced}
 use Rattle.heat_value.specs.Data.{null, Nodes, no_nodes, node}
 use Rattle.heat_value.specs.Meaning.{data_of, nodes_of}
 use Rattle.heat_value.specs.declared.value.Value.{Value}
@@ -96,6 +97,37 @@ choices_from (l ∷ ls) (p ∷ ps) = each_from l.0 l.1 p (choices_from ls ps) (c
 abbrev pub AreFirst : Lists → Option (List ℕ) → Type 0
 AreFirst ls None = choices ls ≡ []
 AreFirst ls (Some ps) = ArePlaces ls ps × (choices_from ls ps ≡ choices ls)
+
+-- the list at a place; none is there past the last
+abbrev pub list_at : Lists → ℕ → Nodes
+list_at ls n = (get_or ls n ([], no_nodes)).1
+
+-- of so many lists the place behind the last that has more than one item, or 0
+abbrev pub link : Lists → ℕ → ℕ
+link ls zero = 0
+link ls (suc n) = if nat_le 2 (count_of (list_at ls n)) then suc n else link ls n
+
+-- the link of each number of lists
+pub record AreLinks (ls : Lists) (links : List ℕ) : Type 0 where
+  pub size : length links ≡ suc (length ls)
+  pub each : (n d : ℕ) → n ≤ length ls → get_or links n d ≡ link ls n
+
+-- each item's text
+abbrev pub item_texts : Nodes → List (List ℕ)
+item_texts no_nodes = []
+item_texts (node d ns) = coerced d ∷ item_texts ns
+
+-- the texts of each list's items
+abbrev pub stocks_for : Lists → List (List (List ℕ))
+stocks_for ls = map (λ l. item_texts l.1) ls
+
+-- it is the choice of the items at these places; each text that it has is lacking in its list's stock alone
+pub record IsChoiceAt (ls : Lists) (ps : List ℕ) (stocks : List (List (List ℕ))) (c : Picked) : Type 0 where
+  pub choice : choice_of c ≡ choice_at ls ps
+  pub kept : IsChoice c
+  pub size : length stocks ≡ length ls
+  pub lent : (n : ℕ) (d : List (List ℕ)) (p : ℕ) (t : List ℕ × List ℕ) → n < length ls
+      → set (get_or stocks n d) (get_or ps n p) (get_or c.texts.items n t).1 ≡ item_texts (list_at ls n)
 
 -- behind the choice at the places stand those from the next places on, or none
 abbrev pub GoesOn : Bool → Lists → List ℕ → List ℕ → Type 0

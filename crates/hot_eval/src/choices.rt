@@ -1,12 +1,12 @@
-//! The choices that a repeat goes through: one item for each key, the last key's items going fastest.
-ghost use Rattle.std.specs.Prelude.{◌≡◌, ◌<◌, ◌≤◌, ◌+◌, IfOk, MatchOption, Some, length, option_map};
+//! What a repeat does, and one of its choices: an item for each key.
+ghost use Rattle.std.specs.Prelude.{◌≡◌, ◌<◌, IfOk, Some, length, option_map};
 ghost use Rattle.std.specs.List.{list_any};
 ghost use Rattle.heat_value.specs.Coercion.{coerced};
 ghost use Rattle.heat_value.specs.Meaning.{data_of, nodes_of, members_of};
 ghost use Rattle.eval_words.specs.Choices.{repetition, lists_in as the_lists_in};
 ghost use Rattle.eval_words.specs.Lookups.{node_at};
 ghost use Rattle.hot_eval.specs.Repeats.{lists_of, AreKeys, IsRepetition, choice_of, IsChoice};
-ghost use Rattle.hot_eval.specs.Repeats.{ArePlaces, choice_at as the_choice_at, AreFirst, GoesOn};
+ghost use Rattle.hot_eval.specs.Repeats.{ArePlaces, choice_at as the_choice_at};
 ghost use Rattle.eval_words.specs.Texts.{is_empty};
 
 use crate::sorts::{list_in, object_in, under, wanted};
@@ -92,49 +92,6 @@ fn has_empty_key(lists: &[Listed]) -> bool
     false
 }
 
-/// The places of the first choice; none where a list is empty, since then there is no choice.
-pub fn first_places(alloc: Global, lists: &[Listed]) -> Result<Option<Vec<usize>>, AllocError>
-    ensures { IfOk result (λ o. AreFirst (lists_of lists.now) (option_map (λ ps. ps.items) o)) }
-{
-    let mut places = Vec::new(alloc);
-    for list in lists {
-        if list.items.is_empty() {
-            return Ok(None);
-        }
-        places.push(0)?;
-    }
-    Ok(Some(places))
-}
-
-/// Goes on to the next choice's places; false where there is none.
-pub fn go_on(lists: &[Listed], places: &mut Vec<usize>) -> bool
-    requires { ArePlaces (lists_of lists.now) places.old.items }
-    ensures { GoesOn result (lists_of lists.now) places.old.items places.new.items }
-{
-    let mut at = lists.len();
-    while at > 0 {
-        at -= 1;
-        match next_place(lists[at].items, places[at]) {
-            Some(next) => {
-                places[at] = next;
-                return true;
-            }
-            None => places[at] = 0,
-        }
-    }
-    false
-}
-
-// The place behind this one; none behind the last.
-fn next_place(items: &[Value], place: usize) -> Option<usize>
-    requires { place < length items.now }
-    ensures { MatchOption result (length items.now ≤ place + 1)
-        (λ next. (next ≡ place + 1) × (next < length items.now)) }
-{
-    let left = items.len() - place;
-    if left > 1 { Some(place + 1) } else { None }
-}
-
 /// The choice of these places.
 pub fn choice_at<'a>(
     alloc: Global,
@@ -168,8 +125,8 @@ fn with_text(alloc: Global, key: &Text, item: &Value) -> Result<(Text, Text), Al
     Ok((key.copy()?, text_of(alloc, item)?))
 }
 
-// The item at a place.
-fn item_at<'a>(items: &'a [Value], place: usize) -> &'a Value
+/// The item at a place.
+pub fn item_at<'a>(items: &'a [Value], place: usize) -> &'a Value
     requires { place < length items.now }
     ensures { Some (data_of result.now) ≡ node_at (nodes_of items.now) place }
 {

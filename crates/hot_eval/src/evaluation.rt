@@ -15,13 +15,14 @@ ghost use Rattle.eval_words.specs.Scenes.{scene_data};
 
 use crate::answering::{answered, charge, named_condition, own_answer};
 use crate::branches::{Picked, condition_and, pick};
-use crate::choices::{Choice, Repetition, choice_at, first_places, go_on, repetition_in};
+use crate::choices::{Choice, Repetition, choice_at, repetition_in};
 use crate::names::{condition_function_in, function_in, is_condition_formed, is_formed};
 use crate::placing::{at_key, at_place};
 use crate::replacing::{in_template, replaced_template};
 use crate::setting::Setting;
 use crate::sorts::flag_in;
 use crate::sum::Sum;
+use crate::walk::{first_places, go_on, links_of, stocks_of};
 use crate::{EvalFault, FaultCode, Function, Manner};
 use heat_value::{Items, Member, Props, TryCopy, Value};
 
@@ -274,10 +275,18 @@ fn choice_values(set: &Setting, repetition: &Repetition, sum: &mut Sum) -> Resul
     let Some(mut places) = first_places(set.alloc, lists)? else {
         return Ok(items);
     };
+    let links = links_of(set.alloc, lists)?;
+    let mut stocks = stocks_of(set.alloc, lists)?;
+    let mut choice = choice_at(set.alloc, lists, &places)?;
     loop {
-        let choice = choice_at(set.alloc, lists, &places)?;
         items.push(choice_value(set, repetition.template, &choice, sum)?)?;
-        if !go_on(lists, &mut places) {
+        if !go_on(
+            lists,
+            links.as_slice(),
+            &mut places,
+            &mut stocks,
+            &mut choice,
+        ) {
             return Ok(items);
         }
     }

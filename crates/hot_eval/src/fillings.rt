@@ -12,8 +12,8 @@ ghost use Rattle.hot_eval.specs.Repeats.{choice_of, IsChoice};
 ghost use Rattle.hot_eval.specs.Rooms.{IsFilled, IsMade, IsTextMade, IsItemFilled, IsMemberFilled, member_size};
 
 use crate::choices::Choice;
-use crate::maps::put_new;
-use heat_value::{Items, Member, Props, Text, TryCopy, Value};
+use crate::gathered::Gathered;
+use heat_value::{Items, Member, Text, TryCopy, Value};
 use hot_strings::{StringFault, replace_within, value_size};
 pub use literal::at_literal_place;
 use std::alloc::{AllocError, Global};
@@ -170,7 +170,7 @@ fn fields_filled(
         (filled_size (choice_of choice.now) (fields_data (members_of members.now)))
         (the_filled (choice_of choice.now) (fields_data (members_of members.now))) }
 {
-    let mut fields = Props::new(alloc);
+    let mut fields = Gathered::new(alloc);
     let mut same = false;
     for member in members {
         match member_filled(alloc, choice, member, room, same, &mut fields)? {
@@ -181,7 +181,7 @@ fn fields_filled(
     if same {
         return Ok(Filled::Same);
     }
-    Ok(Filled::Template(Value::Fields(fields)))
+    Ok(Filled::Template(Value::Fields(fields.finish(alloc)?)))
 }
 
 // The next member of an object, put under its new key unless one stands there; whether two keys became
@@ -193,7 +193,7 @@ fn member_filled(
     member: &Member,
     room: &mut Room,
     same: bool,
-    fields: &mut Props,
+    fields: &mut Gathered,
 ) -> Result<Option<bool>, AllocError>
     requires { IsChoice choice.now }
     ensures { IfOk result (λ o. IsMemberFilled o room.old room.new
@@ -205,7 +205,7 @@ fn member_filled(
         return Ok(None);
     };
     match fill(alloc, choice, &member.value, room)? {
-        Filled::Template(value) => if put_new(fields, key, value)? {
+        Filled::Template(value) => if fields.put_new(key, value)? {
             Ok(Some(same))
         } else {
             Ok(Some(true))

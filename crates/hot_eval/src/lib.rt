@@ -10,6 +10,7 @@ mod depth;
 mod evaluation;
 mod fillings;
 mod functions;
+mod gathered;
 mod lists;
 mod lookups;
 mod maps;
@@ -21,8 +22,10 @@ mod resolving;
 mod seen;
 mod setting;
 mod sorts;
+mod stock;
 mod sum;
 mod texts;
+mod walk;
 
 pub use conditions::{Tried, flag_of, flag_or_missed};
 pub use eval_words::{EvalFault, FaultCode, Function, FunctionFault, Manner, Scene, ValuedConds};

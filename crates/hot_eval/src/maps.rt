@@ -13,6 +13,7 @@ ghost use Rattle.eval_words.specs.Maps.{object_under as the_object_under, hold_t
 ghost use Rattle.eval_words.specs.Maps.{name_for as the_name_for, value_for as the_value_for};
 ghost use Rattle.eval_words.specs.Sorts.{text_in as the_text_in};
 
+use crate::gathered::Gathered;
 use crate::sorts::{object_in, object_or_null, parts, text_in, two_of, wanted};
 use crate::{FaultCode, FunctionFault};
 use heat_value::{Member, Props, Text, TryCopy, Value, text_of};
@@ -24,15 +25,15 @@ use std::alloc::{AllocError, Global};
 pub fn map_merge(alloc: Global, argument: &Value) -> Result<Value, FunctionFault>
     ensures { IsAnswer result (the_map_merge (data_of argument.now)) }
 {
-    let mut merged = Props::new(alloc);
+    let mut merged = Gathered::new(alloc);
     for part in parts(argument) {
         put_all(&mut merged, wanted(object_or_null(part))?)?;
     }
-    Ok(Value::Fields(merged))
+    Ok(Value::Fields(merged.finish(alloc)?))
 }
 
 // Each of these entries put into the map.
-fn put_all(map: &mut Props, members: &[Member]) -> Result<(), AllocError>
+fn put_all(map: &mut Gathered, members: &[Member]) -> Result<(), AllocError>
     ensures { OnOk result (map.new ≡ the_put_all (members_of members.now) map.old) }
 {
     for member in members {
@@ -70,35 +71,15 @@ fn renamed(
     ensures { IsAnswer result
         (unless_same (map_of (the_renamed (names.now, values.now) (members_of members.now)))) }
 {
-    let mut renamed = Props::new(alloc);
+    let mut renamed = Gathered::new(alloc);
     for member in members {
         let key = name_for(names, &member.key)?;
         let value = value_for(alloc, values, &member.value)?;
-        if !put_new(&mut renamed, key, value)? {
+        if !renamed.put_new(key, value)? {
             return Err(FunctionFault::Wrong(FaultCode::F05));
         }
     }
-    Ok(Value::Fields(renamed))
-}
-
-/// Puts a value under a key that doesn't stand yet; false where it does.
-pub fn put_new(map: &mut Props, key: Text, value: Value) -> Result<bool, AllocError>
-    ensures { IfOk result (λ b. MatchBool b
-        ((the_stands key map.old ≡ false) × (map.new ≡ put key (data_of value) map.old))
-        (the_stands key map.old ≡ true)) }
-{
-    if has_key(map, &key) {
-        return Ok(false);
-    }
-    map.put(key, value)?;
-    Ok(true)
-}
-
-// Whether a value stands under the key.
-fn has_key(map: &Props, key: &Text) -> bool
-    ensures { result ≡ the_stands key.now map.now }
-{
-    map.get(key).is_some()
+    Ok(Value::Fields(renamed.finish(alloc)?))
 }
 
 // What a map is renamed by: names of keys, each a text, and values.

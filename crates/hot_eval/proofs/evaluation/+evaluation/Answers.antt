@@ -14,7 +14,8 @@ use Rattle.hot_eval.specs.Repeats.{lists_of, choice_of}
 use Rattle.eval_words.specs.Scenes.{scene_data}
 use Rattle.hot_eval.specs.declared.branches.Picked.{Picked}
 use Rattle.hot_eval.proofs.Steps.{fault_same, fault_made, list_goes_on, list_ends, map_goes_on, map_ends}
-use Rattle.hot_eval.proofs.Steps.{turn_stops, turn_goes_on, turn_ends}
+use Rattle.hot_eval.proofs.Linked.{choice_first}
+use Rattle.hot_eval.proofs.Steps.{turn_stops, turn_goes_on, turn_ends, walk_begins}
 use Rattle.hot_eval.proofs.Calls.{outcome_is, there, object_calls, object_plain, condition_calls, condition_plain}
 use Rattle.hot_eval.proofs.Calls.{repeated_gives}
 use Rattle.hot_eval.proofs.evaluation.+evaluation.Goals as goal
@@ -93,33 +94,46 @@ branch_value-returns-in_err-at_place-in-Branch t c flag branches picked =
 
 -- ---- choices
 
+pub choice_values-loop-choice-init : goal.choice_values-loop-choice-init
+choice_values-loop-choice-init t c =
+    let first = rw c.in-Some.is at c.in_ok-places.ensures in (
+      walk_begins (inside_again c.args.set.now) (data_of c.args.repetition.now.template.now)
+          (lists_of c.args.repetition.now.lists.items) (lists_of c.as_slice-lists.result.now) c.in-Some.places.items
+          c.new-items.result c.args.sum.now (ap lists_of c.as_slice-lists.ensures.value) first.1 c.new-items.ensures,
+      first.0,
+      choice_first (lists_of c.as_slice-lists.result.now) c.in-Some.places.items c.in_ok-stocks.stocks.items
+          c.in_ok-choice.choice first.0 c.in_ok-stocks.ensures c.in_ok-choice.ensures.choice c.in_ok-choice.ensures.kept,
+    )
+
 pub choice_values-returns-in_err-choice_value : goal.choice_values-returns-in_err-choice_value
 choice_values-returns-in_err-choice_value t c =
     let p = err_from_is_err_and c.from_residual-in_err-choice_value.result
     c.from_residual-in_err-choice_value.ensures.1 in
     rw (p.1, p.2) (turn_stops (inside_again c.args.set.now) (data_of c.args.repetition.now.template.now)
     (choices_outcome (inside_again c.args.set.now) (data_of c.args.repetition.now.template.now) (choices (lists_of c.args.repetition.now.lists.items)) c.args.sum.now)
-    (lists_of c.as_slice-lists.result.now) c.loop-places.places.items (choice_of c.in_ok-choice.choice) c.in_ok-choice.ensures.choice
-    c.in_err-choice_value.field-0.0 c.loop-places.items c.loop-places.sum c.loop-places.invariant.1
-    c.loop-places.invariant.0 c.in_err-choice_value.ensures)
+    (lists_of c.as_slice-lists.result.now) c.loop-choice.places.items (choice_of c.loop-choice.choice) c.loop-choice.invariant.2.choice
+    c.in_err-choice_value.field-0.0 c.loop-choice.items c.loop-choice.sum c.loop-choice.invariant.1
+    c.loop-choice.invariant.0 c.in_err-choice_value.ensures)
 
 pub choice_values-returns-then-not-go_on : goal.choice_values-returns-then-not-go_on
 choice_values-returns-then-not-go_on t c =
     turn_ends (inside_again c.args.set.now) (data_of c.args.repetition.now.template.now)
     (choices_outcome (inside_again c.args.set.now) (data_of c.args.repetition.now.template.now) (choices (lists_of c.args.repetition.now.lists.items)) c.args.sum.now)
-    (lists_of c.as_slice-lists.result.now) c.loop-places.places.items (choice_of c.in_ok-choice.choice) c.in_ok-choice.ensures.choice
-    c.go_on.result c.go_on.new.places.items c.loop-places.items c.push.new.self
-    (data_of c.in_ok-choice_value.field-0) c.loop-places.sum c.choice_value.new.sum c.if-not-go_on.true
-    c.loop-places.invariant.0 c.in_ok-push.ensures.ok c.in_ok-choice_value.ensures c.go_on.ensures
+    (lists_of c.as_slice-lists.result.now) c.loop-choice.places.items (choice_of c.loop-choice.choice) c.loop-choice.invariant.2.choice
+    c.go_on.result c.go_on.new.places.items c.loop-choice.items c.push.new.self
+    (data_of c.in_ok-choice_value.field-0) c.loop-choice.sum c.choice_value.new.sum c.if-not-go_on.true
+    c.loop-choice.invariant.0 c.in_ok-push.ensures.ok c.in_ok-choice_value.ensures c.go_on.ensures.goes
 
-pub choice_values-loop-places-preserved : goal.choice_values-loop-places-preserved
-choice_values-loop-places-preserved t c =
-    turn_goes_on (inside_again c.args.set.now) (data_of c.args.repetition.now.template.now)
+pub choice_values-loop-choice-preserved : goal.choice_values-loop-choice-preserved
+choice_values-loop-choice-preserved t c =
+    let next = turn_goes_on (inside_again c.args.set.now) (data_of c.args.repetition.now.template.now)
     (choices_outcome (inside_again c.args.set.now) (data_of c.args.repetition.now.template.now) (choices (lists_of c.args.repetition.now.lists.items)) c.args.sum.now)
-    (lists_of c.as_slice-lists.result.now) c.loop-places.places.items (choice_of c.in_ok-choice.choice) c.in_ok-choice.ensures.choice
-    c.go_on.result c.go_on.new.places.items c.loop-places.items c.push.new.self
-    (data_of c.in_ok-choice_value.field-0) c.loop-places.sum c.choice_value.new.sum c.if-not-go_on.false
-    c.loop-places.invariant.0 c.in_ok-push.ensures.ok c.in_ok-choice_value.ensures c.go_on.ensures
+    (lists_of c.as_slice-lists.result.now) c.loop-choice.places.items (choice_of c.loop-choice.choice) c.loop-choice.invariant.2.choice
+    c.go_on.result c.go_on.new.places.items c.loop-choice.items c.push.new.self
+    (data_of c.in_ok-choice_value.field-0) c.loop-choice.sum c.choice_value.new.sum c.if-not-go_on.false
+    c.loop-choice.invariant.0 c.in_ok-push.ensures.ok c.in_ok-choice_value.ensures c.go_on.ensures.goes in
+    let choice = rw c.if-not-go_on.false at c.go_on.ensures.choice in
+    (next.0, next.1, choice)
 
 pub repeated-returns-in_ok-items-in-Ok : goal.repeated-returns-in_ok-items-in-Ok
 repeated-returns-in_ok-items-in-Ok t c =

@@ -4,7 +4,7 @@ use Rattle.hot_eval.specs.Answers.{again, inside_again, levels}
 use Rattle.eval_words.specs.Choices.{choices}
 use Rattle.eval_words.specs.Evaluation.{values_outcome, members_outcome, all_but_outcome, conditions_outcome}
 use Rattle.eval_words.specs.Evaluation.{choices_outcome}
-use Rattle.hot_eval.specs.Repeats.{lists_of, ArePlaces, choices_from}
+use Rattle.hot_eval.specs.Repeats.{lists_of, ArePlaces, choices_from, IsChoiceAt}
 use Rattle.eval_words.specs.Scenes.{scene_data}
 use Rattle.hot_eval.proofs.Steps.{IsListWay, IsMapWay, IsChoiceWay}
 use Rattle.hot_eval.proofs.evaluation.+evaluation.Given as goal
@@ -34,15 +34,16 @@ invariant-all_but-loop-member l =
     (all_but_outcome (again l.set) (scene_data l.set.scene) (levels l.set) l.but (members_of l.member-items) l.fn.sum) l.fields
     (members_of l.member-items) l.member-index l.member-items l.sum
 
-abbrev pub invariant-choice_values-loop-places : goal.invariant-choice_values-loop-places
-invariant-choice_values-loop-places l =
+abbrev pub invariant-choice_values-loop-choice : goal.invariant-choice_values-loop-choice
+invariant-choice_values-loop-choice l =
     IsChoiceWay (inside_again l.set) (data_of l.repetition.template.now)
     (choices_outcome (inside_again l.set) (data_of l.repetition.template.now) (choices (lists_of l.repetition.lists.items))
     l.fn.sum) l.items (choices_from (lists_of l.lists) l.places.items) l.sum
     × ArePlaces (lists_of l.lists) l.places.items
+    × IsChoiceAt (lists_of l.lists) l.places.items l.stocks.items l.choice
 
-abbrev pub decreases-choice_values-loop-places : goal.decreases-choice_values-loop-places
-decreases-choice_values-loop-places l = length (choices_from (lists_of l.lists) l.places.items)
+abbrev pub decreases-choice_values-loop-choice : goal.decreases-choice_values-loop-choice
+decreases-choice_values-loop-choice l = length (choices_from (lists_of l.lists) l.places.items)
 
 -- ---- the depth that is left, and then the order of calls at one depth
 

@@ -1,5 +1,5 @@
 use Rattle.hot_eval.proofs.Listings.{empty_list, next_zero, all_zeros}
-use Rattle.hot_eval.proofs.choices.first_places.Goals as goal
+use Rattle.hot_eval.proofs.walk.first_places.Goals as goal
 
 pub returns-then-is_empty : goal.returns-then-is_empty
 returns-then-is_empty c =
