@@ -1,5 +1,6 @@
 -- What a book keeps through the commit of an older look.
 use Rattle.std.proofs.Common.{ap, refl, subst, ℕ, ◌≡◌}
+use Rattle.std.specs.Prelude.{None, Option}
 use Rattle.provider.specs.Cloud.{Cloud}
 use Rattle.core_state.specs.State.{StateData}
 use Rattle.check_steps.specs.Looks.{HasNext, IsWork}
@@ -11,6 +12,7 @@ use Rattle.check_steps.specs.declared.prepared.Prepared.{Prepared}
 use Rattle.book.specs.Commits as commits
 use Rattle.book.specs.Commits.{Commits, MayBegin}
 use Rattle.book.specs.Kept.{IsKept}
+use Rattle.book.specs.declared.halting.Halt.{Halt}
 use Rattle.book.specs.Scenes.{IsUnmade, Scene}
 use Rattle.check_steps.specs.declared.looks.Work.{Work}
 use Rattle.book.specs.declared.turning.Turn.{Turn as Turn_answer}
@@ -19,15 +21,15 @@ use Rattle.book.proofs.Growing.{stays, unasked}
 use Rattle.book.proofs.KeptTurned.{kept_turned}
 
 module _ (first : StateData) (origin : Cloud) where
-  pub kept_committed : (e : ℕ) (w : Work) (old new : Scene) (result : Turn_answer)
-      → IsKept first origin old.state old.entries old.cloud
-      → Commits e w old new result → IsKept first origin new.state new.entries new.cloud
-  kept_committed e w old new result kept (commits.fenced is other same) =
-      stays first origin _ _ _ _ _ _ kept same.state same.entries same.cloud
-  kept_committed e w old new result kept (commits.made still turned) =
-      kept_turned first origin e old new result kept turned
-  kept_committed e w old new result kept (commits.unmade is same) =
-      stays first origin _ _ _ _ _ _ kept same.state same.entries same.cloud
+  pub kept_committed : (e : ℕ) (w : Work) (old new : Scene) (result : Turn_answer) (halt : Option Halt)
+      → IsKept first origin old.state old.entries old.cloud None
+      → Commits e w old new result → IsKept first origin new.state new.entries new.cloud halt
+  kept_committed e w old new result halt kept (commits.fenced is other same) =
+      stays first origin _ _ _ _ _ _ halt kept same.state same.entries same.cloud
+  kept_committed e w old new result halt kept (commits.made still turned) =
+      kept_turned first origin e old new result halt kept turned
+  kept_committed e w old new result halt kept (commits.unmade is same) =
+      stays first origin _ _ _ _ _ _ halt kept same.state same.entries same.cloud
 
 -- neither a turn nor the fence changes which engines are live
 pub committed_live : (e : ℕ) (w : Work) (old new : Scene) (result : Turn_answer) → Commits e w old new result

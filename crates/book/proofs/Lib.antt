@@ -1,8 +1,12 @@
-pub mod Numbers
-pub mod Listed
+pub mod Silent
 pub mod Histories
 pub mod Growing
 pub mod Headlines
+pub mod Images
+pub mod Keepers
+pub mod Settings
+pub mod Stepping
+pub mod Held
 pub mod Conditions
 pub mod Telling
 pub mod Lefts
@@ -13,6 +17,11 @@ pub mod Calling
 pub mod Engined
 pub mod Rising
 pub mod Doing
+pub mod Recorded
+pub mod Openers
+pub mod Restarted
+pub mod Relisted
+pub mod Startings
 pub mod Beginnings
 pub mod Fences
 pub mod Unhalted

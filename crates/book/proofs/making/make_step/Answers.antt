@@ -1,10 +1,9 @@
-use Rattle.std.proofs.Common.{refl}
-use Rattle.book.specs.Makings.{done, refused}
+use Rattle.std.proofs.Common.{List, refl, subst, sym, ◌∙◌}
+use Rattle.core_state.specs.Applies.{AllApply}
+use Rattle.core_state.specs.declared.change.Change.{Change}
+use Rattle.book.proofs.Stepping.{as_done, as_lacking, as_refused, as_unkept}
 use Rattle.book.proofs.making.make_step.Goals as goal
 
-pub returns-in-Ok-make : goal.returns-in-Ok-make
-returns-in-Ok-make c = done c.in-Ok.made c.in-Ok.is
-    (record { state = c.in-Ok-make.ensures.state; entries = c.in-Ok-make.ensures.entries }) refl
-
 pub returns-in-Err : goal.returns-in-Err
-returns-in-Err c = refused c.in-Err.refusal c.in-Err.is refl refl
+returns-in-Err g c = as_refused _ _ _ _ _ _ _ _ _ _ _ _ (g.met.K.Keeper.lawful _) c.requires.ready c.in-Err.refusal
+    c.in-Err.is c.requires.honest
