@@ -107,18 +107,12 @@ fn outcomes_of(alloc: Global, state: &State, e: EngineNo) -> Result<AskOutcomes,
 // something else is asked, none of a quota, since none then comes.
 fn refused(alloc: Global, state: &State, e: EngineNo, row: &Row) -> Result<(Made, Made), Refusal>
     requires calls { Calls state.now.state e Asking }
-    requires stands { Standing state.now.state }
-    requires row { IsCalled state.now.state e row.now }
-<<<<<<< ours
     requires workable { IsWorkable state.now.state }
-    ensures made { IfOk result (λ m. row.now.act ≡ Create
-        → IsAnswered state.now.state e answers.Quota m) }
-    ensures storable { IfOk result (λ m. IsStorable state.now.state m.changes) }
-=======
+    requires row { IsCalled state.now.state e row.now }
     ensures quota { IfOk result (λ both. row.now.act ≡ Create
         → IsAnswered state.now.state e answers.Quota both.0) }
     ensures failed { IfOk result (λ both. IsAnswered state.now.state e answers.Failed both.1) }
->>>>>>> theirs
+    ensures storable { IfOk result (λ both. IsStorable state.now.state both.0.changes) }
     ensures cause { IfErr result (IsQuietRefusal state.now.state e) }
 {
     match row.act {
