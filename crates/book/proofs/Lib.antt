@@ -26,3 +26,5 @@ pub mod Beginnings
 pub mod Fences
 pub mod Unhalted
 pub mod LostAlone
+pub mod Crashed
+pub mod Crashing

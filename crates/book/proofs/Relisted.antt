@@ -58,7 +58,7 @@ breaks_last recalls count old new _ (restarts.disagree all token finding lists f
     record { rests = lists.stays; trace = asked listing.Got lists.noted.trace }
 breaks_last recalls count old new _ (restarts.cloud_fault none_) =
     record { rests = none_.stays; trace = asked listing.Failed none_.noted.trace }
-breaks_last recalls count old new _ (restarts.worn all lists over) =
+breaks_last recalls count old new _ (restarts.worn all lists nothing over) =
     record { rests = lists.stays; trace = asked listing.Got lists.noted.trace }
 breaks_last recalls count old new _ (restarts.disk_fault may) = may_last old.cloud new.cloud may
 breaks_last recalls count old new _ (restarts.memory may) = may_last old.cloud new.cloud may
@@ -117,6 +117,33 @@ module _ (first : StateData) (origin : Cloud) where
         (trace ∙ ap (λ (xs : List Traced). xs ++ Listed given ∷ []) (whole_trace origin old.entries old.cloud kept.trace)
         ∙ ap (λ (k : List Entry). (origin.trace ++ calls_of k) ++ Listed given ∷ []) (sym silent)))
 
+-- what a restart tells, or would have told
+pub restart_told : (s : StateData) (count : ℕ) (r : Result (Unit {0}) Unrestarted) (cs : List Change)
+    → Tries s count r cs → List Entry
+restart_told s count r cs (restarts.none never is) = []
+restart_told s count r cs (restarts.all ended below is) = restart_entry s count ∷ []
+
+pub restart_step : (s : StateData) (h : List Entry) (count : ℕ) → 1 ≤ count → count ≤ engine_limit
+    → (r : Result (Unit {0}) Unrestarted) (cs : List Change) (it : Tries s count r cs)
+    → StepsTo h s (applied cs s) (restart_told s count r cs it)
+restart_step s h count some few r cs (restarts.none never is) = none (ap (λ (xs : List Change). applied xs s) is) refl
+restart_step s h count some few r cs (restarts.all ended below is) =
+    subst (λ (xs : List Change). StepsTo h s (applied xs s) (restart_entry s count ∷ [])) (sym is)
+    (step_to h s (restart_changes s count) (restart_entry s count ∷ []) (restart count some few below refl refl) tt tt)
+
+-- and the cloud is in a state that the history with it allows
+pub restart_told_allows : (first : StateData) (origin : Cloud) (old new : Scene)
+    → Allows (state_of origin) old.entries old.cloud → (recalls : Bool) (count : ℕ)
+    (r : Result (Unit {0}) Unrestarted) → RestartsAs recalls count old new r → (cs : List Change)
+    (it : Tries old.state count r cs)
+    → Allows (state_of origin) (old.entries ++ restart_told old.state count r cs it) new.cloud
+restart_told_allows first origin old new allows recalls count r does cs (restarts.none never is) =
+    silence_allows (opening_at first origin) old.entries old.cloud new.cloud allows [] tt
+    (restart_stays recalls count old new r does)
+restart_told_allows first origin old new allows recalls count r does cs (restarts.all ended below is) =
+    silence_allows (opening_at first origin) old.entries old.cloud new.cloud allows
+    (restart_entry old.state count ∷ []) (tt, tt) (restart_stays recalls count old new r does)
+
 module _ {K P : Type 0} (shown : K → ShownKeeper) (cloud_of : P → Cloud) (old new : Shown K P)
     (allows : Allows (first_of (opening_of cloud_of old)) old.entries (cloud_of old.cloud)) (count : ℕ)
     (some : 1 ≤ count) (few : count ≤ engine_limit) where
@@ -126,53 +153,33 @@ module _ {K P : Type 0} (shown : K → ShownKeeper) (cloud_of : P → Cloud) (ol
   b : Scene
   b = scene_of cloud_of new
 
-  allowed : (recalls : Bool) (r : Result (Unit {0}) Unrestarted) → RestartsAs recalls count a b r → (es : List Entry)
-      → (es ≡ []) ⊎ (es ≡ restart_entry old.state count ∷ [])
-      → Allows (first_of (opening_of cloud_of old)) (old.entries ++ es) (cloud_of new.cloud)
-  allowed recalls r does es (inl is) = subst
-      (λ (x : List Entry). Allows (first_of (opening_of cloud_of old)) (old.entries ++ x) (cloud_of new.cloud)) (sym is)
-      (silence_allows (opening_of cloud_of old) old.entries (cloud_of old.cloud) (cloud_of new.cloud) allows [] tt
-      (restart_stays recalls count a b r does))
-  allowed recalls r does es (inr is) = subst
-      (λ (x : List Entry). Allows (first_of (opening_of cloud_of old)) (old.entries ++ x) (cloud_of new.cloud)) (sym is)
-      (silence_allows (opening_of cloud_of old) old.entries (cloud_of old.cloud) (cloud_of new.cloud) allows
-      (restart_entry old.state count ∷ []) (tt, tt) (restart_stays recalls count a b r does))
+  not_ok : (r : Result (Unit {0}) Unrestarted) (w : Unrestarted) → r ≡ Err w → r ≡ Ok tt → ⊥
+  not_ok r w no_ yes_ = let both = sym no_ ∙ yes_ in cc
+
+  -- unless the keeper failed it was made
+  made_so : (recalls : Bool) (r : Result (Unit {0}) Unrestarted) → new.halt ≡ halt_behind r
+      → new.halt ≢ Some halt.DiskFault → RestartsAs recalls count a b r → (cs : List Change)
+      (it : Tries old.state count r cs)
+      → (new.state ≡ applied cs old.state) × (new.entries ≡ old.entries ++ restart_told old.state count r cs it)
+  made_so recalls r is_h fine (restarts.done does yes_) cs (restarts.none never is) = absurd (never yes_)
+  made_so recalls r is_h fine (restarts.done does yes_) cs (restarts.all ended below is) =
+      (does.state ∙ ap (λ (xs : List Change). applied xs old.state) (sym is), does.entries)
+  made_so recalls r is_h fine (restarts.refused w breaks same silent no_) cs (restarts.none never is) =
+      (same ∙ ap (λ (xs : List Change). applied xs old.state) (sym is), silent ∙ sym (append-nil old.entries))
+  made_so recalls r is_h fine (restarts.refused w breaks same silent no_) cs (restarts.all (inl yes_) below is) =
+      absurd (not_ok r w no_ yes_)
+  made_so recalls r is_h fine (restarts.refused w breaks same silent no_) cs (restarts.all (inr fault) below is) =
+      absurd (fine (is_h ∙ ap halt_behind fault))
 
   pub recorded_restart : (faults now : ℕ) (r : Result (Unit {0}) Unrestarted) → new.halt ≡ halt_behind r
       → Restarts count a b (shown old.keeper) (shown new.keeper) faults now r → Records shown cloud_of old new
-  recorded_restart faults now r is_h it = by it.tries it.does where
-    not_ok : (w : Unrestarted) → r ≡ Err w → r ≡ Ok tt → ⊥
-    not_ok w no_ yes_ = let both = sym no_ ∙ yes_ in cc
-
-    by : Tries old.state count r it.tried → RestartsAs (shown old.keeper).recalls count a b r
-        → Records shown cloud_of old new
-    by (restarts.none never is) (restarts.done does ok_) = absurd (never ok_)
-    by (restarts.none never is) (restarts.refused w breaks same silent no_) = record {
-      behind = applied it.tried old.state;
-      told = [];
-      step = none (ap (λ (cs : List Change). applied cs old.state) is) refl;
-      agrees = allowed (shown old.keeper).recalls r (restarts.refused w breaks same silent no_) [] (inl refl);
-      leaves = it.kept.keeps.leaves;
-      state = λ fine. same ∙ ap (λ (cs : List Change). applied cs old.state) (sym is);
-      entries = λ fine. silent ∙ sym (append-nil old.entries);
-    }
-    by (restarts.all ended below is) does = record {
-      behind = applied it.tried old.state;
-      told = restart_entry old.state count ∷ [];
-      step = subst (λ (cs : List Change). StepsTo old.entries old.state (applied cs old.state)
-          (restart_entry old.state count ∷ [])) (sym is)
-          (step_to old.entries old.state (restart_changes old.state count) (restart_entry old.state count ∷ [])
-          (restart count some few below refl refl) tt tt);
-      agrees = allowed (shown old.keeper).recalls r does (restart_entry old.state count ∷ []) (inr refl);
-      leaves = it.kept.keeps.leaves;
-      state = λ fine. (made ended does fine).0
-          ∙ ap (λ (cs : List Change). applied cs old.state) (sym is);
-      entries = λ fine. (made ended does fine).1;
-    } where
-      made : (r ≡ Ok tt) ⊎ (r ≡ Err why.DiskFault) → RestartsAs (shown old.keeper).recalls count a b r
-          → new.halt ≢ Some halt.DiskFault
-          → (new.state ≡ applied (restart_changes old.state count) old.state)
-          × (new.entries ≡ old.entries ++ restart_entry old.state count ∷ [])
-      made (inl yes_) (restarts.done it_ ok_) fine = (it_.state, it_.entries)
-      made (inl yes_) (restarts.refused w breaks same silent no_) fine = absurd (not_ok w no_ yes_)
-      made (inr fault) does_ fine = absurd (fine (is_h ∙ ap halt_behind fault))
+  recorded_restart faults now r is_h it = record {
+    behind = applied it.tried old.state;
+    told = restart_told old.state count r it.tried it.tries;
+    step = restart_step old.state old.entries count some few r it.tried it.tries;
+    agrees = restart_told_allows old.opening (cloud_of old.origin.cloud) a b allows (shown old.keeper).recalls count r
+        it.does it.tried it.tries;
+    leaves = it.kept.keeps.leaves;
+    state = λ fine. (made_so (shown old.keeper).recalls r is_h fine it.does it.tried it.tries).0;
+    entries = λ fine. (made_so (shown old.keeper).recalls r is_h fine it.does it.tried it.tries).1;
+  }

@@ -240,7 +240,7 @@ module _ (count : ℕ) (s t : StateData) (h i : List Entry) (c d : Cloud) (k l m
     by_refusal x is same ends kept (inl lacks) = not_made why.Memory (ap restarted_for (ends ∙ ap Err lacks)) (λ f. cc)
         (restarts.memory may) same kept.keeps (kept.ready (λ f. honest (is ∙ (sym ends ∙ f))))
     by_refusal _ is same ends kept (inr (engines.worn over)) = not_made why.Worn (ap restarted_for ends) (λ f. cc)
-        (restarts.worn w.all w.lists over) same kept.keeps (kept.ready (λ f. honest (is ∙ (sym ends ∙ f))))
+        (restarts.worn w.all w.lists w.nothing over) same kept.keeps (kept.ready (λ f. honest (is ∙ (sym ends ∙ f))))
 
     by : (q : MadeAs made (page s h) (page t i) first)
         → KeptBy l m n1 n2 s t (tried_as q) (first ≡ Err refusal.DiskFault)

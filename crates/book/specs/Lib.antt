@@ -15,6 +15,7 @@ pub mod Outcomes
 pub mod Learning
 pub mod Commands
 pub mod Recording
+pub mod Crashes
 pub mod Compactions
 pub mod Restarts
 pub mod Starting

@@ -1,17 +1,20 @@
 -- What an opening comes to: the keeper is opened, and the cloud asked what is alive, once.
-use Rattle.std.specs.Prelude.{Bool, Err, IfErr, IfOk, IsTrue, List, None, Ok, Result, Some, [], ℕ, ◌+◌, ◌<◌, ◌^◌, ◌≡◌}
-use Rattle.std.specs.Prelude.{◌⊎◌}
+use Rattle.std.specs.Prelude.{Bool, Err, IsTrue, List, None, Ok, Option, Result, Some, [], ℕ, ◌+◌, ◌<◌, ◌^◌, ◌≡◌}
+use Rattle.std.specs.Prelude.{◌≤◌, ◌⊎◌}
 use Rattle.heat_value.specs.Counts.{Rose}
 use Rattle.heat_plan.specs.declared.token.Token.{Token}
 use Rattle.provider.specs.Calls.{Lists, ListsNone}
 use Rattle.provider.specs.Changes.{IsAsBefore}
 use Rattle.provider.specs.Cloud.{Cloud}
 use Rattle.provider.specs.declared.alive.Alive.{Alive}
+use Rattle.core_state.specs.Changes.{applied}
 use Rattle.core_state.specs.State.{StateData}
 use Rattle.step_relation.specs.Images.{IsInRange, IsMade}
 use Rattle.step_relation.specs.Laws.{opening_at}
+use Rattle.step_relation.specs.Steps.{restart_changes}
 use Rattle.workable_laws.specs.Admitted.{FindsNothing, IsRead, IsTied}
-use Rattle.record_keeper.specs.Calls.{IsForeign}
+use Rattle.record_keeper.specs.Calls.{ComesOf, GoesOn, IsForeign, IsLeftOf}
+use Rattle.record_keeper.specs.Shown.{Left, LeavesOnly, ShownKeeper, at_rest}
 use Rattle.opening_check.specs.Findings.{HasFound}
 use Rattle.opening_check.specs.declared.finding.Finding.{Finding}
 use Rattle.book.specs.Kept.{IsOpenedFrom, Shown}
@@ -48,11 +51,29 @@ pub record HasImageListed (may_open : StateData → Type 0) (old new : Cloud) : 
   pub all : List Alive
   pub listed : Lists all old new
 
+-- What a crash leaves while so many engines are enlisted in the place of an image's: the image; or, where there are
+-- numbers for them, the image or the state with them.
+pub data IsLeftOfStart (image : StateData) (count : ℕ) (l : Option Left) : Type 0 where
+  rests : l ≡ Some (at_rest image) → IsLeftOfStart image count l
+  begins : image.next.engine + count ≤ 2 ^ 62 → IsLeftOf image (applied (restart_changes image count) image) l
+      → IsLeftOfStart image count l
+
+-- what a crash inside an opening leaves: what came of what it might have left before; or, where an image was read, that
+pub data IsLeftOfOpening (may_open : StateData → Type 0) (old : ShownKeeper) (count : ℕ) (l : Option Left) : Type 0 where
+  came : ComesOf old l → IsLeftOfOpening may_open old count l
+  begun : (image : StateData) → may_open image → IsLeftOfStart image count l → IsLeftOfOpening may_open old count l
+
+-- the keeper through an opening
+pub record OpensKeeper (may_open : StateData → Type 0) (count : ℕ) (old new : ShownKeeper) (before now : ℕ) : Type 0 where
+  pub goes_on : GoesOn old new before now
+  pub leaves : IsTrue old.tells → LeavesOnly old new (IsLeftOfOpening may_open old count)
+
 -- a book with so many engines over such an image and what the cloud lists, which agree, on which nothing has been done
-pub record HasOpened {K P : Type 0} (may_open : StateData → Type 0) (cloud_of : P → Cloud) (workers : ℕ) (cloud : P)
-    (b : Shown K P) : Type 0 where
+pub record HasOpened {K P : Type 0} (may_open : StateData → Type 0) (shown : K → ShownKeeper) (faults_of : K → ℕ)
+    (cloud_of : P → Cloud) (workers : ℕ) (keeper : K) (cloud : P) (b : Shown K P) : Type 0 where
   pub found : HasImageListed may_open (cloud_of cloud) (cloud_of b.origin.cloud)
   pub opened : IsOpenedFrom found.image b.opening (cloud_of b.origin.cloud) workers
+  pub went : OpensKeeper may_open workers (shown keeper) (shown b.keeper) (faults_of keeper) (faults_of b.keeper)
   pub state : b.state ≡ b.opening
   pub entries : b.entries ≡ []
   pub keeper_is : b.keeper ≡ b.origin.keeper
@@ -60,8 +81,8 @@ pub record HasOpened {K P : Type 0} (may_open : StateData → Type 0) (cloud_of 
   pub unhalted : b.halt ≡ None
 
 -- Why there is no book: what the keeper holds is no image; it and the list disagree, and this is found first; the keeper
--- failed; the cloud gave no list; no numbers are left, for so many engines or for the compaction that has to come
--- first; or there was no memory.
+-- failed; the cloud gave no list; they agree, and no numbers are left, for so many engines or for the compaction that
+-- has to come first; or there was no memory.
 pub data WhyUnopened (may_open : StateData → Type 0) (recalls is_old : Bool) (workers before now : ℕ) (old new : Cloud)
     (w : Unrestarted) : Type 0 where
   foreign : (IsTrue recalls → IsForeign may_open) → IsAsBefore old new → w ≡ unrestarted.Foreign
@@ -73,6 +94,13 @@ pub data WhyUnopened (may_open : StateData → Type 0) (recalls is_old : Bool) (
       → WhyUnopened may_open recalls is_old workers before now old new w
   cloud_fault : ListsNone old new → w ≡ unrestarted.CloudFault
       → WhyUnopened may_open recalls is_old workers before now old new w
-  worn : (it : HasImageListed may_open old new) → (2 ^ 62 < it.image.next.engine + workers) ⊎ IsTrue is_old
-      → w ≡ unrestarted.Worn → WhyUnopened may_open recalls is_old workers before now old new w
+  worn : (it : HasImageListed may_open old new) → FindsNothing (opening_at it.image new)
+      → (2 ^ 62 < it.image.next.engine + workers) ⊎ IsTrue is_old → w ≡ unrestarted.Worn
+      → WhyUnopened may_open recalls is_old workers before now old new w
   memory : MayList old new → w ≡ unrestarted.Memory → WhyUnopened may_open recalls is_old workers before now old new w
+
+-- such a cause, and what is left of the keeper
+pub record IsUnopened (may_open : StateData → Type 0) (workers : ℕ) (old new : ShownKeeper) (before now : ℕ)
+    (c d : Cloud) (w : Unrestarted) : Type 0 where
+  pub went : OpensKeeper may_open workers old new before now
+  pub why : WhyUnopened may_open old.recalls new.is_old workers before now c d w

@@ -11,7 +11,6 @@ use Rattle.provider.specs.Cloud.{Cloud}
 use Rattle.provider.specs.declared.alive.Alive.{Alive}
 use Rattle.core_state.specs.Changes.{applied}
 use Rattle.core_state.specs.State.{StateData}
-use Rattle.core_state.specs.State.{StateData}
 use Rattle.core_state.specs.declared.change.Change.{Change}
 use Rattle.core_state.specs.declared.entry.Actor.TheVariants.{Main}
 use Rattle.core_state.specs.declared.entry.EngineChange.TheVariants as engine
@@ -49,7 +48,8 @@ pub record RestartDoes (count : ℕ) (old new : Scene) : Type 0 where
   pub state : new.state ≡ applied (restart_changes old.state count) old.state
   pub entries : new.entries ≡ old.entries ++ restart_entry old.state count ∷ []
 
--- Why it is refused. Foreign comes, where the keeper recalls, only where the book's state lacks what an image has.
+-- Why it is refused. Foreign comes, where the keeper recalls, only where the book's state lacks what an image has; Worn
+-- only where nothing was found.
 pub data RestartBreaks (recalls : Bool) (count : ℕ) (old new : Scene) : Unrestarted → Type 0 where
   foreign : (IsTrue recalls → IsUnfit old.state) → IsAsBefore old.cloud new.cloud
       → RestartBreaks recalls count old new why.Foreign
@@ -57,8 +57,8 @@ pub data RestartBreaks (recalls : Bool) (count : ℕ) (old new : Scene) : Unrest
       → HasFound (opening_at old.state new.cloud) token finding
       → RestartBreaks recalls count old new (why.Disagree token finding)
   cloud_fault : ListsNone old.cloud new.cloud → RestartBreaks recalls count old new why.CloudFault
-  worn : (all : List Alive) → Lists all old.cloud new.cloud → 2 ^ 62 < old.state.next.engine + count
-      → RestartBreaks recalls count old new why.Worn
+  worn : (all : List Alive) → Lists all old.cloud new.cloud → FindsNothing (opening_at old.state new.cloud)
+      → 2 ^ 62 < old.state.next.engine + count → RestartBreaks recalls count old new why.Worn
   disk_fault : MayList old.cloud new.cloud → RestartBreaks recalls count old new why.DiskFault
   memory : MayList old.cloud new.cloud → RestartBreaks recalls count old new why.Memory
 

@@ -1,15 +1,15 @@
 -- How a book begins with an image.
-use Rattle.std.specs.Prelude.{Bool, IfErr, IfOk, IsTrue, None, Ok, Result, [], Some, ℕ, ◌+◌, ◌<◌, ◌^◌, ◌≡◌, ◌≤◌, ◌⊎◌}
+use Rattle.std.specs.Prelude.{Bool, IfErr, IfOk, IsTrue, None, Ok, Result, Some, [], ℕ, ◌+◌, ◌<◌, ◌^◌, ◌≡◌, ◌≤◌, ◌⊎◌}
 use Rattle.heat_value.specs.Counts.{Rose}
 use Rattle.provider.specs.Cloud.{Cloud}
 use Rattle.core_state.specs.Changes.{applied}
 use Rattle.core_state.specs.State.{StateData}
 use Rattle.step_relation.specs.Steps.{restart_changes}
-use Rattle.record_keeper.specs.Calls.{ComesOf, GoesOn}
+use Rattle.record_keeper.specs.Calls.{GoesOn}
 use Rattle.record_keeper.specs.Shown.{LeavesOnly, ShownKeeper, at_rest}
-use Rattle.book.specs.Keeping.{IsReady, Keeps}
+use Rattle.book.specs.Keeping.{IsReady}
 use Rattle.book.specs.Kept.{IsOpenedFrom, Shown}
-use Rattle.book.specs.Openings.{HasImageListed, WhyUnopened}
+use Rattle.book.specs.Openings.{HasImageListed, IsLeftOfStart, OpensKeeper, WhyUnopened}
 use Rattle.book.specs.declared.opening.Start.{Start}
 use Rattle.book.specs.declared.restarting.Unrestarted.TheVariants as unrestarted
 use Rattle.book.specs.declared.restarting.Unrestarted.{Unrestarted}
@@ -41,7 +41,8 @@ pub record Renews (image : StateData) (count : ℕ) (old new : ShownKeeper) (bef
 -- an image with so many engines, which the keeper keeps
 pub record Starts (image : StateData) (count : ℕ) (old new : ShownKeeper) (before now : ℕ)
     (result : Result Start Unrestarted) : Type 0 where
-  pub keeps : Keeps old new before now image (restarted_at image count)
+  pub leaves : IsTrue old.tells → LeavesOnly old new (IsLeftOfStart image count)
+  pub goes_on : GoesOn old new before now
   pub start : IfOk result (IsStart image count)
   pub below : IfOk result (λ st. image.next.engine + count ≤ 2 ^ 62)
   pub ready : IfOk result (λ st. IsReady new (restarted_at image count))
@@ -59,7 +60,7 @@ pub record HasStarted (may_open : StateData → Type 0) (count : ℕ) (new : Sho
 pub record Opens (may_open : StateData → Type 0) (count : ℕ) (old new : ShownKeeper) (before now : ℕ) (c d : Cloud)
     (result : Result Start Unrestarted) : Type 0 where
   pub started : IfOk result (HasStarted may_open count new c d)
-  pub goes_on : GoesOn old new before now
+  pub went : OpensKeeper may_open count old new before now
   pub why : IfErr result (WhyUnopened may_open old.recalls new.is_old count before now c d)
 
 -- a book on which nothing has been done

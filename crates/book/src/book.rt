@@ -16,7 +16,7 @@ ghost use Rattle.takeover_steps.specs.Engines.{Enlists, Stops};
 ghost use Rattle.opening_check.specs.declared.finding.Finding.{Finding as finding_type};
 ghost use Rattle.book.specs.Kept.{Shown, IsHeld, IsSameBook, HasRun, HasImage, HasHeadline};
 ghost use Rattle.book.specs.Kept.{IsSoundBook, IsSoundOpening};
-ghost use Rattle.book.specs.Openings.{HasOpened, WhyUnopened};
+ghost use Rattle.book.specs.Openings.{HasOpened, IsUnopened};
 ghost use Rattle.book.specs.Starting.{Begins, first_book};
 ghost use Rattle.book.specs.Makings.{Does};
 ghost use Rattle.book.specs.Quiet.{IsIdle, number_of, page};
@@ -27,6 +27,7 @@ ghost use Rattle.book.specs.Halts.{Halts, IsForeignCause, IsRefused, MayHalt, fi
 ghost use Rattle.book.specs.Recording.{Records};
 ghost use Rattle.book.specs.Restarts.{IsHaltedBy, RestartDoes};
 ghost use Rattle.book.specs.Compactions.{Compacts, LeavesState};
+ghost use Rattle.book.specs.Crashes.{LeavesBehind};
 
 use crate::commanding::{StackCommand, make_order};
 use crate::committing::{Proposal, commit_of};
@@ -63,6 +64,7 @@ pub struct Book<K: Keeper, P: Provider> {
 impl<K: Keeper, P: Provider> Model for Book<K, P> {
     ghost use Rattle.std.specs.Coded.{codes};
     ghost use Rattle.heat_value.specs.Code.{data_code, members_code};
+    ghost use Rattle.book.specs.Crashes.{IsLeft};
     ghost use Rattle.book.specs.Halts.{IsHaltedAs};
     ghost use Rattle.book.specs.Kept.{Shown, IsHeld, IsKept};
 
@@ -84,7 +86,9 @@ impl<K: Keeper, P: Provider> Model for Book<K, P> {
         b.state.state b.entries.items (P.cloud b.cloud) b.halt
         × (IsHeld (K.shown b.keeper_then.value) (K.shown b.keeper)
             (K.faults b.keeper_then.value) (K.faults b.keeper) b.state.state b.halt
-        × IsHaltedAs (K.faults b.keeper_then.value) (K.faults b.keeper) b.state.state b.halt) };
+        × (IsHaltedAs (K.faults b.keeper_then.value) (K.faults b.keeper) b.state.state b.halt
+        × IsLeft b.opening.state (P.cloud b.cloud_then.value) (K.shown b.keeper_then.value)
+            (K.shown b.keeper) b.state.state b.entries.items (P.cloud b.cloud) b.halt)) };
 }
 
 impl<K: Keeper, P: Provider> Book<K, P> {
@@ -94,26 +98,26 @@ impl<K: Keeper, P: Provider> Book<K, P> {
         requires some { 1 ≤ workers }
         requires few { workers ≤ engine_limit }
         ensures book { (b : Shown K P) → result ≡ Opened.Book b
-            → HasOpened (K.may_open keeper) P.cloud workers cloud b }
+            → HasOpened (K.may_open keeper) K.shown K.faults P.cloud workers keeper cloud b }
         ensures foreign { (k : K) (p : P) → result ≡ Opened.Foreign k p
-            → WhyUnopened (K.may_open keeper) (K.shown keeper).recalls (K.shown k).is_old workers
+            → IsUnopened (K.may_open keeper) workers (K.shown keeper) (K.shown k)
                 (K.faults keeper) (K.faults k) (P.cloud cloud) (P.cloud p) Unrestarted.Foreign }
         ensures disagree { (k : K) (p : P) (token : token_type) (finding : finding_type)
             → result ≡ Opened.Disagree k p token finding
-            → WhyUnopened (K.may_open keeper) (K.shown keeper).recalls (K.shown k).is_old workers
+            → IsUnopened (K.may_open keeper) workers (K.shown keeper) (K.shown k)
                 (K.faults keeper) (K.faults k) (P.cloud cloud) (P.cloud p)
                 (Unrestarted.Disagree token finding) }
         ensures disk_fault { (k : K) (p : P) → result ≡ Opened.DiskFault k p
-            → WhyUnopened (K.may_open keeper) (K.shown keeper).recalls (K.shown k).is_old workers
+            → IsUnopened (K.may_open keeper) workers (K.shown keeper) (K.shown k)
                 (K.faults keeper) (K.faults k) (P.cloud cloud) (P.cloud p) Unrestarted.DiskFault }
         ensures cloud_fault { (k : K) (p : P) → result ≡ Opened.CloudFault k p
-            → WhyUnopened (K.may_open keeper) (K.shown keeper).recalls (K.shown k).is_old workers
+            → IsUnopened (K.may_open keeper) workers (K.shown keeper) (K.shown k)
                 (K.faults keeper) (K.faults k) (P.cloud cloud) (P.cloud p) Unrestarted.CloudFault }
         ensures worn { (k : K) (p : P) → result ≡ Opened.Worn k p
-            → WhyUnopened (K.may_open keeper) (K.shown keeper).recalls (K.shown k).is_old workers
+            → IsUnopened (K.may_open keeper) workers (K.shown keeper) (K.shown k)
                 (K.faults keeper) (K.faults k) (P.cloud cloud) (P.cloud p) Unrestarted.Worn }
         ensures memory { (k : K) (p : P) → result ≡ Opened.Memory k p
-            → WhyUnopened (K.may_open keeper) (K.shown keeper).recalls (K.shown k).is_old workers
+            → IsUnopened (K.may_open keeper) workers (K.shown keeper) (K.shown k)
                 (K.faults keeper) (K.faults k) (P.cloud cloud) (P.cloud p) Unrestarted.Memory }
     {
         let mut keeper = keeper;
@@ -312,6 +316,7 @@ impl<K: Keeper, P: Provider> Book<K, P> {
         ensures refused { self.old.halt ≡ None
             → IfErr result (IsHaltedBy K.shown K.faults P.cloud workers self.old self.new) }
         ensures records { self.old.halt ≡ None → Records K.shown P.cloud self.old self.new }
+        ensures later { K.faults self.old.keeper ≤ K.faults self.new.keeper }
         ensures same { IsSameBook self.old self.new }
         ensures halted { IsRefused self.old self.new (Err Unrestarted.Memory) result }
     {
@@ -334,6 +339,7 @@ impl<K: Keeper, P: Provider> Book<K, P> {
     pub fn compact(&mut self) -> Result<(), Uncompacted>
         ensures compacted { self.old.halt ≡ None → Compacts K.shown K.faults self.old self.new result }
         ensures leaves { self.old.halt ≡ None → LeavesState K.shown self.old self.new }
+        ensures later { K.faults self.old.keeper ≤ K.faults self.new.keeper }
         ensures halted { IsRefused self.old self.new (Err Uncompacted.Memory) result }
     {
         if self.halt.is_some() {
@@ -373,13 +379,15 @@ impl<K: Keeper, P: Provider> Book<K, P> {
 
     /// What every book keeps: its history is that of a run from an admitted image, which the cloud has
     /// followed; the keeper has gone on from the opening, and unless its fault halted the book it stands
-    /// for the state. Where the opening is sound the state is, and the main theorem holds of the history.
-    /// It does nothing.
+    /// for the state; a crash since the opening left the state behind a first part of the history, or
+    /// behind one step there. Where the opening is sound the state is, and the main theorem holds of the
+    /// history. It does nothing.
     pub fn promises(&self)
         ensures run { HasRun P.cloud self.now }
         ensures image { HasImage P.cloud self.now }
         ensures held { IsHeld (K.shown self.now.origin.keeper) (K.shown self.now.keeper)
             (K.faults self.now.origin.keeper) (K.faults self.now.keeper) self.now.state self.now.halt }
+        ensures left { LeavesBehind K.shown P.cloud self.now }
         ensures made { IsMade self.now.state }
         ensures sound { IsSoundOpening P.cloud self.now → IsSoundBook P.cloud self.now }
         ensures headline { IsSoundOpening P.cloud self.now → HasHeadline P.cloud self.now }
