@@ -8,6 +8,7 @@ use Rattle.check_steps.specs.declared.looks.Work.{Work}
 use Rattle.record_keeper.specs.Shown.{ShownKeeper}
 use Rattle.book.specs.Commits.{Commits}
 use Rattle.book.specs.Commits as commits
+use Rattle.book.specs.Crashes.{IsLeft}
 use Rattle.book.specs.Halts.{IsForeignCause, first_cause}
 use Rattle.book.specs.Kept.{IsHeld, IsKept, Shown}
 use Rattle.book.specs.Scenes.{Scene}
@@ -36,6 +37,18 @@ pub held_unhalted : (origin keeper : ShownKeeper) (before now : ℕ) (s : StateD
     → is_some h ≡ false → IsHeld origin keeper before now s h → IsHeld origin keeper before now s None
 held_unhalted origin keeper before now s h none held =
     subst (λ (x : Option Halt). IsHeld origin keeper before now s x) (unhalted h none) held
+
+pub left_unhalted : (first : StateData) (origin : Cloud) (opened keeper : ShownKeeper) (s : StateData)
+    (es : List Entry) (c : Cloud) (h : Option Halt) → is_some h ≡ false → IsLeft first origin opened keeper s es c h
+    → IsLeft first origin opened keeper s es c None
+left_unhalted first origin opened keeper s es c h none was =
+    subst (λ (x : Option Halt). IsLeft first origin opened keeper s es c x) (unhalted h none) was
+
+pub left_again : (first : StateData) (origin : Cloud) (opened keeper : ShownKeeper) (s : StateData)
+    (es : List Entry) (c : Cloud) (h : Option Halt) → is_some h ≡ false
+    → IsLeft first origin opened keeper s es c None → IsLeft first origin opened keeper s es c h
+left_again first origin opened keeper s es c h none was =
+    subst (λ (x : Option Halt). IsLeft first origin opened keeper s es c x) (sym (unhalted h none)) was
 
 -- a turn and a commit that aren't made
 pub no_turn : (e : ℕ) (x : Scene) → Turned e x x Memory

@@ -2,6 +2,7 @@
 use Rattle.std.proofs.Common.{ap, refl, subst, sym, ◌∙◌}
 use Rattle.provider.specs.Cloud.{Cloud}
 use Rattle.book.specs.Kept.{IsOpenedFrom}
+use Rattle.book.proofs.Crashed.{left_at_first}
 use Rattle.book.proofs.Growing.{kept_at_first}
 use Rattle.book.proofs.Held.{held_at_first}
 use Rattle.book.proofs.book.Book.begun.Goals as goal
@@ -16,6 +17,10 @@ invariant_of-result g c =
       (
         held_at_first _ _ _ _ _ (ap g.K.Keeper.shown c.of-keeper_then.ensures)
             (ap g.K.Keeper.faults c.of-keeper_then.ensures) b.ready,
-        tt,
+        (
+          tt,
+          left_at_first _ _ _ _ _ (g.met.K.Keeper.lawful _) _ _ _ (ap g.K.Keeper.shown c.of-keeper_then.ensures) b.copied
+              c.new.ensures b.ready,
+        ),
       ),
     )

@@ -6,7 +6,8 @@ use Rattle.book.proofs.Fences.{committed_live, kept_committed}
 use Rattle.book.proofs.Headlines.{over}
 use Rattle.book.proofs.Held.{fine_turn, held_ready, turned_halts, turned_held}
 use Rattle.book.proofs.Recorded.{recorded_commit}
-use Rattle.book.proofs.Unhalted.{held_unhalted, is_halted, kept_unhalted, no_commit, unhalted}
+use Rattle.book.proofs.Crashing.{left_committed}
+use Rattle.book.proofs.Unhalted.{held_unhalted, is_halted, kept_unhalted, left_unhalted, no_commit, unhalted}
 use Rattle.book.proofs.book.Book.commit.Goals as goal
 
 pub commit_of-requires-clause-drawn : goal.commit_of-requires-clause-drawn
@@ -23,9 +24,17 @@ commit_of-requires-clause-ready g c = held_ready _ _ _ _ _
 pub invariant_of-self : goal.invariant_of-self
 invariant_of-self g c =
     let none = sym c.is_some.ensures ∙ c.if-is_some.false in
-    let t = c.commit_of-turn.ensures.committed in (
+    let t = c.commit_of-turn.ensures.committed in
+    let held = turned_held _ _ _ _ _ _ _ _ _ _ (held_unhalted _ _ _ _ _ _ none c.self.invariant.1.0) _ c.halt_by.ensures t.kept in (
       kept_committed _ _ c.args.e c.args.work _ _ _ _ (kept_unhalted _ _ _ _ _ _ none c.self.invariant.0) t.committed,
-      turned_held _ _ _ _ _ _ _ _ _ _ (held_unhalted _ _ _ _ _ _ none c.self.invariant.1.0) _ c.halt_by.ensures t.kept,
+      (
+        held.0,
+        (
+          held.1,
+          left_committed _ _ _ _ _ _ (g.met.K.Keeper.lawful _) c.args.e c.args.work _ _ _ _ _ _ c.halt_by.ensures (kept_unhalted _ _ _ _ _ _ none c.self.invariant.0)
+              (left_unhalted _ _ _ _ _ _ _ _ none c.self.invariant.1.1.1) t,
+        ),
+      ),
     )
 
 pub returns-then-is_some-clause-committed : goal.returns-then-is_some-clause-committed

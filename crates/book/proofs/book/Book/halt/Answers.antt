@@ -1,7 +1,9 @@
 use Rattle.std.proofs.Common.{Some, ap, not, refl, subst, sym, ◌∙◌}
 use Rattle.book.specs.Halts.{MayHalt}
 use Rattle.book.specs.Kept.{Shown}
+use Rattle.book.proofs.Crashed.{left_outside}
 use Rattle.book.proofs.Unhalted.{first_kept, first_made, halted_as, halted_still, held_outside, kept_outside}
+use Rattle.book.proofs.Unhalted.{left_unhalted}
 use Rattle.book.proofs.book.Book.halt.Goals as goal
 
 pub invariant_of-self : goal.invariant_of-self
@@ -10,8 +12,12 @@ invariant_of-self g c =
       kept_outside _ _ _ _ _ _ _ none c.self.invariant.0,
       (
         held_outside _ _ _ _ _ _ _ none c.requires.outside c.self.invariant.1.0,
-        subst (λ (b : Shown g.row.K.Denot g.row.P.Denot). MayHalt g.K.Keeper.faults b (Some c.args.why))
-            (sym c.self.view_is) c.requires.worn,
+        (
+          subst (λ (b : Shown g.row.K.Denot g.row.P.Denot). MayHalt g.K.Keeper.faults b (Some c.args.why))
+              (sym c.self.view_is) c.requires.worn,
+          left_outside _ _ _ _ _ _ _ c.requires.outside
+              (left_unhalted _ _ _ _ _ _ _ _ none c.self.invariant.1.1.1),
+        ),
       ),
     )
 

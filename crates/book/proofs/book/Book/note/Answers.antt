@@ -2,9 +2,10 @@
 use Rattle.std.proofs.Common.{List, [], ap, refl, sym, ◌++◌, ◌∙◌, ◌∷◌}
 use Rattle.core_state.specs.declared.entry.Actor.TheVariants.{Main}
 use Rattle.core_state.specs.declared.entry.Entry.{Entry}
+use Rattle.book.proofs.Crashing.{left_noted}
 use Rattle.book.proofs.Growing.{kept_noted}
 use Rattle.book.proofs.Recorded.{recorded_note, recorded_still}
-use Rattle.book.proofs.Unhalted.{halt_again, held_unhalted, is_halted, kept_unhalted}
+use Rattle.book.proofs.Unhalted.{halt_again, held_unhalted, is_halted, kept_unhalted, left_again, left_unhalted}
 use Rattle.book.proofs.book.Book.note.Goals as goal
 
 pub invariant_of-self-2 : goal.invariant_of-self-2
@@ -16,7 +17,21 @@ invariant_of-self-2 g c =
             by = Main;
             what = c.args.what;
           } ∷ []) c.reserve.ensures.same)),
-      c.self.invariant.1,
+      (
+        c.self.invariant.1.0,
+        (
+          c.self.invariant.1.1.0,
+          left_again _ _ _ _ _ _ _ _ none
+              (left_noted _ _ _ _ _ _ (g.met.K.Keeper.lawful _) _ _ _ _ c.args.what c.requires refl
+              ((held_unhalted _ _ _ _ _ _ none c.self.invariant.1.0).stands (λ is. cc))
+              (kept_unhalted _ _ _ _ _ _ none c.self.invariant.0)
+              (left_unhalted _ _ _ _ _ _ _ _ none c.self.invariant.1.1.1)
+              (c.push.ensures.items ∙ ap (λ (h : List Entry). h ++ record {
+                by = Main;
+                what = c.args.what;
+              } ∷ []) c.reserve.ensures.same)),
+        ),
+      ),
     )
 
 pub returns-then-is_some-clause-records : goal.returns-then-is_some-clause-records

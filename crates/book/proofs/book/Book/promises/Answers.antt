@@ -17,6 +17,9 @@ returns-clause-image g c = rw (← c.self.view_is) (record {
 pub returns-clause-held : goal.returns-clause-held
 returns-clause-held g c = rw (← c.self.view_is) c.self.invariant.1.0
 
+pub returns-clause-left : goal.returns-clause-left
+returns-clause-left g c = rw (← c.self.view_is) c.self.invariant.1.1.1
+
 pub returns-clause-made : goal.returns-clause-made
 returns-clause-made g c = rw (← c.self.view_is) (book_written _ _ _ _ _ _ c.self.invariant.0).made
 

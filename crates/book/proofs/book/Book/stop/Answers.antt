@@ -4,7 +4,8 @@ use Rattle.book.proofs.Doing.{kept_done, stop_step}
 use Rattle.book.proofs.Headlines.{alone}
 use Rattle.book.proofs.Held.{fine_step, held_ready, stepped_halts, stepped_held}
 use Rattle.book.proofs.Recorded.{recorded_done}
-use Rattle.book.proofs.Unhalted.{held_unhalted, is_halted, kept_unhalted, unhalted}
+use Rattle.book.proofs.Crashing.{left_done}
+use Rattle.book.proofs.Unhalted.{held_unhalted, is_halted, kept_unhalted, left_unhalted, unhalted}
 use Rattle.book.proofs.book.Book.stop.Goals as goal
 
 pub make_stop-requires-clause-workable : goal.make_stop-requires-clause-workable
@@ -17,10 +18,17 @@ make_stop-requires-clause-ready g c = held_ready _ _ _ _ _
 pub invariant_of-self : goal.invariant_of-self
 invariant_of-self g c =
     let none = sym c.is_some.ensures ∙ c.if-is_some.false in
-    let t = c.make_stop-done.ensures in (
+    let t = c.make_stop-done.ensures in
+    let held = stepped_held _ _ _ _ _ _ _ _ _ _ (held_unhalted _ _ _ _ _ _ none c.self.invariant.1.0) _ c.halt_after.ensures t.kept in (
       kept_done _ _ _ _ _ _ _ _ _ _ _ _ (kept_unhalted _ _ _ _ _ _ none c.self.invariant.0) (λ cs es k. stop_step _ c.args.e cs es k) t.does,
-      stepped_held _ _ _ _ _ _ _ _ _ _ (held_unhalted _ _ _ _ _ _ none c.self.invariant.1.0) _ c.halt_after.ensures
-          t.kept,
+      (
+        held.0,
+        (
+          held.1,
+          left_done _ _ _ _ _ _ (g.met.K.Keeper.lawful _) _ _ _ _ _ _ _ _ _ (λ cs es k. stop_step _ c.args.e cs es k) _ _ _ c.halt_after.ensures (kept_unhalted _ _ _ _ _ _ none c.self.invariant.0)
+              (left_unhalted _ _ _ _ _ _ _ _ none c.self.invariant.1.1.1) t,
+        ),
+      ),
     )
 
 pub returns-then-is_some-clause-records : goal.returns-then-is_some-clause-records

@@ -7,7 +7,8 @@ use Rattle.book.proofs.Headlines.{over}
 use Rattle.book.proofs.Held.{fine_turn, held_ready, turned_halts, turned_held}
 use Rattle.book.proofs.KeptTurned.{kept_turned}
 use Rattle.book.proofs.Recorded.{recorded_turn}
-use Rattle.book.proofs.Unhalted.{held_unhalted, is_halted, kept_unhalted, no_turn, unhalted}
+use Rattle.book.proofs.Crashing.{left_turned}
+use Rattle.book.proofs.Unhalted.{held_unhalted, is_halted, kept_unhalted, left_unhalted, no_turn, unhalted}
 use Rattle.book.proofs.book.Book.turn.Goals as goal
 
 pub turn_of-requires-clause-drawn : goal.turn_of-requires-clause-drawn
@@ -24,9 +25,17 @@ turn_of-requires-clause-ready g c = held_ready _ _ _ _ _
 pub invariant_of-self : goal.invariant_of-self
 invariant_of-self g c =
     let none = sym c.is_some.ensures ∙ c.if-is_some.false in
-    let t = c.turn_of-turn.ensures in (
+    let t = c.turn_of-turn.ensures in
+    let held = turned_held _ _ _ _ _ _ _ _ _ _ (held_unhalted _ _ _ _ _ _ none c.self.invariant.1.0) _ c.halt_by.ensures t.kept in (
       kept_turned _ _ c.args.e _ _ _ _ (kept_unhalted _ _ _ _ _ _ none c.self.invariant.0) t.turned,
-      turned_held _ _ _ _ _ _ _ _ _ _ (held_unhalted _ _ _ _ _ _ none c.self.invariant.1.0) _ c.halt_by.ensures t.kept,
+      (
+        held.0,
+        (
+          held.1,
+          left_turned _ _ _ _ _ _ (g.met.K.Keeper.lawful _) c.args.e _ _ _ _ _ _ c.halt_by.ensures (kept_unhalted _ _ _ _ _ _ none c.self.invariant.0)
+              (left_unhalted _ _ _ _ _ _ _ _ none c.self.invariant.1.1.1) t,
+        ),
+      ),
     )
 
 pub returns-then-is_some-clause-turned : goal.returns-then-is_some-clause-turned
