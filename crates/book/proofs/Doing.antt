@@ -1,6 +1,8 @@
 -- A command, a stop or an enlisting: what it makes, and what the book keeps through it.
 use Rattle.std.proofs.Common.{List, [], ap, append-nil, arith, inl, inr, refl, subst, sym, ℕ, ◌++◌, ◌∙◌, ◌∷◌, ◌≡◌, ◌⊎◌}
-use Rattle.std.specs.Prelude.{Contains, Err, IfErr, IfOk, None, Ok, Option, Result, ◌+◌, ◌<◌, ◌^◌, ◌≢◌, ◌≤◌}
+use Rattle.std.proofs.lemmas.Result.{IfOk-weaker}
+use Rattle.std.specs.Prelude.{Bool, Contains, Err, IfErr, IfOk, None, Ok, Option, Result, ◌+◌, ◌<◌, ◌^◌, ◌≢◌, ◌≤◌}
+use Rattle.heat_plan.specs.Plans.{PlanData}
 use Rattle.heat_plan.specs.declared.refusal.Refusal.{Refusal}
 use Rattle.heat_plan.specs.declared.refusal.Refusal.TheVariants.{DiskFault, Memory}
 use Rattle.provider.proofs.Lists.{here}
@@ -14,6 +16,7 @@ use Rattle.core_state.specs.declared.made.Made.{Made}
 use Rattle.core_state.specs.declared.numbers.Numbers.{Numbers}
 use Rattle.step_relation.specs.Orders.{Command}
 use Rattle.step_relation.specs.Orders as orders
+use Rattle.step_relation.specs.Refusals.{RefusesCancel, RefusesCreate, RefusesDelete, RefusesEnlist, RefusesStop, RefusesUpdate}
 use Rattle.step_relation.specs.Runs.{ClosesOnce, IsTiedStep}
 use Rattle.step_relation.specs.Steps.{Step}
 use Rattle.step_relation.specs.Steps as step
@@ -206,12 +209,52 @@ module _ {A : Type 0} (Is : List Change → List Entry → Type 0) (Refuses : Re
   done_silent (unkept cs es is some same ends) = (steps cs es is).silent
   done_silent (memory same ends) = tt
 
-  -- its changes may be kept
-  pub silent_storable : IsWorkable s → (cs : List Change) (es : List Entry) → Is cs es → IsStorable s cs
-  silent_storable x cs es is = let k = steps cs es is in record {
+-- its changes may be kept
+pub made_storable : (s : StateData) → IsWorkable s → (Is : List Change → List Entry → Type 0) (made : Result Made Refusal)
+    → ((cs : List Change) (es : List Entry) → Is cs es → IsSilentStep s cs es)
+    → IfOk made (λ m. Is m.changes m.entries) → IfOk made (λ m. IsStorable s m.changes)
+made_storable s x Is made steps ok = IfOk-weaker made _ _ (λ m is. by m.changes m.entries (steps m.changes m.entries is)) ok
+    where
+  by : (cs : List Change) (es : List Entry) → IsSilentStep s cs es → IsStorable s cs
+  by cs es k = record {
     applies = steps_apply x.opening x.history s cs es x.workable k.it;
     keepable = steps_are_keepable x.opening x.history s cs es x.workable k.it;
   }
+
+-- and it isn't refused for a fault of the keeper
+pub made_honest : (Refuses : Refusal → Type 0) (made : Result Made Refusal) → IfErr made (λ r. (r ≡ Memory) ⊎ Refuses r)
+    → ¬ Refuses DiskFault → made ≢ Err DiskFault
+made_honest Refuses made err never is =
+    by (subst (λ (x : Result Made Refusal). IfErr x (λ r. (r ≡ Memory) ⊎ Refuses r)) is err) where
+  by : ¬ ((DiskFault ≡ Memory) ⊎ Refuses DiskFault)
+  by (inl no_) = cc
+  by (inr yes_) = never yes_
+
+pub stop_honest : (s : StateData) (e : ℕ) → ¬ RefusesStop s e DiskFault
+stop_honest s e k = elim k [ ]
+
+pub enlist_honest : (s : StateData) → ¬ RefusesEnlist s DiskFault
+enlist_honest s k = elim k [ ]
+
+create_honest : (s : StateData) (name : List ℕ) (plan : PlanData) (rollback : Bool)
+    → ¬ RefusesCreate s name plan rollback DiskFault
+create_honest s name plan rollback k = elim k [ ]
+
+update_honest : (s : StateData) (name : List ℕ) (plan : PlanData) (rollback : Bool)
+    → ¬ RefusesUpdate s name plan rollback DiskFault
+update_honest s name plan rollback k = elim k [ ]
+
+delete_honest : (s : StateData) (name : List ℕ) → ¬ RefusesDelete s name DiskFault
+delete_honest s name k = elim k [ ]
+
+cancel_honest : (s : StateData) (name : List ℕ) → ¬ RefusesCancel s name DiskFault
+cancel_honest s name k = elim k [ ]
+
+pub order_honest : (s : StateData) (c : StackCommand) → ¬ RefusesOrder s c DiskFault
+order_honest s (Create name plan rollback) k = create_honest s name plan rollback k
+order_honest s (Update name plan rollback) k = update_honest s name plan rollback k
+order_honest s (Delete name) k = delete_honest s name k
+order_honest s (Cancel name) k = cancel_honest s name k
 
 -- the same said in other words
 pub does_weaker : {A : Type 0} (Is Other : List Change → List Entry → Type 0) (Refuses Why : Refusal → Type 0)
