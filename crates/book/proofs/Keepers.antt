@@ -1,10 +1,11 @@
 -- What a keeper shows between the calls of a step.
 use Rattle.std.proofs.Common.{arith, inl, inr, refl, subst, sym, ◌∙◌, ◌≡◌}
-use Rattle.std.specs.Prelude.{Bool, Err, IsTrue, List, Option, Some, [], length, nat_eq, true, ℕ, ◌∷◌}
+use Rattle.std.specs.Prelude.{Bool, Err, IsTrue, List, Option, Some, [], length, nat_eq, true, ℕ, ◌∷◌, ◌≤◌}
 use Rattle.heat_value.specs.Counts.{Rose}
 use Rattle.core_state.specs.Changes.{applied}
 use Rattle.core_state.specs.State.{StateData}
 use Rattle.core_state.specs.declared.change.Change.{Change}
+use Rattle.core_state.specs.declared.made.Made.{Made}
 use Rattle.record_keeper.proofs.Moments.{LeavesOnly-same}
 use Rattle.core_state.specs.Applies.{AllApply}
 use Rattle.record_keeper.specs.Calls.{GoesOn, HasAppended, IsLeftOf}
@@ -13,7 +14,7 @@ use Rattle.record_keeper.specs.Laws.{IsLawful}
 use Rattle.record_keeper.specs.Shown.{Left, LeavesOnly, SameKeeper, ShownKeeper, StandsFor, at_rest}
 use Rattle.book.specs.Compactions.{Shortens}
 use Rattle.book.specs.declared.compacting.Uncompacted.TheVariants as why
-use Rattle.book.specs.Keeping.{IsReady, IsStorable, Keeps, KeptBy}
+use Rattle.book.specs.Keeping.{HasRoom, IsReady, IsStorable, Keeps, KeptBy}
 
 -- a keeper that nobody has called
 pub itself : (k : ShownKeeper) → SameKeeper k k
@@ -97,6 +98,31 @@ module _ (old new : ShownKeeper) (same : SameKeeper old new) where
     ready = λ none. subst (IsReady new) (sym stays) (same_ready s ready);
     rose = λ f. absurd (never f);
   }
+
+-- two calls that changed nothing
+pub same_then : (a b c : ShownKeeper) → SameKeeper a b → SameKeeper b c → SameKeeper a c
+same_then a b c one two = record {
+  tells = two.tells ∙ one.tells;
+  recalls = two.recalls ∙ one.recalls;
+  going = two.going ∙ one.going;
+  is_long = two.is_long ∙ one.is_long;
+  is_old = two.is_old ∙ one.is_old;
+  can_compact = two.can_compact ∙ one.can_compact;
+  stands = λ s. (λ h. (one.stands s).0 ((two.stands s).0 h), λ h. (two.stands s).1 ((one.stands s).1 h));
+  crash = λ l. (λ h. (one.crash l).0 ((two.crash l).0 h), λ h. (two.crash l).1 ((one.crash l).1 h));
+  moment = two.moment ∙ one.moment;
+  since = λ t l. (λ h. (one.since t l).0 ((two.since t l).0 h), λ h. (two.since t l).1 ((one.since t l).1 h));
+}
+
+-- room stays
+pub room_stays : (has_room has_more : List Change → Type 0) (room more pages wider : ℕ) (made : Made)
+    → ((cs : List Change) → has_room cs → has_more cs) → room ≤ more → pages ≤ wider
+    → HasRoom has_room room pages made → HasRoom has_more more wider made
+room_stays has_room has_more room more pages wider made records changes entries it = record {
+  changes = let le = it.changes in omega (arith, le, changes);
+  entries = let le = it.entries in omega (arith, le, entries);
+  record_ = records made.changes it.record_;
+}
 
 -- nothing was to be kept
 pub kept_nothing : (k : ShownKeeper) (may_open : StateData → Type 0) (n : ℕ) (s : StateData) (cs : List Change)

@@ -28,3 +28,4 @@ pub mod Unhalted
 pub mod LostAlone
 pub mod Crashed
 pub mod Crashing
+pub mod Learned

@@ -17,10 +17,11 @@ use Rattle.book.specs.Makings as made_as
 use Rattle.book.specs.Scenes.{IsUnmade, Scene, scene}
 use Rattle.book.specs.Turned.{IsWornBy}
 use Rattle.book.specs.Turned as turned
+use Rattle.book.specs.WorkableOver.{IsWorkableOver}
 use Rattle.book.specs.declared.turning.Turn.TheVariants as turn
 use Rattle.book.specs.declared.turning.Turn.{Turn as Turn_answer}
 use Rattle.book.proofs.Growing.{unasked}
-use Rattle.book.proofs.Keepers.{kept_after, untouched}
+use Rattle.book.proofs.Keepers.{kept_after, same_ready, untouched}
 
 -- what was prepared has changed nothing
 pub turns_after : (e : ℕ) (s u : StateData) (h i : List Entry) (c : Cloud) (new : Scene) (k l m : ShownKeeper)
@@ -30,6 +31,15 @@ turns_after e s u h i c new k l m n0 n1 n2 r is_s is_h same count it =
     subst (λ (x : StateData). Turns e (scene x h c) new k m n0 n2 r) is_s
     (subst (λ (x : List Entry). Turns e (scene u x c) new k m n0 n2 r) is_h
     (record { turned = it.turned; kept = kept_after k l same m n0 n1 n2 _ _ _ _ count it.kept }))
+
+-- what it was prepared for still stands
+pub workable_after : (s u : StateData) (h i : List Entry) (c : Cloud) → u ≡ s → i ≡ h → IsWorkableOver s h c
+    → IsWorkableOver u i c
+workable_after s u h i c is_s is_h it = subst (λ (x : StateData). IsWorkableOver x i c) (sym is_s)
+    (subst (λ (x : List Entry). IsWorkableOver s x c) (sym is_h) it)
+
+pub ready_after : (k l : ShownKeeper) (s u : StateData) → SameKeeper k l → u ≡ s → IsReady k s → IsReady l u
+ready_after k l s u same is it = subst (IsReady l) (sym is) (same_ready k l same s it)
 
 module _ (e : ℕ) (s t : StateData) (h i : List Entry) (c d : Cloud) (k l : ShownKeeper) (n0 n1 : ℕ)
     (may_open : StateData → Type 0) (lawful : IsLawful may_open k) (is_t : t ≡ s) (is_i : i ≡ h)
