@@ -33,7 +33,7 @@ module _ (first : StateData) (origin : Cloud) (opened : ShownKeeper) where
     part = it.part;
     rest = it.rest ++ rest;
     parts = is ∙ ap (λ (x : List Entry). x ++ rest) it.parts ∙ append_assoc it.part it.rest rest;
-    at = it.at;
+    before = it.before;
     run = it.run;
     behind = it.behind;
     told = it.told;
@@ -61,7 +61,7 @@ module _ (first : StateData) (origin : Cloud) (opened : ShownKeeper) where
             part = h;
             rest = rest;
             parts = is_i;
-            at = s;
+            before = s;
             run = run;
             behind = behind;
             told = told;
@@ -75,7 +75,7 @@ module _ (first : StateData) (origin : Cloud) (opened : ShownKeeper) where
       behind = behind;
       told = told;
       step = step;
-      tells = (fault f).1;
+      history = (fault f).1;
       agrees = agrees;
       leaves = λ tells x may.
           let it = leaves (subst IsTrue same tells) in
@@ -120,7 +120,7 @@ left_at_first first origin opened k may_open lawful s h c same is_s is_h ready =
             part = [];
             rest = [];
             parts = is_h;
-            at = s;
+            before = s;
             run = begins s [] is_s refl;
             behind = s;
             told = [];

@@ -1,6 +1,6 @@
 -- What a crash leaves of a book behind each kind of call.
-use Rattle.std.proofs.Common.{List, [], ap, append-nil, inl, inr, refl, subst, sym, ℕ, ◌++◌, ◌∙◌, ◌∷◌, ◌≡◌, ◌⊎◌}
-use Rattle.std.specs.Prelude.{Err, IsTrue, None, Ok, Option, Result, Some, take, ◌≢◌, ◌≤◌}
+use Rattle.std.proofs.Common.{List, [], ap, append-nil, inl, inr, refl, subst, sym, ℕ, ◌++◌, ◌∙◌, ◌∷◌, ◌≡◌}
+use Rattle.std.specs.Prelude.{Err, IsTrue, None, Ok, Option, Result, Some, take, ◌≤◌}
 use Rattle.heat_plan.specs.declared.refusal.Refusal.{Refusal}
 use Rattle.heat_plan.specs.declared.refusal.Refusal.TheVariants as refusal
 use Rattle.provider.specs.Cloud.{Cloud, state_of}
@@ -9,16 +9,19 @@ use Rattle.core_state.specs.State.{StateData}
 use Rattle.core_state.specs.declared.change.Change.{Change}
 use Rattle.core_state.specs.declared.entry.Actor.TheVariants.{Main}
 use Rattle.core_state.specs.declared.entry.Entry.{Entry}
+use Rattle.core_state.specs.declared.entry.What.TheVariants as what
 use Rattle.core_state.specs.declared.entry.What.{What}
 use Rattle.step_relation.specs.Could.{Allows}
 use Rattle.step_relation.specs.Laws.{opening_at}
-use Rattle.step_relation.specs.Steps.{IsNote, Step, engine_limit, note}
+use Rattle.step_relation.specs.Steps.{IsNote, close, engine_limit, note}
 use Rattle.step_relation.specs.Writes.{entry_of}
 use Rattle.check_steps.specs.declared.looks.Work.{Work}
 use Rattle.record_keeper.specs.Calls.{IsLeftOf}
 use Rattle.record_keeper.specs.Laws.{IsLawful}
 use Rattle.record_keeper.specs.Shown.{LeavesOnly, ShownKeeper, StandsFor}
 use Rattle.book.specs.Behind.{CommitsTo, Turns, tried_at, tried_by}
+use Rattle.book.specs.Closing.{Closes}
+use Rattle.book.specs.Closing as closing
 use Rattle.book.specs.Commits.{Commits}
 use Rattle.book.specs.Commits as commits
 use Rattle.book.specs.Crashes.{IsLeft}
@@ -27,15 +30,14 @@ use Rattle.book.specs.Keeping.{KeptBy}
 use Rattle.book.specs.Kept.{IsKept}
 use Rattle.book.specs.Makings.{Does, DoesSo, done, memory, refused, tried_to, unkept}
 use Rattle.book.specs.Quiet.{Page, page}
-use Rattle.book.specs.Restarts.{RestartsAs, Restarts, Tries, restart_entry}
+use Rattle.book.specs.Restarts.{RestartsAs, Restarts, restart_entry}
 use Rattle.book.specs.Restarts as restarts
 use Rattle.book.specs.Recording.{StepsTo, none}
-use Rattle.book.specs.Scenes.{Scene, scene}
+use Rattle.book.specs.Scenes.{Scene}
 use Rattle.book.specs.Turned.{Turned, failed, lacking}
 use Rattle.book.specs.Turned as turned
 use Rattle.book.specs.declared.halting.Halt.TheVariants as halt
 use Rattle.book.specs.declared.halting.Halt.{Halt}
-use Rattle.book.specs.declared.restarting.Unrestarted.TheVariants as why
 use Rattle.book.specs.declared.restarting.Unrestarted.{Unrestarted}
 use Rattle.book.specs.declared.turning.Turn.TheVariants as turn
 use Rattle.book.specs.declared.turning.Turn.{Turn as Turn_answer}
@@ -46,7 +48,7 @@ use Rattle.book.proofs.Histories.{silence_allows}
 use Rattle.book.proofs.Keepers.{itself, same_keeps}
 use Rattle.book.proofs.KeptTurned.{step_to, told_by, turned_allows, turned_step}
 use Rattle.book.proofs.Relisted.{restart_step, restart_told, restart_told_allows}
-use Rattle.book.proofs.Silent.{silent_uncalling}
+use Rattle.book.proofs.Silent.{AreSilent, silent_uncalling}
 
 -- only a fault of the keeper halts with one
 by_turn : (r : Turn_answer) → halt_by r ≡ Some halt.DiskFault → r ≡ turn.DiskFault
@@ -203,15 +205,25 @@ module _ (first : StateData) (origin : Cloud) (opened k l : ShownKeeper) (may_op
     fault (restarts.done does yes_) never = absurd (never yes_)
     fault (restarts.refused w breaks same silent no_) never = (same, inl silent)
 
-  -- a note
-  pub left_noted : (s : StateData) (g i : List Entry) (c : Cloud) (what : What) → IsNote what → l ≡ k
-      → StandsFor k s → IsKept first origin s g c None → IsLeft first origin opened k s g c None
-      → i ≡ g ++ entry_of Main what ∷ [] → IsLeft first origin opened l s i c None
-  left_noted s g i c what noted same stands kept was is_i =
-      left_on first origin opened k l may_open lawful s s g i c c None (ap (λ (x : ShownKeeper). x.tells) same) kept.run was
-      s (entry_of Main what ∷ []) (step_to g s [] (entry_of Main what ∷ []) (note what noted refl refl) tt tt)
-      (silence_allows (opening_at first origin) g c c kept.agrees (entry_of Main what ∷ [])
-      (silent_uncalling _ (silent_note what noted, tt)) (λ token. refl))
-      (subst (λ (x : ShownKeeper). IsTrue k.tells → LeavesOnly k x (IsLeftOf s s)) (sym same)
-      (same_keeps k k (itself k) may_open (subst (IsLawful may_open) same lawful) 0 0 s refl stands).leaves)
-      (entry_of Main what ∷ []) is_i (λ f. cc)
+  -- the keeper wasn't called, and entries that call nobody were told
+  module _ (s : StateData) (g : List Entry) (c : Cloud) (same : l ≡ k) (stands : StandsFor k s)
+      (kept : IsKept first origin s g c None) (was : IsLeft first origin opened k s g c None) where
+    left_told : (i es : List Entry) → StepsTo g s s es → AreSilent es → i ≡ g ++ es
+        → IsLeft first origin opened l s i c None
+    left_told i es step silent is_i =
+        left_on first origin opened k l may_open lawful s s g i c c None (ap (λ (x : ShownKeeper). x.tells) same)
+        kept.run was s es step
+        (silence_allows (opening_at first origin) g c c kept.agrees es (silent_uncalling es silent) (λ token. refl))
+        (subst (λ (x : ShownKeeper). IsTrue k.tells → LeavesOnly k x (IsLeftOf s s)) (sym same)
+        (same_keeps k k (itself k) may_open (subst (IsLawful may_open) same lawful) 0 0 s refl stands).leaves)
+        es is_i (λ f. cc)
+
+    pub left_noted : (i : List Entry) (it : What) → IsNote it → i ≡ g ++ entry_of Main it ∷ []
+        → IsLeft first origin opened l s i c None
+    left_noted i it noted is_i = left_told i (entry_of Main it ∷ [])
+        (step_to g s [] (entry_of Main it ∷ []) (note it noted refl refl) tt tt) (silent_note it noted, tt) is_i
+
+    pub left_closed : (i : List Entry) → Closes g i → IsLeft first origin opened l s i c None
+    left_closed i (closing.before closed_ is_i) = left_told i [] (none refl refl) tt (is_i ∙ sym (append-nil g))
+    left_closed i (closing.now open_ is_i) = left_told i (entry_of Main what.Closed ∷ [])
+        (step_to g s [] (entry_of Main what.Closed ∷ []) (close refl refl) tt open_) (tt, tt) is_i

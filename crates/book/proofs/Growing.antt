@@ -20,11 +20,13 @@ use Rattle.core_state.specs.declared.entry.Actor.TheVariants.{Main}
 use Rattle.core_state.specs.declared.entry.Entry.{Entry}
 use Rattle.core_state.specs.declared.entry.What.{What}
 use Rattle.step_relation.specs.Runs.{ClosesOnce, IsTiedStep, Run, begins, goes_on}
-use Rattle.step_relation.specs.Steps.{IsNote, Step, note, notes, previews, ran, shows, turned}
+use Rattle.step_relation.specs.Steps.{IsNote, Step, close, note, notes, previews, ran, shows, turned}
 use Rattle.step_relation.specs.Writes.{entry_of}
 use Rattle.step_relation.specs.Could.{Allows, could}
 use Rattle.step_relation.specs.Laws.{opening_at}
 use Rattle.history_laws.proofs.tells.Silence.{AreUncalling}
+use Rattle.book.specs.Closing.{Closes}
+use Rattle.book.specs.Closing as closing
 use Rattle.book.specs.Kept.{IsKept, IsOpenedFrom, IsTraced, calls_of, listed, registries, unjudged, whole}
 use Rattle.book.specs.declared.halting.Halt.{Halt}
 use Rattle.book.proofs.Histories.{call_allows, calls_of-append, silence_allows}
@@ -125,6 +127,15 @@ module _ (first : StateData) (origin : Cloud) where
   kept_noted s h i c it noted kept is_i =
       grows_silently s s h i (entry_of Main it ∷ []) [] c c None kept (note it noted refl refl) tt tt
       (silent_uncalling _ (silent_note it noted, tt)) (calls_of-silent _ (silent_note it noted, tt)) refl is_i (unasked c)
+
+  -- the input is closed, or was before
+  pub kept_closed : (s : StateData) (h i : List Entry) (c : Cloud) → IsKept first origin s h c None → Closes h i
+      → IsKept first origin s i c None
+  kept_closed s h i c kept (closing.before was is_i) =
+      stays first origin s s h i c c None kept refl is_i (unasked c)
+  kept_closed s h i c kept (closing.now open_ is_i) =
+      grows_silently first origin s s h i (entry_of Main what.Closed ∷ []) [] c c None kept (close refl refl) tt open_
+      (silent_uncalling _ (tt, tt)) (calls_of-silent _ (tt, tt)) refl is_i (unasked c)
 
   -- an opened book
   pub kept_at_first : (image : StateData) (n : _) (s : StateData) (h : List Entry) (c : Cloud)

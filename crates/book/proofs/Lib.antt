@@ -29,3 +29,4 @@ pub mod LostAlone
 pub mod Crashed
 pub mod Crashing
 pub mod Learned
+pub mod Closings

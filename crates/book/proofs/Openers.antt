@@ -119,6 +119,7 @@ module _ (may_open : StateData → Type 0) (count : ℕ) (k0 k1 : ShownKeeper) (
           opens = starts.start.opening;
         };
         copied = starts.start.state ∙ sym starts.start.opening;
+        silent = starts.start.silent;
         ready = subst (λ (s : StateData). IsReady k2 s) (sym starts.start.state) starts.ready;
       };
       went = went_through starts.leaves starts.goes_on;

@@ -10,16 +10,19 @@ use Rattle.core_state.specs.State.{StateData}
 use Rattle.core_state.specs.declared.change.Change.{Change}
 use Rattle.core_state.specs.declared.entry.Actor.TheVariants.{Main}
 use Rattle.core_state.specs.declared.entry.Entry.{Entry}
+use Rattle.core_state.specs.declared.entry.What.TheVariants as what
 use Rattle.core_state.specs.declared.entry.What.{What}
 use Rattle.step_relation.specs.Could.{Allows}
 use Rattle.step_relation.specs.Opening.{first_of}
 use Rattle.step_relation.specs.Runs.{ClosesOnce}
-use Rattle.step_relation.specs.Steps.{IsNote, note}
+use Rattle.step_relation.specs.Steps.{IsNote, close, note}
 use Rattle.step_relation.specs.Writes.{entry_of}
 use Rattle.check_steps.specs.declared.looks.Work.{Work}
 use Rattle.record_keeper.specs.Laws.{IsLawful}
 use Rattle.record_keeper.specs.Shown.{ShownKeeper, StandsFor}
 use Rattle.book.specs.Behind.{CommitsTo, Turns, tried_at, tried_by}
+use Rattle.book.specs.Closing.{Closes}
+use Rattle.book.specs.Closing as closing
 use Rattle.book.specs.Commits.{Commits}
 use Rattle.book.specs.Commits as commits
 use Rattle.book.specs.Keeping.{IsReady, KeptBy}
@@ -144,3 +147,31 @@ module _ {K P : Type 0} (shown : K → ShownKeeper) (cloud_of : P → Cloud) (ol
       state = λ h. refl;
       entries = λ h. sym (append-nil old.entries);
     })
+
+    -- the input is closed, or was before
+    pub recorded_close : (i : List Entry) → Closes old.entries i → new ≡ record old { entries = i }
+        → Records shown cloud_of old new
+    recorded_close i (closing.before was same) is = subst (λ (x : Shown K P). Records shown cloud_of old x) (sym is)
+        (record {
+          behind = old.state;
+          told = [];
+          step = none refl refl;
+          agrees = silence_allows (opening_of cloud_of old) old.entries (cloud_of old.cloud) (cloud_of old.cloud) allows
+              [] tt (λ token. refl);
+          leaves = (same_keeps (shown old.keeper) (shown old.keeper) (itself (shown old.keeper)) may_open lawful 0 0
+              old.state refl stands).leaves;
+          state = λ h. refl;
+          entries = λ h. same ∙ sym (append-nil old.entries);
+        })
+    recorded_close i (closing.now open_ grown) is = subst (λ (x : Shown K P). Records shown cloud_of old x) (sym is)
+        (record {
+          behind = old.state;
+          told = entry_of Main what.Closed ∷ [];
+          step = step_to old.entries old.state [] (entry_of Main what.Closed ∷ []) (close refl refl) tt open_;
+          agrees = silence_allows (opening_of cloud_of old) old.entries (cloud_of old.cloud) (cloud_of old.cloud) allows
+              (entry_of Main what.Closed ∷ []) (silent_uncalling _ (tt, tt)) (λ token. refl);
+          leaves = (same_keeps (shown old.keeper) (shown old.keeper) (itself (shown old.keeper)) may_open lawful 0 0
+              old.state refl stands).leaves;
+          state = λ h. refl;
+          entries = λ h. grown;
+        })

@@ -17,12 +17,12 @@ pub record IsLeftBehind (first : StateData) (h : List Entry) (l : Option Left) :
   pub part : List Entry
   pub rest : List Entry
   pub parts : h ≡ part ++ rest
-  pub at : StateData
-  pub run : Run registries first at part
+  pub before : StateData
+  pub run : Run registries first before part
   pub behind : StateData
   pub told : List Entry
-  pub step : StepsTo part at behind told
-  pub left : IsLeftOf at behind l
+  pub step : StepsTo part before behind told
+  pub left : IsLeftOf before behind l
 
 -- The step in doubt, which the keeper failed to keep: its call at most is told. A crash leaves the state before it, or
 -- the one behind it; the cloud is in a state that the history with it allows.
@@ -33,7 +33,7 @@ pub record IsInDoubt (first : StateData) (origin : Cloud) (s : StateData) (h : L
   pub behind : StateData
   pub told : List Entry
   pub step : StepsTo part s behind told
-  pub tells : (h ≡ part) ⊎ (h ≡ part ++ take 1 told)
+  pub history : (h ≡ part) ⊎ (h ≡ part ++ take 1 told)
   pub agrees : Allows (state_of origin) (part ++ told) c
   pub leaves : IsTrue keeper.tells → (l : Option Left) → keeper.may_leave l → IsLeftOf s behind l
 

@@ -18,10 +18,11 @@ use Rattle.book.specs.declared.restarting.Unrestarted.{Unrestarted}
 abbrev pub restarted_at : StateData → ℕ → StateData
 restarted_at image count = applied (restart_changes image count) image
 
--- both states are those of an opening with so many engines over this image
+-- both states are those of an opening with so many engines over this image, and nothing was told
 pub record IsStart (image : StateData) (count : ℕ) (start : Start) : Type 0 where
   pub opening : start.opening.state ≡ restarted_at image count
   pub state : start.state.state ≡ restarted_at image count
+  pub silent : start.entries.items ≡ []
 
 -- why nothing begins
 pub data WhyUnstarted (image : StateData) (count : ℕ) (is_old : Bool) (before now : ℕ) (w : Unrestarted) : Type 0 where
@@ -54,6 +55,7 @@ pub record HasStarted (may_open : StateData → Type 0) (count : ℕ) (new : Sho
   pub found : HasImageListed may_open c d
   pub opened : IsOpenedFrom found.image start.opening.state d count
   pub copied : start.state.state ≡ start.opening.state
+  pub silent : start.entries.items ≡ []
   pub ready : IsReady new start.state.state
 
 -- an opening over keeper and cloud
@@ -68,7 +70,7 @@ abbrev pub first_book : {K P : Type 0} → Start → K → P → Shown K P
 first_book start keeper cloud = record {
   opening = start.opening.state;
   state = start.state.state;
-  entries = [];
+  entries = start.entries.items;
   keeper = keeper;
   cloud = cloud;
   origin = record { keeper = keeper; cloud = cloud };
@@ -81,4 +83,5 @@ pub record Begins (keeper : ShownKeeper) (cloud : Cloud) (start : Start) : Type 
   pub count : ℕ
   pub opened : IsOpenedFrom image start.opening.state cloud count
   pub copied : start.state.state ≡ start.opening.state
+  pub silent : start.entries.items ≡ []
   pub ready : IsReady keeper start.state.state

@@ -15,10 +15,11 @@ ghost use Rattle.book.specs.WorkableOver.{IsWorkable, IsWorkableOver};
 
 use crate::answers::{ask_answered, create_refused};
 use crate::called::called_row;
+use crate::history::History;
 use crate::making::{make_answered, make_room};
 use crate::requests::ask;
 use crate::turning::Turn;
-use core_state::{Batch, Entry, Made, Roomed, Row, State};
+use core_state::{Batch, Made, Row, State};
 use heat_plan::{Act, Answered, EngineNo, Refusal, Token};
 use provider::{Answer, Provider};
 use record_keeper::Keeper;
@@ -38,7 +39,7 @@ pub(crate) struct AskOutcomes {
 pub(crate) fn ask_for<K: Keeper, P: Provider>(
     alloc: Global,
     state: &mut State,
-    entries: &mut Roomed<Entry>,
+    entries: &mut History,
     keeper: &mut K,
     cloud: &mut P,
     e: EngineNo,
@@ -62,7 +63,7 @@ pub(crate) fn ask_for<K: Keeper, P: Provider>(
 fn prepare<K: Keeper>(
     alloc: Global,
     state: &mut State,
-    entries: &mut Roomed<Entry>,
+    entries: &mut History,
     keeper: &mut K,
     e: EngineNo,
 ) -> Result<AskOutcomes, Refusal>
@@ -128,7 +129,7 @@ fn refused(alloc: Global, state: &State, e: EngineNo, row: &Row) -> Result<(Made
 // Asks, and makes the step that was prepared for the answer.
 fn ask_prepared<K: Keeper, P: Provider>(
     state: &mut State,
-    entries: &mut Roomed<Entry>,
+    entries: &mut History,
     keeper: &mut K,
     cloud: &mut P,
     e: EngineNo,

@@ -8,6 +8,7 @@ ghost use Rattle.core_state.specs.declared.entry.Actor.TheVariants.{Main};
 ghost use Rattle.step_relation.specs.Refusals.{RefusesCancel, RefusesCreate, RefusesDelete};
 ghost use Rattle.step_relation.specs.Refusals.{RefusesEnlist, RefusesStop, RefusesUpdate};
 ghost use Rattle.step_relation.specs.Images.{IsMade};
+ghost use Rattle.step_relation.specs.Runs.{IsClosed};
 ghost use Rattle.step_relation.specs.Steps.{IsNote, engine_limit};
 ghost use Rattle.command_steps.specs.Answers.{Cancels, Creates, Deletes, Updates};
 ghost use Rattle.check_steps.specs.Looks.{HasNext, IsLook, IsWork};
@@ -22,6 +23,7 @@ ghost use Rattle.book.specs.Makings.{Does};
 ghost use Rattle.book.specs.Quiet.{IsIdle, number_of, page};
 ghost use Rattle.book.specs.Scenes.{scene_of};
 ghost use Rattle.book.specs.Turned.{Turned};
+ghost use Rattle.book.specs.Closing.{Closes};
 ghost use Rattle.book.specs.Commits.{Commits};
 ghost use Rattle.book.specs.Halts.{Halts, IsForeignCause, IsRefused, MayHalt, first_cause};
 ghost use Rattle.book.specs.Recording.{Records};
@@ -34,11 +36,12 @@ use crate::committing::{Proposal, commit_of};
 use crate::compacting::{Uncompacted, shorten};
 use crate::engines::{make_enlisting, make_stop};
 use crate::halting::{Halt, halt_after, halt_behind, halt_by, halt_compacting};
+use crate::history::History;
 use crate::opening::{Opened, Start, open_with, unopened};
 use crate::restarting::{Unrestarted, restart_with};
 use crate::turning::{Turn, turn_of};
 use check_steps::{Look, Prepared, Work, look};
-use core_state::{Actor, Entry, Next, Roomed, State, What};
+use core_state::{Actor, Entry, Next, State, What};
 use heat_plan::{EngineNo, Refusal, StackName, StackNo, TravNo, WORN};
 use provider::Provider;
 use record_keeper::Keeper;
@@ -53,7 +56,7 @@ pub struct Book<K: Keeper, P: Provider> {
     alloc: Global,
     opening: State,
     state: State,
-    entries: Roomed<Entry>,
+    entries: History,
     keeper: K,
     cloud: P,
     keeper_then: Snapshot<K>,
@@ -135,12 +138,16 @@ impl<K: Keeper, P: Provider> Book<K, P> {
     {
         let keeper_then = Snapshot::of(&keeper);
         let cloud_then = Snapshot::of(&cloud);
-        let Start { opening, state } = start;
+        let Start {
+            opening,
+            state,
+            entries,
+        } = start;
         Book {
             alloc,
             opening,
             state,
-            entries: Roomed::new(alloc),
+            entries,
             keeper,
             cloud,
             keeper_then,
@@ -375,6 +382,25 @@ impl<K: Keeper, P: Provider> Book<K, P> {
             what,
         });
         Ok(())
+    }
+
+    /// Closes the input: tells Closed, where it wasn't told; nothing where the book is halted.
+    pub fn close_input(&mut self)
+        ensures closed { self.old.halt ≡ None → Closes self.old.entries self.new.entries }
+        ensures rest { self.new ≡ record self.old { entries = self.new.entries } }
+        ensures records { self.old.halt ≡ None → Records K.shown P.cloud self.old self.new }
+        ensures halted { self.old.halt ≢ None → self.new ≡ self.old }
+    {
+        if self.halt.is_none() {
+            self.entries.close();
+        }
+    }
+
+    /// Whether the input was closed.
+    pub fn is_closed(&self) -> bool
+        ensures { IsTrue result ↔ IsClosed self.now.entries }
+    {
+        self.entries.is_closed()
     }
 
     /// What every book keeps: its history is that of a run from an admitted image, which the cloud has

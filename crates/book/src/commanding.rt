@@ -7,9 +7,10 @@ ghost use Rattle.book.specs.Makings.{DoesSo};
 ghost use Rattle.book.specs.Quiet.{page};
 ghost use Rattle.book.specs.WorkableOver.{IsWorkable};
 
+use crate::history::History;
 use crate::making::make_step;
 use command_steps::{cancel, create, delete, update};
-use core_state::{Entry, Made, Roomed, State};
+use core_state::{Made, State};
 use heat_plan::{Plan, Refusal, StackName, TravNo};
 use record_keeper::Keeper;
 use std::alloc::Global;
@@ -27,7 +28,7 @@ pub enum StackCommand {
 pub(crate) fn make_order<K: Keeper>(
     alloc: Global,
     state: &mut State,
-    entries: &mut Roomed<Entry>,
+    entries: &mut History,
     keeper: &mut K,
     command: StackCommand,
 ) -> Result<TravNo, Refusal>

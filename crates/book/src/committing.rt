@@ -10,9 +10,10 @@ ghost use Rattle.book.specs.Keeping.{IsReady};
 ghost use Rattle.book.specs.Scenes.{scene};
 ghost use Rattle.book.specs.WorkableOver.{IsWorkable, IsWorkableOver};
 
+use crate::history::History;
 use crate::turning::{Turn, make_quietly, turn_of};
 use check_steps::{Prepared, Work, is_overtaken};
-use core_state::{Entry, Roomed, State};
+use core_state::State;
 use heat_plan::EngineNo;
 use provider::Provider;
 use record_keeper::Keeper;
@@ -31,7 +32,7 @@ pub(crate) struct Proposal {
 pub(crate) fn commit_of<K: Keeper, P: Provider>(
     alloc: Global,
     state: &mut State,
-    entries: &mut Roomed<Entry>,
+    entries: &mut History,
     keeper: &mut K,
     cloud: &mut P,
     e: EngineNo,
@@ -62,7 +63,7 @@ pub(crate) fn commit_of<K: Keeper, P: Provider>(
 fn turn_plainly<K: Keeper, P: Provider>(
     alloc: Global,
     state: &mut State,
-    entries: &mut Roomed<Entry>,
+    entries: &mut History,
     keeper: &mut K,
     cloud: &mut P,
     e: EngineNo,
@@ -83,7 +84,7 @@ fn turn_plainly<K: Keeper, P: Provider>(
 fn begin_given<K: Keeper>(
     alloc: Global,
     state: &mut State,
-    entries: &mut Roomed<Entry>,
+    entries: &mut History,
     keeper: &mut K,
     e: EngineNo,
     prepared: &Prepared,

@@ -7,8 +7,9 @@ ghost use Rattle.book.specs.Makings.{DoesSo};
 ghost use Rattle.book.specs.Quiet.{page};
 ghost use Rattle.book.specs.WorkableOver.{IsWorkable};
 
+use crate::history::History;
 use crate::making::make_step;
-use core_state::{Entry, Roomed, State};
+use core_state::State;
 use heat_plan::{EngineNo, Refusal};
 use record_keeper::Keeper;
 use std::alloc::Global;
@@ -17,7 +18,7 @@ use std::alloc::Global;
 pub(crate) fn make_stop<K: Keeper>(
     alloc: Global,
     state: &mut State,
-    entries: &mut Roomed<Entry>,
+    entries: &mut History,
     keeper: &mut K,
     e: EngineNo,
 ) -> Result<(), Refusal>
@@ -35,7 +36,7 @@ pub(crate) fn make_stop<K: Keeper>(
 pub(crate) fn make_enlisting<K: Keeper>(
     alloc: Global,
     state: &mut State,
-    entries: &mut Roomed<Entry>,
+    entries: &mut History,
     keeper: &mut K,
 ) -> Result<EngineNo, Refusal>
     requires workable { IsWorkable state.old.state }

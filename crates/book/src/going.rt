@@ -14,10 +14,11 @@ ghost use Rattle.book.specs.WorkableOver.{IsWorkable, IsWorkableOver};
 
 use crate::answers::poll_answered;
 use crate::called::called_row;
+use crate::history::History;
 use crate::making::{make_answered, make_room};
 use crate::requests::look;
 use crate::turning::Turn;
-use core_state::{Entry, Made, Roomed, State};
+use core_state::{Made, State};
 use heat_plan::{Answered, EngineNo, Refusal, Token};
 use provider::{Gone, Provider};
 use record_keeper::Keeper;
@@ -37,7 +38,7 @@ pub(crate) struct GoneOutcomes {
 pub(crate) fn look_for<K: Keeper, P: Provider>(
     alloc: Global,
     state: &mut State,
-    entries: &mut Roomed<Entry>,
+    entries: &mut History,
     keeper: &mut K,
     cloud: &mut P,
     e: EngineNo,
@@ -62,7 +63,7 @@ pub(crate) fn look_for<K: Keeper, P: Provider>(
 fn prepare<K: Keeper>(
     alloc: Global,
     state: &mut State,
-    entries: &mut Roomed<Entry>,
+    entries: &mut History,
     keeper: &mut K,
     e: EngineNo,
 ) -> Result<GoneOutcomes, Refusal>
@@ -103,7 +104,7 @@ fn outcomes_of(alloc: Global, state: &State, e: EngineNo) -> Result<GoneOutcomes
 // Asks, and makes the step that was prepared for the answer.
 fn look_prepared<K: Keeper, P: Provider>(
     state: &mut State,
-    entries: &mut Roomed<Entry>,
+    entries: &mut History,
     keeper: &mut K,
     cloud: &mut P,
     e: EngineNo,

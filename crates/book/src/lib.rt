@@ -16,6 +16,7 @@ mod compacting;
 mod engines;
 mod going;
 mod halting;
+mod history;
 mod making;
 mod opening;
 mod poll;

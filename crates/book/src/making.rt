@@ -12,8 +12,9 @@ ghost use Rattle.book.specs.Keeping.{HasRoom, IsReady, IsStorable, Keeps};
 ghost use Rattle.book.specs.Makings.{Answers, MakesAs};
 ghost use Rattle.book.specs.Quiet.{page};
 
+use crate::history::History;
 use crate::turning::Turn;
-use core_state::{Batch, Entry, Made, Ready, Roomed, State};
+use core_state::{Batch, Entry, Made, Ready, State};
 use heat_plan::Refusal;
 use record_keeper::{KeepFailed, Keeper};
 use std::alloc::AllocError;
@@ -21,7 +22,7 @@ use std::alloc::AllocError;
 /// Makes room for a step's changes and entries, here and with the keeper.
 pub(crate) fn make_room<K: Keeper>(
     state: &mut State,
-    entries: &mut Roomed<Entry>,
+    entries: &mut History,
     keeper: &mut K,
     made: &Made,
 ) -> Result<(), AllocError>
@@ -62,7 +63,7 @@ pub(crate) fn keep<K: Keeper>(keeper: &mut K, changes: &[Ready]) -> Result<(), K
 }
 
 /// Makes a step's changes and tells its entries, within the room.
-pub(crate) fn write(state: &mut State, entries: &mut Roomed<Entry>, made: Made)
+pub(crate) fn write(state: &mut State, entries: &mut History, made: Made)
     requires room { length made.changes ≤ state.old.spare }
     requires pages { length made.entries ≤ entries.old.spare }
     ensures state { state.new.state ≡ applied made.changes state.old.state }
@@ -77,7 +78,7 @@ pub(crate) fn write(state: &mut State, entries: &mut Roomed<Entry>, made: Made)
 /// Makes a step that was thought out, or hands its refusal on; then all stays as it was.
 pub(crate) fn make_step<K: Keeper>(
     state: &mut State,
-    entries: &mut Roomed<Entry>,
+    entries: &mut History,
     keeper: &mut K,
     made: Result<Made, Refusal>,
 ) -> Result<(), Refusal>
@@ -105,7 +106,7 @@ pub(crate) fn make_step<K: Keeper>(
 /// Makes the step of an answer, within the room. Where the keeper fails, the call alone is told.
 pub(crate) fn make_answered<K: Keeper>(
     state: &mut State,
-    entries: &mut Roomed<Entry>,
+    entries: &mut History,
     keeper: &mut K,
     made: Made,
 ) -> Turn
@@ -126,7 +127,7 @@ pub(crate) fn make_answered<K: Keeper>(
 }
 
 // Tells the first of these entries, within the room.
-fn tell_first(entries: &mut Roomed<Entry>, told: Batch<Entry>)
+fn tell_first(entries: &mut History, told: Batch<Entry>)
     requires room { 0 < entries.old.spare }
     requires some { told ≢ [] }
     ensures { entries.new.items ≡ entries.old.items ++ take 1 told }

@@ -11,6 +11,7 @@ ghost use Rattle.book.specs.Starting.{IsStart, Opens, Renews, Starts, WhyUnstart
 use crate::admitting::admit;
 use crate::book::Book;
 use crate::compacting::{Uncompacted, shorten};
+use crate::history::History;
 use crate::making::keep;
 use crate::restarting::{Unrestarted, unread};
 use core_state::{Made, State};
@@ -57,11 +58,12 @@ pub(crate) fn unopened<K: Keeper, P: Provider>(
     }
 }
 
-/// The state at an opening, and its copy, which steps change.
+/// The state at an opening, and its copy, which steps change; and no entry, with room for Closed.
 #[derive(Drop)]
 pub(crate) struct Start {
     pub opening: State,
     pub state: State,
+    pub entries: History,
 }
 
 /// Opens keeper and cloud, with so many engines. The cloud is asked for its list, once.
@@ -163,7 +165,7 @@ fn renew<K: Keeper>(keeper: &mut K, image: &State) -> Result<(), Unrestarted>
     Ok(())
 }
 
-// An image with so many engines in place of its own, and a copy of it.
+// An image with so many engines in place of its own, and a copy of it, behind which nothing was told.
 fn start_of(alloc: Global, image: State, workers: u8) -> Result<Start, Unrestarted>
     requires some { 1 ≤ workers }
     requires few { workers ≤ engine_limit }
@@ -176,5 +178,10 @@ fn start_of(alloc: Global, image: State, workers: u8) -> Result<Start, Unrestart
     opening.reserve(made.changes.len())?;
     opening.apply_all(made.changes);
     let state = opening.copy()?;
-    Ok(Start { opening, state })
+    let entries = History::new(alloc)?;
+    Ok(Start {
+        opening,
+        state,
+        entries,
+    })
 }

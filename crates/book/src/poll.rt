@@ -21,10 +21,11 @@ ghost use Rattle.book.specs.WorkableOver.{IsWorkable, IsWorkableOver};
 use crate::answers::poll_answered;
 use crate::called::{called_row, is_sent_away};
 use crate::going::look_for;
+use crate::history::History;
 use crate::making::{make_answered, make_room};
 use crate::requests::poll;
 use crate::turning::Turn;
-use core_state::{Actor, Entry, Made, Roomed, State, What};
+use core_state::{Actor, Entry, Made, State, What};
 use heat_plan::{Answered, EngineNo, Refusal, Request, Token};
 use provider::{Poll, Provider};
 use record_keeper::Keeper;
@@ -44,7 +45,7 @@ pub(crate) struct PollOutcomes {
 pub(crate) fn poll_for<K: Keeper, P: Provider>(
     alloc: Global,
     state: &mut State,
-    entries: &mut Roomed<Entry>,
+    entries: &mut History,
     keeper: &mut K,
     cloud: &mut P,
     e: EngineNo,
@@ -71,7 +72,7 @@ pub(crate) fn poll_for<K: Keeper, P: Provider>(
 fn prepare<K: Keeper>(
     alloc: Global,
     state: &mut State,
-    entries: &mut Roomed<Entry>,
+    entries: &mut History,
     keeper: &mut K,
     e: EngineNo,
 ) -> Result<PollOutcomes, Refusal>
@@ -109,7 +110,7 @@ fn outcomes_of(alloc: Global, state: &State, e: EngineNo) -> Result<PollOutcomes
 fn poll_prepared<K: Keeper, P: Provider>(
     alloc: Global,
     state: &mut State,
-    entries: &mut Roomed<Entry>,
+    entries: &mut History,
     keeper: &mut K,
     cloud: &mut P,
     e: EngineNo,
@@ -145,7 +146,7 @@ fn poll_prepared<K: Keeper, P: Provider>(
 fn learn<K: Keeper>(
     alloc: Global,
     state: &mut State,
-    entries: &mut Roomed<Entry>,
+    entries: &mut History,
     keeper: &mut K,
     e: EngineNo,
     token: Token,
@@ -184,7 +185,7 @@ fn learn<K: Keeper>(
 fn learned<K: Keeper>(
     alloc: Global,
     state: &mut State,
-    entries: &mut Roomed<Entry>,
+    entries: &mut History,
     keeper: &mut K,
     e: EngineNo,
     answer: &Answered,

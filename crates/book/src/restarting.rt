@@ -9,8 +9,9 @@ ghost use Rattle.book.specs.WorkableOver.{IsWorkable};
 
 use crate::admitting::admit;
 use crate::halting::Halt;
+use crate::history::History;
 use crate::making::make_step;
-use core_state::{Entry, Roomed, State};
+use core_state::State;
 use heat_plan::{Refusal, Token};
 use opening_check::Finding;
 use provider::Provider;
@@ -49,7 +50,7 @@ impl From<AllocError> for Unrestarted {
 pub(crate) fn restart_with<K: Keeper, P: Provider>(
     alloc: Global,
     state: &mut State,
-    entries: &mut Roomed<Entry>,
+    entries: &mut History,
     keeper: &mut K,
     cloud: &mut P,
     workers: u8,

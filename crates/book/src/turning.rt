@@ -10,10 +10,11 @@ ghost use Rattle.book.specs.WorkableOver.{IsWorkableOver};
 
 use crate::ask::ask_for;
 use crate::beginning::begin_job;
+use crate::history::History;
 use crate::making::make_step;
 use crate::poll::poll_for;
 use check_steps::{finish, take};
-use core_state::{Entry, Made, Roomed, Stage, State};
+use core_state::{Made, Stage, State};
 use heat_plan::{EngineNo, Refusal};
 use provider::Provider;
 use record_keeper::Keeper;
@@ -40,7 +41,7 @@ pub(crate) fn turn_of<K: Keeper, P: Provider>(
     alloc: Global,
     registry: &Registry,
     state: &mut State,
-    entries: &mut Roomed<Entry>,
+    entries: &mut History,
     keeper: &mut K,
     cloud: &mut P,
     e: EngineNo,
@@ -82,7 +83,7 @@ pub(crate) fn turn_of<K: Keeper, P: Provider>(
 /// Makes a step that asks nobody.
 pub(crate) fn make_quietly<K: Keeper>(
     state: &mut State,
-    entries: &mut Roomed<Entry>,
+    entries: &mut History,
     keeper: &mut K,
     made: Result<Made, Refusal>,
 ) -> Turn

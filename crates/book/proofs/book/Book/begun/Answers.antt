@@ -13,14 +13,14 @@ invariant_of-result g c =
       kept_at_first b.image b.count _ _ _
           (subst (λ (x : Cloud). IsOpenedFrom b.image _ x b.count) (ap g.P.Provider.cloud (sym c.of-cloud_then.ensures))
           b.opened)
-          b.copied c.new.ensures (ap g.P.Provider.cloud c.of-cloud_then.ensures),
+          b.copied b.silent (ap g.P.Provider.cloud c.of-cloud_then.ensures),
       (
         held_at_first _ _ _ _ _ (ap g.K.Keeper.shown c.of-keeper_then.ensures)
             (ap g.K.Keeper.faults c.of-keeper_then.ensures) b.ready,
         (
           tt,
           left_at_first _ _ _ _ _ (g.met.K.Keeper.lawful _) _ _ _ (ap g.K.Keeper.shown c.of-keeper_then.ensures) b.copied
-              c.new.ensures b.ready,
+              b.silent b.ready,
         ),
       ),
     )

@@ -22,10 +22,10 @@ invariant_of-self-2 g c =
         (
           c.self.invariant.1.1.0,
           left_again _ _ _ _ _ _ _ _ none
-              (left_noted _ _ _ _ _ _ (g.met.K.Keeper.lawful _) _ _ _ _ c.args.what c.requires refl
+              (left_noted _ _ _ _ _ _ (g.met.K.Keeper.lawful _) _ _ _ refl
               ((held_unhalted _ _ _ _ _ _ none c.self.invariant.1.0).stands (λ is. cc))
               (kept_unhalted _ _ _ _ _ _ none c.self.invariant.0)
-              (left_unhalted _ _ _ _ _ _ _ _ none c.self.invariant.1.1.1)
+              (left_unhalted _ _ _ _ _ _ _ _ none c.self.invariant.1.1.1) _ c.args.what c.requires
               (c.push.ensures.items ∙ ap (λ (h : List Entry). h ++ record {
                 by = Main;
                 what = c.args.what;
