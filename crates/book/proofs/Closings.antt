@@ -1,17 +1,45 @@
 -- Whether the input was closed, as a history goes on.
-use Rattle.std.proofs.Common.{List, [], ap, inl, inr, sym, ◌++◌, ◌∙◌, ◌∷◌, ◌≡◌, ◌⊎◌}
-use Rattle.std.proofs.lemmas.List.Elements.{Contains-append_cases, Contains-append_left}
-use Rattle.std.specs.Prelude.{◌↔◌}
+use Rattle.std.proofs.Common.{List, [], ap, false, inl, inr, refl, sym, true, ◌++◌, ◌∙◌, ◌∷◌, ◌≡◌, ◌⊎◌}
+use Rattle.std.proofs.lemmas.List.Elements.{Contains-append_cases, Contains-append_left, Contains-append_right}
+use Rattle.std.specs.Prelude.{Bool, IsTrue, ◌↔◌}
 use Rattle.core_state.specs.declared.entry.Entry.{Entry}
 use Rattle.core_state.specs.declared.entry.What.TheVariants as what
-use Rattle.next_laws.proofs.Listings.{cons_cases, no_member}
+use Rattle.next_laws.proofs.Listings.{cons_cases, in_head, no_member}
 use Rattle.step_relation.specs.Runs.{IsClosed}
 
-closed_behind : (h : List Entry) (e : Entry) → IsClosed (h ++ e ∷ []) → IsClosed h ⊎ (e.what ≡ what.Closed)
-closed_behind h e it = elim (Contains-append_cases h (e ∷ []) it.entry it.among) [
-  | inl there ↦ inl (record { entry = it.entry; among = there; closes = it.closes })
-  | inr last ↦ elim (cons_cases [] e it.entry last) [
-    | inl is ↦ inr (ap (λ (x : Entry). x.what) (sym is) ∙ it.closes)
-    | inr none ↦ absurd (no_member it.entry none)
+module _ (h : List Entry) (e : Entry) where
+  behind : IsClosed (h ++ e ∷ []) → IsClosed h ⊎ (e.what ≡ what.Closed)
+  behind it = elim (Contains-append_cases h (e ∷ []) it.entry it.among) [
+    | inl there ↦ inl (record { entry = it.entry; among = there; closes = it.closes })
+    | inr last ↦ elim (cons_cases [] e it.entry last) [
+      | inl is ↦ inr (ap (λ (x : Entry). x.what) (sym is) ∙ it.closes)
+      | inr none ↦ absurd (no_member it.entry none)
+    ]
   ]
-]
+
+  still : IsClosed h → IsClosed (h ++ e ∷ [])
+  still it = record {
+    entry = it.entry;
+    among = Contains-append_left h (e ∷ []) it.among;
+    closes = it.closes;
+  }
+
+  pub now_closed : e.what ≡ what.Closed → IsClosed (h ++ e ∷ [])
+  now_closed is = record { entry = e; among = Contains-append_right h (e ∷ []) (in_head [] e); closes = is }
+
+  -- it is once an entry says so
+  pub closed_pushed : (was closes now : Bool) → (IsTrue was ↔ IsClosed h) → (IsTrue closes ↔ (e.what ≡ what.Closed))
+      → (was ≡ true → now ≡ true) → (was ≡ false → now ≡ closes) → IsTrue now ↔ IsClosed (h ++ e ∷ [])
+  closed_pushed true closes true it says first second = (λ yes_. still (it.0 yes_), λ closed_. refl)
+  closed_pushed true closes false it says first second = let no_ = first refl in cc
+  closed_pushed false true true it says first second = (λ yes_. now_closed (says.0 refl), λ closed_. refl)
+  closed_pushed false true false it says first second = let no_ = second refl in cc
+  closed_pushed false false true it says first second = let no_ = second refl in cc
+  closed_pushed false false false it says first second = (
+    λ yes_. cc,
+    λ closed_. elim (behind closed_) [ inl there ↦ it.1 there | inr last ↦ says.1 last ],
+  )
+
+-- nothing was told
+pub never_closed : ¬ IsClosed []
+never_closed it = no_member it.entry it.among

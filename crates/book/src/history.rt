@@ -71,7 +71,8 @@ impl History {
         ensures items { self.new.items ≡ self.old.items ++ entry ∷ [] }
         ensures room { self.old.spare ≤ self.new.spare + 1 }
     {
-        self.closed = self.closed || is_closing(&entry);
+        let closes = is_closing(&entry);
+        self.closed = self.closed || closes;
         self.entries.push(entry);
     }
 
