@@ -30,3 +30,6 @@ pub mod Crashed
 pub mod Crashing
 pub mod Learned
 pub mod Closings
+pub mod Shortened
+pub mod Rehalted
+pub mod HandedBack

@@ -1,7 +1,5 @@
 //! What a book opens with.
 ghost use Rattle.std.specs.Prelude.{◌≡◌, ◌<◌, ◌≤◌, ◌+◌, ◌^◌, ◌⊎◌, ℕ, IfErr, IfOk};
-ghost use Rattle.heat_plan.specs.declared.token.Token.{Token as token_type};
-ghost use Rattle.opening_check.specs.declared.finding.Finding.{Finding as finding_type};
 ghost use Rattle.step_relation.specs.Images.{HasKeepableRows, IsMade};
 ghost use Rattle.step_relation.specs.Steps.{engine_limit, restart_changes};
 ghost use Rattle.record_keeper.specs.Shown.{StandsFor};
@@ -32,30 +30,6 @@ pub enum Opened<K: Keeper, P: Provider> {
     CloudFault(K, P),
     Worn(K, P),
     Memory(K, P),
-}
-
-/// No book is opened.
-pub(crate) fn unopened<K: Keeper, P: Provider>(
-    why: Unrestarted,
-    keeper: K,
-    cloud: P,
-) -> Opened<K, P>
-    ensures foreign { why ≡ Unrestarted.Foreign → result ≡ Opened.Foreign keeper cloud }
-    ensures disagree { (token : token_type) (finding : finding_type)
-        → why ≡ Unrestarted.Disagree token finding → result ≡ Opened.Disagree keeper cloud token finding }
-    ensures disk_fault { why ≡ Unrestarted.DiskFault → result ≡ Opened.DiskFault keeper cloud }
-    ensures cloud_fault { why ≡ Unrestarted.CloudFault → result ≡ Opened.CloudFault keeper cloud }
-    ensures worn { why ≡ Unrestarted.Worn → result ≡ Opened.Worn keeper cloud }
-    ensures memory { why ≡ Unrestarted.Memory → result ≡ Opened.Memory keeper cloud }
-{
-    match why {
-        Unrestarted::Foreign => Opened::Foreign(keeper, cloud),
-        Unrestarted::Disagree(token, finding) => Opened::Disagree(keeper, cloud, token, finding),
-        Unrestarted::DiskFault => Opened::DiskFault(keeper, cloud),
-        Unrestarted::CloudFault => Opened::CloudFault(keeper, cloud),
-        Unrestarted::Worn => Opened::Worn(keeper, cloud),
-        Unrestarted::Memory => Opened::Memory(keeper, cloud),
-    }
 }
 
 /// The state at an opening, and its copy, which steps change; and no entry, with room for Closed.
