@@ -1,6 +1,6 @@
--- A start is one of so many engines.
+-- What the opening came to, with keeper and cloud as they are handed on.
+use Rattle.book.proofs.HandedBack.{begins_with, opened_book, unopened_as}
 use Rattle.book.proofs.book.Book.recover.Goals as goal
 
-pub returns-in-Ok-clause-book : goal.returns-in-Ok-clause-book
-returns-in-Ok-clause-book g c b is =
-    c.over.ensures.book b c.args.workers is (record { opening = c.in-Ok.ensures.opening; state = c.in-Ok.ensures.state })
+pub begun-requires : goal.begun-requires
+begun-requires g c = begins_with _ _ _ _ _ c.in-Ok.start c.in-Ok.ensures.started
