@@ -1,5 +1,5 @@
 -- What an opening answers, once keeper and cloud are handed on.
-use Rattle.std.proofs.Common.{refl, subst, sym, ℕ, ◌≡◌}
+use Rattle.std.proofs.Common.{refl, subst, sym, ℕ, ◌∙◌, ◌≡◌}
 use Rattle.std.specs.Prelude.{Err}
 use Rattle.provider.specs.Cloud.{Cloud}
 use Rattle.core_state.specs.State.{StateData}
@@ -24,12 +24,12 @@ begins_with may_open count k c d start it = record {
 
 module _ {K P : Type 0} (shown : K → ShownKeeper) (faults_of : K → ℕ) (cloud_of : P → Cloud)
     (may_open : StateData → Type 0) (count : ℕ) (keeper l : K) (cloud q : P) where
-  pub opened_book : (start : Start) (b : Shown K P) → first_book start l q ≡ b
+  pub opened_book : (start : Start) (x b : Shown K P) → x ≡ first_book start l q → x ≡ b
       → HasStarted may_open count (shown l) (cloud_of cloud) (cloud_of q) start
       → OpensKeeper may_open count (shown keeper) (shown l) (faults_of keeper) (faults_of l)
       → HasOpened may_open shown faults_of cloud_of count keeper cloud b
-  opened_book start b is it went =
-      subst (λ (x : Shown K P). HasOpened may_open shown faults_of cloud_of count keeper cloud x) is (record {
+  opened_book start x b first is it went =
+      subst (λ (y : Shown K P). HasOpened may_open shown faults_of cloud_of count keeper cloud y) (sym first ∙ is) (record {
         found = it.found;
         opened = it.opened;
         went = went;

@@ -36,7 +36,7 @@ invariant_of-self g c =
 
 pub returns-clause-compacted : goal.returns-clause-compacted
 returns-clause-compacted g c = rw (← c.self.view_is)
-    (λ none. compacted {g.row.K.Denot} {g.row.P.Denot} _ _ _ _ _ _ c.halt_compacting.ensures none c.shorten-done.ensures)
+    (λ none. compacted {K = g.row.K.Denot} {P = g.row.P.Denot} _ _ _ _ _ _ c.halt_compacting.ensures none c.shorten-done.ensures)
 
 pub returns-clause-leaves : goal.returns-clause-leaves
 returns-clause-leaves g c = rw (← c.self.view_is) (λ none tells. c.shorten-done.ensures.leaves tells)

@@ -22,7 +22,7 @@ invariant_of-self g c =
     )
 
 pub returns-then-is_none : goal.returns-then-is_none
-returns-then-is_none g c = rw (← c.self.view_is) (halted_as {g.row.K.Denot} {g.row.P.Denot} _ _ _
+returns-then-is_none g c = rw (← c.self.view_is) (halted_as {K = g.row.K.Denot} {P = g.row.P.Denot} _ _ _
     (first_made c.self.inside.halt c.args.why (c.is_none.ensures ∙ ap not c.if-is_none.true)))
 
 pub returns-else-is_none : goal.returns-else-is_none

@@ -25,8 +25,8 @@ returns-clause-made g c = rw (← c.self.view_is) (book_written _ _ _ _ _ _ c.se
 
 pub returns-clause-headline : goal.returns-clause-headline
 returns-clause-headline g c = rw (← c.self.view_is)
-    (λ sound. headline_of {g.row.K.Denot} g.P.Provider.cloud _ c.self.invariant.0 sound)
+    (λ sound. headline_of {K = g.row.K.Denot} g.P.Provider.cloud _ c.self.invariant.0 sound)
 
 pub returns-clause-sound : goal.returns-clause-sound
 returns-clause-sound g c = rw (← c.self.view_is)
-    (λ sound. sound_book {g.row.K.Denot} g.P.Provider.cloud _ c.self.invariant.0 sound)
+    (λ sound. sound_book {K = g.row.K.Denot} g.P.Provider.cloud _ c.self.invariant.0 sound)
