@@ -2,16 +2,24 @@
 use Rattle.std.proofs.Common.{ap, arith, false, inl, inr, not, refl, subst, sym, true, ◌∙◌, ◌≡◌, ◌⊎◌, ℕ}
 use Rattle.std.specs.Prelude.{Bool, Err, IfErr, IsTrue, Ok, Option, Result, Some, ◌+◌, ◌<◌, ◌^◌, ◌≤◌}
 use Rattle.heat_value.specs.Counts.{Rose}
+use Rattle.heat_plan.specs.declared.refusal.Refusal.{Refusal}
+use Rattle.heat_plan.specs.declared.refusal.Refusal.TheVariants as refusal
 use Rattle.core_state.specs.State.{StateData}
+use Rattle.core_state.specs.declared.made.Made.{Made}
 use Rattle.record_keeper.proofs.Moments.{LeavesOnly-then, LeavesOnly-weaker}
 use Rattle.record_keeper.specs.Calls.{GoesOn, IsLeftOf}
 use Rattle.record_keeper.specs.Laws.{IsLawful}
 use Rattle.record_keeper.specs.Shown.{Left, LeavesOnly, SameKeeper, ShownKeeper, StandsFor, at_rest}
+use Rattle.takeover_steps.specs.Engines.{RefusesRestart}
+use Rattle.takeover_steps.specs.Engines as engines
+use Rattle.book.specs.Compactions.{Shortens}
 use Rattle.book.specs.Keeping.{IsReady, Keeps}
 use Rattle.book.specs.Openings.{IsLeftOfStart}
 use Rattle.book.specs.Openings as openings
 use Rattle.book.specs.Starting.{IsStart, Renews, Starts, WhyUnstarted, restarted_at}
 use Rattle.book.specs.Starting as starting
+use Rattle.book.specs.declared.compacting.Uncompacted.TheVariants as uncompacted
+use Rattle.book.specs.declared.compacting.Uncompacted.{Uncompacted}
 use Rattle.book.specs.declared.opening.Start.{Start}
 use Rattle.book.specs.declared.restarting.Unrestarted.TheVariants as unrestarted
 use Rattle.book.specs.declared.restarting.Unrestarted.{Unrestarted}
@@ -47,6 +55,51 @@ renews_still k may_open lawful s n now it young = record {
   ready = λ f. record { stands = it; young = young };
   why = tt;
 }
+
+-- behind a compaction
+module _ (k l : ShownKeeper) (s : StateData) (n first now : ℕ) (r : Result (Unit {0}) Uncompacted)
+    (it : Shortens s k l first now r) where
+  pub renews_fault : r ≡ Err uncompacted.DiskFault → Renews s n k l first now (Err unrestarted.DiskFault)
+  renews_fault is = record {
+    leaves = it.leaves;
+    goes_on = it.goes_on;
+    ready = λ f. cc;
+    why = starting.fault (it.rose is) refl;
+  }
+
+  pub renews_lacking : r ≡ Err uncompacted.Memory → Renews s n k l first now (Err unrestarted.Memory)
+  renews_lacking is = record {
+    leaves = it.leaves;
+    goes_on = it.goes_on;
+    ready = λ f. cc;
+    why = starting.memory refl;
+  }
+
+  pub renews_old : l.is_old ≡ true → Renews s n k l first now (Err unrestarted.Worn)
+  renews_old old = record {
+    leaves = it.leaves;
+    goes_on = it.goes_on;
+    ready = λ f. cc;
+    why = starting.worn (inr old) refl;
+  }
+
+  pub renews_young : r ≡ Ok tt → l.is_old ≡ false → Renews s n k l first now (Ok tt)
+  renews_young is young = record {
+    leaves = it.leaves;
+    goes_on = it.goes_on;
+    ready = λ f. record { stands = it.stands (λ e. let both = sym is ∙ e in cc); young = young };
+    why = tt;
+  }
+
+-- no numbers are left
+pub restart_worn : (s : StateData) (count : ℕ) (made : Result Made Refusal)
+    → IfErr made (λ r. (r ≡ refusal.Memory) ⊎ RefusesRestart s count r) → made ≡ Err refusal.Worn
+    → 2 ^ 62 < s.next.engine + count
+restart_worn s count made err is =
+    by (subst (λ (x : Result Made Refusal). IfErr x (λ r. (r ≡ refusal.Memory) ⊎ RefusesRestart s count r)) is err) where
+  by : (refusal.Worn ≡ refusal.Memory) ⊎ RefusesRestart s count refusal.Worn → 2 ^ 62 < s.next.engine + count
+  by (inl no_) = cc
+  by (inr (engines.worn over)) = over
 
 module _ (image : StateData) (count : ℕ) where
   abbrev pub Cause : Unrestarted → Type 0

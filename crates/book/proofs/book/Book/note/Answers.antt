@@ -42,10 +42,10 @@ pub returns-in_err-reserve-clause-records : goal.returns-in_err-reserve-clause-r
 returns-in_err-reserve-clause-records g c = rw (← c.self.view_is) (λ none. recorded_still _ _ _ _
     c.self.invariant.0.agrees _ (g.met.K.Keeper.lawful _)
     ((held_unhalted _ _ _ _ _ _ (sym c.is_some.ensures ∙ c.if-is_some.false) c.self.invariant.1.0).stands (λ is. cc))
-    refl)
+    (rw c.reserve.ensures.same refl))
 
 pub returns-clause-records : goal.returns-clause-records
 returns-clause-records g c = rw (← c.self.view_is) (λ none. recorded_note _ _ _ _
     c.self.invariant.0.agrees _ (g.met.K.Keeper.lawful _)
     ((held_unhalted _ _ _ _ _ _ (sym c.is_some.ensures ∙ c.if-is_some.false) c.self.invariant.1.0).stands (λ is. cc))
-    c.args.what c.requires refl)
+    c.args.what c.requires (rw (c.push.ensures.items, c.reserve.ensures.same) refl))
