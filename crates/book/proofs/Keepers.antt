@@ -1,5 +1,6 @@
 -- What a keeper shows between the calls of a step.
 use Rattle.std.proofs.Common.{arith, inl, inr, refl, subst, sym, ◌∙◌, ◌≡◌}
+use Rattle.std.proofs.lemmas.Bool.Decides.{Decides-eqb}
 use Rattle.std.specs.Prelude.{Bool, Err, IsTrue, List, Option, Some, [], length, nat_eq, true, ℕ, ◌∷◌, ◌≤◌}
 use Rattle.heat_value.specs.Counts.{Rose}
 use Rattle.core_state.specs.Changes.{applied}
@@ -153,7 +154,7 @@ module _ (old new : ShownKeeper) (s : StateData) (cs : List Change) (ready : IsR
 -- a list of no elements
 pub empty_by : {A : Type 0} (xs : List A) {b : Bool} → b ≡ nat_eq (length xs) 0 → b ≡ true → xs ≡ []
 empty_by [] is yes_ = refl
-empty_by (x ∷ xs) is yes_ = let both = sym is ∙ yes_ in cc
+empty_by (x ∷ xs) is yes_ = let same = (Decides-eqb (length (x ∷ xs)) 0).0 (sym is ∙ yes_) in absurd (omega (arith, same))
 
 -- where nothing was written, and a crash leaves the state at rest
 pub rests_same : (old new : ShownKeeper) (may_open : StateData → Type 0) → IsLawful may_open old → SameKeeper old new
