@@ -1,6 +1,7 @@
 -- A restart: what it makes of a book, and what it leaves with the keeper.
 use Rattle.std.proofs.Common.{List, [], ap, arith, inl, inr, refl, subst, sym, ◌++◌, ◌∙◌, ◌∷◌, ◌≡◌, ◌⊎◌, ℕ}
-use Rattle.std.specs.Prelude.{Bool, Err, IfErr, IfOk, IsTrue, Ok, Option, Result, Some, ◌+◌, ◌<◌, ◌^◌, ◌≢◌, ◌≤◌}
+use Rattle.std.proofs.lemmas.Result.{IfOk-weaker}
+use Rattle.std.specs.Prelude.{Err, IfErr, IfOk, IsTrue, Ok, Option, Result, Some, ◌≢◌}
 use Rattle.heat_value.specs.Counts.{Rose}
 use Rattle.heat_plan.specs.declared.refusal.Refusal.{Refusal}
 use Rattle.heat_plan.specs.declared.refusal.Refusal.TheVariants as refusal
@@ -13,7 +14,7 @@ use Rattle.core_state.specs.declared.change.Change.{Change}
 use Rattle.core_state.specs.declared.entry.Entry.{Entry}
 use Rattle.core_state.specs.declared.made.Made.{Made}
 use Rattle.step_relation.specs.Laws.{opening_at}
-use Rattle.step_relation.specs.Steps.{engine_limit, restart_changes}
+use Rattle.step_relation.specs.Steps.{Step}
 use Rattle.record_keeper.proofs.Moments.{LeavesOnly-then, LeavesOnly-weaker}
 use Rattle.record_keeper.specs.Calls.{ComesOf, GoesOn, IsLeftOf, IsUnfit, StaysAsItIs, StemsFrom}
 use Rattle.record_keeper.specs.Calls.{before, same, settles, turns, unknown}
@@ -23,7 +24,9 @@ use Rattle.record_keeper.specs.declared.open_fault.OpenFault.{OpenFault}
 use Rattle.record_keeper.specs.declared.open_fault.OpenFault.TheVariants as open_fault
 use Rattle.takeover_steps.specs.Engines.{RefusesRestart, Restarts as MakesRestart}
 use Rattle.takeover_steps.specs.Engines as engines
-use Rattle.book.specs.Keeping.{IsReady, Keeps, KeptBy}
+use Rattle.workable_laws.proofs.Applied.{steps_apply}
+use Rattle.workable_laws.proofs.Keepable.{steps_are_keepable}
+use Rattle.book.specs.Keeping.{IsReady, IsStorable, Keeps, KeptBy}
 use Rattle.book.specs.Makings.{MadeAs, MakesAs, tried_as}
 use Rattle.book.specs.Makings as made_as
 use Rattle.workable_laws.specs.Admitted.{FindsNothing}
@@ -34,6 +37,7 @@ use Rattle.book.specs.Restarts.{RestartBreaks, RestartDoes, RestartsAs, Rereads,
 use Rattle.book.specs.Restarts.{restart_entry, restarted_for, unread_for}
 use Rattle.book.specs.Restarts as restarts
 use Rattle.book.specs.Scenes.{scene}
+use Rattle.book.specs.WorkableOver.{IsWorkable}
 use Rattle.book.specs.declared.restarting.Unrestarted.TheVariants as why
 use Rattle.book.specs.declared.restarting.Unrestarted.{Unrestarted}
 use Rattle.book.proofs.Growing.{unasked}
@@ -288,3 +292,23 @@ read_as {A} r v w is same_ = subst (λ (x : OpenFault). r ≡ Err x) same_ is
 
 pub fault_one : {A : Type 0} (r : Result A OpenFault) (v w : OpenFault) → r ≡ Err v → r ≡ Err w → v ≡ w
 fault_one r v w a b = let both = sym a ∙ b in cc
+
+-- a step may be kept and made
+pub steps_storable : (s : StateData) → IsWorkable s → (made : Result Made Refusal)
+    → IfOk made (λ m. Step s m.changes m.entries) → IfOk made (λ m. IsStorable s m.changes)
+steps_storable s x made ok = IfOk-weaker made _ _ (λ m it. record {
+  applies = steps_apply x.opening x.history s m.changes m.entries x.workable it;
+  keepable = steps_are_keepable x.opening x.history s m.changes m.entries x.workable it;
+}) ok
+
+-- a restart isn't refused for a fault of the keeper
+no_fault : (s : StateData) (count : ℕ) → ¬ RefusesRestart s count refusal.DiskFault
+no_fault s count k = elim k [ ]
+
+pub restart_honest : (s : StateData) (count : ℕ) (made : Result Made Refusal)
+    → IfErr made (λ x. (x ≡ refusal.Memory) ⊎ RefusesRestart s count x) → made ≢ Err refusal.DiskFault
+restart_honest s count made err is =
+    by (subst (λ (x : Result Made Refusal). IfErr x (λ r. (r ≡ refusal.Memory) ⊎ RefusesRestart s count r)) is err) where
+  by : ¬ ((refusal.DiskFault ≡ refusal.Memory) ⊎ RefusesRestart s count refusal.DiskFault)
+  by (inl no_) = cc
+  by (inr yes_) = no_fault s count yes_
