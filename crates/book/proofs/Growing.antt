@@ -126,16 +126,17 @@ module _ (first : StateData) (origin : Cloud) where
       → i ≡ h ++ entry_of Main it ∷ [] → IsKept first origin s i c None
   kept_noted s h i c it noted kept is_i =
       grows_silently s s h i (entry_of Main it ∷ []) [] c c None kept (note it noted refl refl) tt tt
-      (silent_uncalling _ (silent_note it noted, tt)) (calls_of-silent _ (silent_note it noted, tt)) refl is_i (unasked c)
+      (silent_uncalling (entry_of Main it ∷ []) (silent_note it noted, tt))
+      (calls_of-silent (entry_of Main it ∷ []) (silent_note it noted, tt)) refl is_i (unasked c)
 
   -- the input is closed, or was before
   pub kept_closed : (s : StateData) (h i : List Entry) (c : Cloud) → IsKept first origin s h c None → Closes h i
       → IsKept first origin s i c None
   kept_closed s h i c kept (closing.before was is_i) =
-      stays first origin s s h i c c None kept refl is_i (unasked c)
+      stays s s h i c c None kept refl is_i (unasked c)
   kept_closed s h i c kept (closing.now open_ is_i) =
-      grows_silently first origin s s h i (entry_of Main what.Closed ∷ []) [] c c None kept (close refl refl) tt open_
-      (silent_uncalling _ (tt, tt)) (calls_of-silent _ (tt, tt)) refl is_i (unasked c)
+      grows_silently s s h i (entry_of Main what.Closed ∷ []) [] c c None kept (close refl refl) tt open_ (tt, tt) refl
+      refl is_i (unasked c)
 
   -- an opened book
   pub kept_at_first : (image : StateData) (n : _) (s : StateData) (h : List Entry) (c : Cloud)

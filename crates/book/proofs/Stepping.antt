@@ -27,6 +27,12 @@ one_refusal a b is = cc
 err_same : (a b : Refusal) → a ≡ b → ◌≡◌ {A = Result Made Refusal} (Err a) (Err b)
 err_same a b is = rw is refl
 
+-- a refusal of the step isn't one for a fault of the keeper
+pub never_fault : (made : Result Made Refusal) (first : Result (Unit {0}) Refusal) (r : Refusal)
+    → made ≢ Err refusal.DiskFault → made ≡ Err r → first ≡ Err r → first ≢ Err refusal.DiskFault
+never_fault made first r honest is ends f =
+    honest (is ∙ err_same r refusal.DiskFault (one_refusal r refusal.DiskFault (sym ends ∙ f)))
+
 module _ (made : Result Made Refusal) (s : StateData) (h : List Entry) (k : ShownKeeper) (n0 : ℕ)
     (may_open : StateData → Type 0) (lawful : IsLawful may_open k) (ready : IsReady k s) where
   pub as_refused : (r : Refusal) → made ≡ Err r → made ≢ Err refusal.DiskFault

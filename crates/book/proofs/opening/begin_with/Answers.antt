@@ -1,5 +1,6 @@
 -- The engines, the compaction, the memory, and the record.
-use Rattle.std.proofs.Common.{List, inl, refl, subst, sym, ◌∙◌}
+use Rattle.std.proofs.Common.{List, inl, refl, subst, sym, ℕ, ◌∙◌}
+use Rattle.heat_value.specs.Counts.{Rose}
 use Rattle.core_state.specs.Applies.{AllApply}
 use Rattle.core_state.specs.declared.change.Change.{Change}
 use Rattle.step_relation.specs.Images.{AreKeepable}
@@ -41,7 +42,7 @@ keep-requires-clause-keepable g c = subst AreKeepable (sym (c.as_slice-2.ensures
 pub keep-requires-clause-applies : goal.keep-requires-clause-applies
 keep-requires-clause-applies g c s stands = subst (λ (cs : List Change). AllApply cs s)
     (sym (c.as_slice-2.ensures ∙ c.in-Ok.ensures.made))
-    (may_append _ _ _ _
+    (may_append _ _ _
     (same_ready _ _ c.reserve.ensures.same _ ((c.renew.ensures c.args.workers).ready c.in-Ok-2.is))
     (c.requires.storable c.args.workers) s stands)
 

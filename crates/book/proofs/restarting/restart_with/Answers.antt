@@ -3,7 +3,8 @@ use Rattle.book.proofs.Restarted.{restart_honest, restart_made, restart_unlisted
 use Rattle.book.proofs.restarting.restart_with.Goals as goal
 
 pub returns-in-Err : goal.returns-in-Err
-returns-in-Err g c = restart_unread c.args.workers _ _ _ _ _ _ _ _ c.in-Err.why c.in-Err.ensures
+returns-in-Err g c = restart_unread c.args.workers _ _ (g.P.Provider.cloud c.args.cloud.now)
+    (g.P.Provider.cloud c.args.cloud.now) _ _ _ _ c.in-Err.why c.in-Err.ensures
 
 pub returns-in-Err-2 : goal.returns-in-Err-2
 returns-in-Err-2 g c = restart_unlisted c.args.workers _ _ _ _ _ _ _ _ c.in-Err-2.why c.admit.result c.in-Ok.ensures
