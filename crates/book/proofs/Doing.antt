@@ -41,6 +41,7 @@ use Rattle.book.proofs.Engined.{AreStill, applied-live, laid_still}
 use Rattle.book.proofs.Growing.{grows_silently, stays, unasked}
 use Rattle.book.proofs.KeptTurned.{step_to}
 use Rattle.book.proofs.Silent.{AreSilent, calls_of-silent, laid_silent, silent_uncalling}
+use Rattle.book.proofs.Stepping.{never_fault}
 
 one_refusal : {A : Type 0} (a b : Refusal) → ◌≡◌ {A = Result A Refusal} (Err a) (Err b) → a ≡ b
 one_refusal a b is = cc
@@ -68,11 +69,11 @@ module _ {A : Type 0} (Is : List Change → List Entry → Type 0) (Refuses : Re
         → DoesSo Is Refuses answer (page s h) (page t i) before after faults now result
     by_refusal r is same ends kept (inl want) = let ended : result ≡ Err Memory = no_ r ends ∙ ap Err want in record {
       does = made_as.memory same ended;
-      kept = as_before kept (λ f. honest (is ∙ (sym ends ∙ f))) (λ f. let x = sym ended ∙ f in cc);
+      kept = as_before kept (never_fault made first r honest is ends) (λ f. let x = sym ended ∙ f in cc);
     }
     by_refusal r is same ends kept (inr why) = record {
       does = made_as.refused r why same (no_ r ends);
-      kept = as_before kept (λ f. honest (is ∙ (sym ends ∙ f)))
+      kept = as_before kept (never_fault made first r honest is ends)
           (λ f. honest (is ∙ ap Err (one_refusal r DiskFault (sym (no_ r ends) ∙ f))));
     }
 
@@ -172,7 +173,7 @@ module _ (first : StateData) (origin : Cloud) where
       (unasked c)
 
 -- what was told, or would have been
-pub told_to : {A : Type 0} {Is : List Change → List Entry → Type 0} {Refuses : Refusal → Type 0} {answer : A}
+abbrev pub told_to : {A : Type 0} {Is : List Change → List Entry → Type 0} {Refuses : Refusal → Type 0} {answer : A}
     {old new : Page} {result : Result A Refusal} → Does Is Refuses answer old new result → List Entry
 told_to (done cs es it writes ends) = es
 told_to (refused r why same ends) = []
@@ -361,4 +362,4 @@ same_refusal x a b h i = cc
 
 -- a number in range is one
 pub no_number : (got next : ℕ) → got ≡ next → 0 < next → next < 2 ^ 62 → ((1 ≤ got) × (got < 2 ^ 62) → ⊥) → ⊥
-no_number got next is some below none = none (omega (arith, is, some), omega (arith, is, below))
+no_number got next is some below none_ = none_ (omega (arith, is, some), omega (arith, is, below))

@@ -135,9 +135,8 @@ module _ (first : StateData) (origin : Cloud) where
   kept_closed s h i c kept (closing.before was is_i) =
       stays s s h i c c None kept refl is_i (unasked c)
   kept_closed s h i c kept (closing.now open_ is_i) =
-      grows_silently s s h i (entry_of Main what.Closed ∷ []) [] c c None kept (close refl refl) tt open_
-      (silent_uncalling (entry_of Main what.Closed ∷ []) (tt, tt))
-      (calls_of-silent (entry_of Main what.Closed ∷ []) (tt, tt)) refl is_i (unasked c)
+      grows_silently s s h i (entry_of Main what.Closed ∷ []) [] c c None kept (close refl refl) tt open_ (tt, tt) refl
+      refl is_i (unasked c)
 
   -- an opened book
   pub kept_at_first : (image : StateData) (n : _) (s : StateData) (h : List Entry) (c : Cloud)

@@ -148,8 +148,9 @@ module _ (old new : ShownKeeper) (s : StateData) (cs : List Change) (ready : IsR
   pub ready_appended : HasAppended cs old new → IsReady new (applied cs s)
   ready_appended it = record { stands = it.stands s ready.stands; young = it.young }
 
-  pub may_append : IsStorable s cs → (t : StateData) → old.stands t → AllApply cs t
-  may_append storable t stands = subst (AllApply cs) (sym (ready.stands.only t stands)) storable.applies
+pub may_append : (old : ShownKeeper) (s : StateData) (cs : List Change) → IsReady old s → IsStorable s cs
+    → (t : StateData) → old.stands t → AllApply cs t
+may_append old s cs ready storable t stands = subst (AllApply cs) (sym (ready.stands.only t stands)) storable.applies
 
 -- a list of no elements
 pub empty_by : {A : Type 0} (xs : List A) {b : Bool} → b ≡ nat_eq (length xs) 0 → b ≡ true → xs ≡ []

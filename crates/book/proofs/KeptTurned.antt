@@ -48,7 +48,7 @@ rest_silent s e given cs es rest call t is =
     rests a b xs ys h = cc
 
 -- a call that is told alone is a step
-abbrev pub alone_step : (s : StateData) (e : ℕ) (k : Requests s e) (given : Answered) (cs : List Change) (es rest : List Entry)
+abbrev alone_step : (s : StateData) (e : ℕ) (k : Requests s e) (given : Answered) (cs : List Change) (es rest : List Entry)
     → cs ≢ [] → Turn s e (Answer given) cs es → ¬ WearsOut s e (Answer given)
     → es ≡ call_entry e k.calls.row k.asked given ∷ rest → Step s [] (call_entry e k.calls.row k.asked given ∷ [])
 alone_step s e k given cs es rest some t lasts first =
@@ -91,7 +91,7 @@ pub alone_told : {result : Turn_answer} {given : Answered} → WhyAlone result g
 alone_told (lacking is size) call es = call ∷ []
 alone_told (failed is) call es = es
 
-pub told_by : {e : ℕ} {old new : Scene} {result : Turn_answer} → Turned e old new result → List Entry
+abbrev pub told_by : {e : ℕ} {old new : Scene} {result : Turn_answer} → Turned e old new result → List Entry
 told_by (turned.quiet given cs es is quiet t lasts its makes same) = es
 told_by (turned.called k given cs es rest is t lasts entries makes told) = es
 told_by {e = e} (turned.alone k given cs es rest why some t lasts entries makes told) =

@@ -32,6 +32,15 @@ use Rattle.book.proofs.Growing.{unasked}
 use Rattle.book.proofs.Held.{goes_then, rose_since}
 use Rattle.book.proofs.Images.{image_rows, restart_storable}
 
+-- of an image that was read each row may be kept, and so may a restart
+pub read_rows : (may_open : StateData → Type 0) (k : ShownKeeper) (image : StateData) → HasRead may_open k image
+    → HasKeepableRows image
+read_rows may_open k image read = image_rows image read.range read.read
+
+pub read_storable : (may_open : StateData → Type 0) (k : ShownKeeper) (image : StateData) → HasRead may_open k image
+    → (n : ℕ) → IsStorable image (restart_changes image n)
+read_storable may_open k image read n = restart_storable image read.tied.links n
+
 -- a crash inside an opening that began nothing
 went_at_once : (k0 k1 : ShownKeeper) (n0 n1 : ℕ) (may_open : StateData → Type 0) (count : ℕ) → GoesOn k0 k1 n0 n1
     → (IsTrue k0.tells → LeavesOnly k0 k1 (ComesOf k0)) → OpensKeeper may_open count k0 k1 n0 n1
@@ -45,12 +54,6 @@ module _ (may_open : StateData → Type 0) (count : ℕ) (k0 k1 : ShownKeeper) (
     (image : StateData) (read : HasRead may_open k1 image) (goes : GoesOn k0 k1 n0 n1) where
   its_image : IsImage may_open image
   its_image = record { may = read.may; read = read.read; tied = read.tied; made = read.made; range = read.range }
-
-  pub read_rows : HasKeepableRows image
-  read_rows = image_rows image read.range read.read
-
-  pub read_storable : (n : ℕ) → IsStorable image (restart_changes image n)
-  read_storable n = restart_storable image read.tied.links n
 
   ok_or_not : {A E : Type 0} (r : Result A E) (a : A) (e : E) → r ≡ Ok a → r ≡ Err e → ⊥
   ok_or_not r a e yes_ no_ = cc

@@ -31,6 +31,7 @@ use Rattle.book.specs.declared.turning.Turn.TheVariants as answer
 use Rattle.book.specs.declared.turning.Turn.{Turn as Turn_answer}
 use Rattle.book.proofs.Calling.{turn_storable}
 use Rattle.book.proofs.Growing.{unasked}
+use Rattle.book.proofs.Stepping.{never_fault}
 
 -- worn out, a fault of the keeper, or a turn that found no memory
 sorts : (r : Refusal) → (r ≡ Worn) ⊎ ((r ≡ refusal.DiskFault) ⊎ (turn_for (Err r) ≡ Memory))
@@ -157,7 +158,7 @@ module _ (made : Result Made Refusal) (s t : StateData) (h i : List Entry) (befo
       | inr (inl fault) ↦ absurd (honest (is ∙ ap Err fault))
       | inr (inr lacks) ↦ let ended : turn_for first ≡ Memory = ap turn_for ends ∙ lacks in record {
         does = made_as.unmade same ended;
-        kept = as_before kept (λ f. honest (is ∙ (sym ends ∙ f))) (λ f. let x = sym ended ∙ f in cc);
+        kept = as_before kept (never_fault made first r honest is ends) (λ f. let x = sym ended ∙ f in cc);
       }
     ]
     by (made_as.unkept m is some same ends) kept = let ended : turn_for first ≡ DiskFault = ap turn_for ends in record {

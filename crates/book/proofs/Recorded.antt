@@ -169,7 +169,7 @@ module _ {K P : Type 0} (shown : K → ShownKeeper) (cloud_of : P → Cloud) (ol
           told = entry_of Main what.Closed ∷ [];
           step = step_to old.entries old.state [] (entry_of Main what.Closed ∷ []) (close refl refl) tt open_;
           agrees = silence_allows (opening_of cloud_of old) old.entries (cloud_of old.cloud) (cloud_of old.cloud) allows
-              (entry_of Main what.Closed ∷ []) (silent_uncalling (entry_of Main what.Closed ∷ []) (tt, tt)) (λ token. refl);
+              (entry_of Main what.Closed ∷ []) (tt, tt) (λ token. refl);
           leaves = (same_keeps (shown old.keeper) (shown old.keeper) (itself (shown old.keeper)) may_open lawful 0 0
               old.state refl stands).leaves;
           state = λ h. refl;

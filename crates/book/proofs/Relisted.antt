@@ -118,7 +118,7 @@ module _ (first : StateData) (origin : Cloud) where
         ∙ ap (λ (k : List Entry). (origin.trace ++ calls_of k) ++ Listed given ∷ []) (sym silent)))
 
 -- what a restart tells, or would have told
-pub restart_told : (s : StateData) (count : ℕ) (r : Result (Unit {0}) Unrestarted) (cs : List Change)
+abbrev pub restart_told : (s : StateData) (count : ℕ) (r : Result (Unit {0}) Unrestarted) (cs : List Change)
     → Tries s count r cs → List Entry
 restart_told s count r cs (restarts.none never is) = []
 restart_told s count r cs (restarts.all ended below is) = restart_entry s count ∷ []

@@ -1,6 +1,7 @@
 -- A restart: what it makes of a book, and what it leaves with the keeper.
 use Rattle.std.proofs.Common.{List, [], ap, arith, inl, inr, refl, subst, sym, ◌++◌, ◌∙◌, ◌∷◌, ◌≡◌, ◌⊎◌, ℕ}
-use Rattle.std.specs.Prelude.{Bool, Err, IfErr, IfOk, IsTrue, Ok, Option, Result, Some, ◌+◌, ◌<◌, ◌^◌, ◌≢◌, ◌≤◌}
+use Rattle.std.proofs.lemmas.Result.{IfOk-weaker}
+use Rattle.std.specs.Prelude.{Err, IfErr, IfOk, IsTrue, Ok, Option, Result, Some, ◌≢◌}
 use Rattle.heat_value.specs.Counts.{Rose}
 use Rattle.heat_plan.specs.declared.refusal.Refusal.{Refusal}
 use Rattle.heat_plan.specs.declared.refusal.Refusal.TheVariants as refusal
@@ -13,17 +14,19 @@ use Rattle.core_state.specs.declared.change.Change.{Change}
 use Rattle.core_state.specs.declared.entry.Entry.{Entry}
 use Rattle.core_state.specs.declared.made.Made.{Made}
 use Rattle.step_relation.specs.Laws.{opening_at}
-use Rattle.step_relation.specs.Steps.{engine_limit, restart_changes}
+use Rattle.step_relation.specs.Steps.{Step}
 use Rattle.record_keeper.proofs.Moments.{LeavesOnly-then, LeavesOnly-weaker}
 use Rattle.record_keeper.specs.Calls.{ComesOf, GoesOn, IsLeftOf, IsUnfit, StaysAsItIs, StemsFrom}
-use Rattle.record_keeper.specs.Calls.{before, same, settles, turns, unknown}
+use Rattle.record_keeper.specs.Calls as left
 use Rattle.record_keeper.specs.Laws.{IsLawful}
 use Rattle.record_keeper.specs.Shown.{Left, LeavesOnly, ShownKeeper, StandsFor, at_rest}
 use Rattle.record_keeper.specs.declared.open_fault.OpenFault.{OpenFault}
 use Rattle.record_keeper.specs.declared.open_fault.OpenFault.TheVariants as open_fault
 use Rattle.takeover_steps.specs.Engines.{RefusesRestart, Restarts as MakesRestart}
 use Rattle.takeover_steps.specs.Engines as engines
-use Rattle.book.specs.Keeping.{IsReady, Keeps, KeptBy}
+use Rattle.workable_laws.proofs.Applied.{steps_apply}
+use Rattle.workable_laws.proofs.Keepable.{steps_are_keepable}
+use Rattle.book.specs.Keeping.{IsReady, IsStorable, Keeps, KeptBy}
 use Rattle.book.specs.Makings.{MadeAs, MakesAs, tried_as}
 use Rattle.book.specs.Makings as made_as
 use Rattle.workable_laws.specs.Admitted.{FindsNothing}
@@ -34,24 +37,26 @@ use Rattle.book.specs.Restarts.{RestartBreaks, RestartDoes, RestartsAs, Rereads,
 use Rattle.book.specs.Restarts.{restart_entry, restarted_for, unread_for}
 use Rattle.book.specs.Restarts as restarts
 use Rattle.book.specs.Scenes.{scene}
+use Rattle.book.specs.WorkableOver.{IsWorkable}
 use Rattle.book.specs.declared.restarting.Unrestarted.TheVariants as why
 use Rattle.book.specs.declared.restarting.Unrestarted.{Unrestarted}
 use Rattle.book.proofs.Growing.{unasked}
 use Rattle.book.proofs.Held.{goes_then, rose_since}
+use Rattle.book.proofs.Stepping.{never_fault}
 
 -- what came of a keeper that stands for a state, at rest
 pub came_at_rest : (may_open : StateData → Type 0) (k : ShownKeeper) (s : StateData) → IsLawful may_open k
     → StandsFor k s → IsTrue k.tells → (l : Option Left) → ComesOf k l → l ≡ Some (at_rest s)
 came_at_rest may_open k s lawful stands tells l it = by it.from l (rest it.from it.left) it.stems where
   rest : (f : Option Left) → k.may_leave f → f ≡ Some (at_rest s)
-  rest f left = (lawful.told tells).durable s f (stands.told tells) left
+  rest f may = (lawful.told tells).durable s f (stands.told tells) may
 
   by : (f l : Option Left) → f ≡ Some (at_rest s) → StemsFrom f l → l ≡ Some (at_rest s)
-  by f l is (unknown none) = let both = sym none ∙ is in cc
-  by f l is (same as_it_is) = as_it_is ∙ is
-  by f l is (settles m old new) = let one : m ≡ at_rest s = some_one m (at_rest s) (sym old ∙ is) in
+  by f l is (left.unknown none) = let both = sym none ∙ is in cc
+  by f l is (left.same as_it_is) = as_it_is ∙ is
+  by f l is (left.settles m old new) = let one : m ≡ at_rest s = some_one m (at_rest s) (sym old ∙ is) in
       new ∙ ap (λ (x : Left). Some (at_rest x.reads)) one
-  by f l is (turns m u old next new) = let one : m ≡ at_rest s = some_one m (at_rest s) (sym old ∙ is) in
+  by f l is (left.turns m u old next new) = let one : m ≡ at_rest s = some_one m (at_rest s) (sym old ∙ is) in
       let none = sym next ∙ ap (λ (x : Left). x.next) one in cc
 
   some_one : (a b : Left) → ◌≡◌ {A = Option Left} (Some a) (Some b) → a ≡ b
@@ -109,7 +114,7 @@ module _ (count : ℕ) (s : StateData) (h : List Entry) (c d : Cloud) (k l : Sho
       → KeptBy k l before_ now s s [] (result ≡ Err why.DiskFault)
   nothing_tried result first it to from rose = record {
     keeps = record {
-      leaves = λ tells. LeavesOnly-weaker k l (λ m. m ≡ Some (at_rest s)) (IsLeftOf s s) (λ m rest. before rest)
+      leaves = λ tells. LeavesOnly-weaker k l (λ m. m ≡ Some (at_rest s)) (IsLeftOf s s) (λ m rest. left.before rest)
           (it.leaves tells);
       goes_on = it.goes_on;
     };
@@ -178,7 +183,7 @@ pub keeps_behind : (k l m : ShownKeeper) (first mid last : ℕ) (s u : StateData
     → Keeps k m first last s u
 keeps_behind k l m first mid last s u rest goes keeps = record {
   leaves = λ tells. LeavesOnly-then k l m (IsLeftOf s u)
-      (LeavesOnly-weaker k l (λ x. x ≡ Some (at_rest s)) (IsLeftOf s u) (λ x it. before it) (rest tells))
+      (LeavesOnly-weaker k l (λ x. x ≡ Some (at_rest s)) (IsLeftOf s u) (λ x it. left.before it) (rest tells))
       (keeps.leaves (subst IsTrue (sym goes.tells) tells));
   goes_on = goes_then k l m first mid last goes keeps.goes_on;
 }
@@ -238,9 +243,9 @@ module _ (count : ℕ) (s t : StateData) (h i : List Entry) (c d : Cloud) (k l m
         → KeptBy l m n1 n2 s t [] (first ≡ Err refusal.DiskFault) → (x ≡ refusal.Memory) ⊎ RefusesRestart s count x
         → Restarts count (scene s h c) (scene t i d) k m n0 n2 (restarted_for first)
     by_refusal x is same ends kept (inl lacks) = not_made why.Memory (ap restarted_for (ends ∙ ap Err lacks)) (λ f. cc)
-        (restarts.memory may) same kept.keeps (kept.ready (λ f. honest (is ∙ (sym ends ∙ f))))
+        (restarts.memory may) same kept.keeps (kept.ready (never_fault made first _ honest is ends))
     by_refusal _ is same ends kept (inr (engines.worn over)) = not_made why.Worn (ap restarted_for ends) (λ f. cc)
-        (restarts.worn w.all w.lists w.nothing over) same kept.keeps (kept.ready (λ f. honest (is ∙ (sym ends ∙ f))))
+        (restarts.worn w.all w.lists w.nothing over) same kept.keeps (kept.ready (never_fault made first _ honest is ends))
 
     by : (q : MadeAs made (page s h) (page t i) first)
         → KeptBy l m n1 n2 s t (tried_as q) (first ≡ Err refusal.DiskFault)
@@ -288,3 +293,23 @@ read_as {A} r v w is same_ = subst (λ (x : OpenFault). r ≡ Err x) same_ is
 
 pub fault_one : {A : Type 0} (r : Result A OpenFault) (v w : OpenFault) → r ≡ Err v → r ≡ Err w → v ≡ w
 fault_one r v w a b = let both = sym a ∙ b in cc
+
+-- a step may be kept and made
+pub steps_storable : (s : StateData) → IsWorkable s → (made : Result Made Refusal)
+    → IfOk made (λ m. Step s m.changes m.entries) → IfOk made (λ m. IsStorable s m.changes)
+steps_storable s x made ok = IfOk-weaker made _ _ (λ m it. record {
+  applies = steps_apply x.opening x.history s m.changes m.entries x.workable it;
+  keepable = steps_are_keepable x.opening x.history s m.changes m.entries x.workable it;
+}) ok
+
+-- a restart isn't refused for a fault of the keeper
+no_fault : (s : StateData) (count : ℕ) → ¬ RefusesRestart s count refusal.DiskFault
+no_fault s count k = elim k [ ]
+
+pub restart_honest : (s : StateData) (count : ℕ) (made : Result Made Refusal)
+    → IfErr made (λ x. (x ≡ refusal.Memory) ⊎ RefusesRestart s count x) → made ≢ Err refusal.DiskFault
+restart_honest s count made err is =
+    by (subst (λ (x : Result Made Refusal). IfErr x (λ r. (r ≡ refusal.Memory) ⊎ RefusesRestart s count r)) is err) where
+  by : ¬ ((refusal.DiskFault ≡ refusal.Memory) ⊎ RefusesRestart s count refusal.DiskFault)
+  by (inl no_) = cc
+  by (inr yes_) = no_fault s count yes_

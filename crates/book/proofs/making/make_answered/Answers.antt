@@ -10,4 +10,4 @@ keep-requires-clause-keepable g c = subst AreKeepable (sym c.as_slice.ensures) c
 
 pub keep-requires-clause-applies : goal.keep-requires-clause-applies
 keep-requires-clause-applies g c s stands = subst (λ (cs : List Change). AllApply cs s) (sym c.as_slice.ensures)
-    (may_append _ _ _ _ c.requires.ready c.requires.storable s stands)
+    (may_append _ _ _ c.requires.ready c.requires.storable s stands)
