@@ -119,17 +119,21 @@ pub record Restarts (count : ℕ) (old new : Scene) (before after : ShownKeeper)
   pub tries : Tries old.state count result tried
   pub kept : KeptBy before after faults now old.state new.state tried (result ≡ Err why.DiskFault)
 
+-- what a refusal of its step comes to
+abbrev pub refused_for : Refusal → Unrestarted
+refused_for refusal.StackExists = why.Memory
+refused_for refusal.NoStack = why.Memory
+refused_for refusal.Deleting = why.Memory
+refused_for refusal.TooManyStacks = why.Memory
+refused_for refusal.TooManyRows = why.Memory
+refused_for refusal.Worn = why.Worn
+refused_for refusal.NoEngine = why.Memory
+refused_for refusal.TooManyEngines = why.Memory
+refused_for refusal.NotRunning = why.Memory
+refused_for refusal.DiskFault = why.DiskFault
+refused_for refusal.Memory = why.Memory
+
 -- what a restart's step came to
 abbrev pub restarted_for : Result (Unit {0}) Refusal → Result (Unit {0}) Unrestarted
 restarted_for (Ok u) = Ok tt
-restarted_for (Err refusal.StackExists) = Err why.Memory
-restarted_for (Err refusal.NoStack) = Err why.Memory
-restarted_for (Err refusal.Deleting) = Err why.Memory
-restarted_for (Err refusal.TooManyStacks) = Err why.Memory
-restarted_for (Err refusal.TooManyRows) = Err why.Memory
-restarted_for (Err refusal.Worn) = Err why.Worn
-restarted_for (Err refusal.NoEngine) = Err why.Memory
-restarted_for (Err refusal.TooManyEngines) = Err why.Memory
-restarted_for (Err refusal.NotRunning) = Err why.Memory
-restarted_for (Err refusal.DiskFault) = Err why.DiskFault
-restarted_for (Err refusal.Memory) = Err why.Memory
+restarted_for (Err r) = Err (refused_for r)

@@ -1,6 +1,6 @@
 //! Why a book is halted.
 ghost use Rattle.std.specs.Prelude.{◌≡◌};
-ghost use Rattle.book.specs.Halting.{halt_after, halt_behind, halt_by, halt_compacting};
+ghost use Rattle.book.specs.Halting.{halt_after, halt_behind, halt_by, halt_compacting, halt_for};
 
 use crate::compacting::Uncompacted;
 use crate::restarting::{Unrestarted, halt_for};
@@ -33,8 +33,27 @@ pub(crate) fn halt_after<T>(done: &Result<T, Refusal>) -> Option<Halt>
     ensures { result ≡ halt_after done.now }
 {
     match done {
-        Err(Refusal::DiskFault) => Some(Halt::DiskFault),
-        _ => None,
+        Ok(_) => None,
+        Err(refusal) => refusal_halt(*refusal),
+    }
+}
+
+// What halts a book whose step was refused.
+fn refusal_halt(refusal: Refusal) -> Option<Halt>
+    ensures { result ≡ halt_for refusal }
+{
+    match refusal {
+        Refusal::DiskFault => Some(Halt::DiskFault),
+        Refusal::StackExists
+        | Refusal::NoStack
+        | Refusal::Deleting
+        | Refusal::TooManyStacks
+        | Refusal::TooManyRows
+        | Refusal::Worn
+        | Refusal::NoEngine
+        | Refusal::TooManyEngines
+        | Refusal::NotRunning
+        | Refusal::Memory => None,
     }
 }
 

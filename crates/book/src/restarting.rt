@@ -3,7 +3,7 @@
 ghost use Rattle.std.specs.Prelude.{◌≡◌, ◌≤◌};
 ghost use Rattle.step_relation.specs.Steps.{engine_limit};
 ghost use Rattle.book.specs.Keeping.{IsReady};
-ghost use Rattle.book.specs.Restarts.{Rereads, Restarts, halt_of, restarted_for, unread_for};
+ghost use Rattle.book.specs.Restarts.{Rereads, Restarts, halt_of, refused_for, restarted_for, unread_for};
 ghost use Rattle.book.specs.Scenes.{scene};
 ghost use Rattle.book.specs.WorkableOver.{IsWorkable};
 
@@ -82,9 +82,26 @@ fn restarted(done: Result<(), Refusal>) -> Result<(), Unrestarted>
 {
     match done {
         Ok(()) => Ok(()),
-        Err(Refusal::DiskFault) => Err(Unrestarted::DiskFault),
-        Err(Refusal::Worn) => Err(Unrestarted::Worn),
-        Err(_) => Err(Unrestarted::Memory),
+        Err(refusal) => Err(refused_for(refusal)),
+    }
+}
+
+// What a refusal of that step comes to.
+fn refused_for(refusal: Refusal) -> Unrestarted
+    ensures { result ≡ refused_for refusal }
+{
+    match refusal {
+        Refusal::DiskFault => Unrestarted::DiskFault,
+        Refusal::Worn => Unrestarted::Worn,
+        Refusal::StackExists
+        | Refusal::NoStack
+        | Refusal::Deleting
+        | Refusal::TooManyStacks
+        | Refusal::TooManyRows
+        | Refusal::NoEngine
+        | Refusal::TooManyEngines
+        | Refusal::NotRunning
+        | Refusal::Memory => Unrestarted::Memory,
     }
 }
 
