@@ -1,7 +1,7 @@
 -- Whether the input was closed, as a history goes on.
-use Rattle.std.proofs.Common.{List, [], ap, false, inl, inr, refl, sym, true, ◌++◌, ◌∙◌, ◌∷◌, ◌≡◌, ◌⊎◌}
+use Rattle.std.proofs.Common.{List, [], ap, arith, false, inl, inr, refl, subst, sym, true, ℕ, ◌+◌, ◌++◌, ◌<◌, ◌∙◌, ◌∷◌, ◌≡◌, ◌≤◌, ◌⊎◌}
 use Rattle.std.proofs.lemmas.List.Elements.{Contains-append_cases, Contains-append_left, Contains-append_right}
-use Rattle.std.specs.Prelude.{Bool, IsTrue, ◌↔◌}
+use Rattle.std.specs.Prelude.{Bool, IsTrue, ◌-◌, ◌↔◌}
 use Rattle.core_state.specs.declared.entry.Entry.{Entry}
 use Rattle.core_state.specs.declared.entry.What.TheVariants as what
 use Rattle.next_laws.proofs.Listings.{cons_cases, in_head, no_member}
@@ -43,3 +43,31 @@ module _ (h : List Entry) (e : Entry) where
 -- nothing was told
 pub never_closed : ¬ IsClosed []
 never_closed it = no_member it.entry it.among
+
+-- what a history keeps of its flag and its room
+abbrev pub IsMarked : Bool → List Entry → ℕ → Type 0
+IsMarked closed h spare = (IsTrue closed ↔ IsClosed h) × (closed ≡ false → 1 ≤ spare)
+
+pub marked_new : (h : List Entry) (spare : ℕ) → h ≡ [] → 1 ≤ spare → IsMarked false h spare
+marked_new h spare is room =
+    ((λ yes_. cc, λ closed_. absurd (never_closed (subst IsClosed is closed_))), λ open_. room)
+
+pub marked_wider : (closed : Bool) (h i : List Entry) (spare more : ℕ) → i ≡ h → spare ≤ more → IsMarked closed h spare
+    → IsMarked closed i more
+marked_wider closed h i spare more is le it = (
+  subst (λ (x : List Entry). IsTrue closed ↔ IsClosed x) (sym is) it.0,
+  λ open_. let room = it.1 open_ in omega (arith, room, le),
+)
+
+pub marked_closed : (h i : List Entry) (e : Entry) (spare : ℕ) → e.what ≡ what.Closed → i ≡ h ++ e ∷ []
+    → IsMarked true i spare
+marked_closed h i e spare closes is =
+    ((λ yes_. subst IsClosed (sym is) (now_closed h e closes), λ closed_. refl), λ open_. cc)
+
+pub marked_pushed : (h i : List Entry) (e : Entry) (was closes now : Bool) (spare less : ℕ) → IsMarked was h spare
+    → (IsTrue closes ↔ (e.what ≡ what.Closed)) → (was ≡ true → now ≡ true) → (was ≡ false → now ≡ closes)
+    → i ≡ h ++ e ∷ [] → 0 < spare - 1 → spare ≤ less + 1 → IsMarked now i less
+marked_pushed h i e was closes now spare less it says first second is some room = (
+  subst (λ (x : List Entry). IsTrue now ↔ IsClosed x) (sym is) (closed_pushed h e was closes now it.0 says first second),
+  λ open_. omega (arith, some, room),
+)
