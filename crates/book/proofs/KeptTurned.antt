@@ -87,7 +87,7 @@ module _ (first : StateData) (origin : Cloud) where
       stays first origin _ _ _ _ _ _ halt kept same.state same.entries same.cloud
 
 -- all that was told, or would have been
-pub alone_told : {result : Turn_answer} {given : Answered} → WhyAlone result given → Entry → List Entry → List Entry
+abbrev pub alone_told : {result : Turn_answer} {given : Answered} → WhyAlone result given → Entry → List Entry → List Entry
 alone_told (lacking is size) call es = call ∷ []
 alone_told (failed is) call es = es
 
