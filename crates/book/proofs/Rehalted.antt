@@ -1,6 +1,6 @@
 -- What a restart answers, and what it halts a book with.
 use Rattle.std.proofs.Common.{ap, refl, subst, sym, ℕ, ◌∙◌, ◌≡◌}
-use Rattle.std.specs.Prelude.{Bool, Err, IfErr, List, None, Ok, OnOk, Option, Result, Some, ◌≢◌}
+use Rattle.std.specs.Prelude.{Bool, Err, IfErr, List, None, Ok, OnOk, Option, Result, Some}
 use Rattle.heat_value.specs.Counts.{Rose}
 use Rattle.provider.specs.Cloud.{Cloud}
 use Rattle.core_state.specs.State.{StateData}

@@ -1,6 +1,6 @@
 -- What a book keeps through a compaction of its keeper, and what it halts with.
 use Rattle.std.proofs.Common.{List, ap, refl, subst, sym, ℕ, ◌∙◌, ◌≡◌}
-use Rattle.std.specs.Prelude.{Err, None, Ok, Option, Result, Some, ◌≢◌}
+use Rattle.std.specs.Prelude.{Err, None, Ok, Option, Result, Some}
 use Rattle.heat_value.specs.Counts.{Rose}
 use Rattle.provider.specs.Cloud.{Cloud}
 use Rattle.core_state.specs.State.{StateData}
