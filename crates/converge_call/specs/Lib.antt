@@ -18,3 +18,5 @@ pub mod Laws
 pub mod Options
 pub mod Words
 pub mod Choices
+pub use Rattle.driver.specs.Kept
+pub use Rattle.driver.specs.Scenes

@@ -5,6 +5,7 @@ ghost use Rattle.type_catalog.specs.Kinds.{softs_of};
 ghost use Rattle.type_catalog.specs.Names.{is_listed};
 ghost use Rattle.type_catalog.specs.Shipped.{box_kind as the_box_kind};
 ghost use Rattle.type_catalog.specs.Shipped.{flavor_test as the_flavor_test};
+ghost use Rattle.record_keeper.specs.Calls.{GoesOn};
 ghost use Rattle.driver.specs.Kept.{Shown};
 ghost use Rattle.driver.specs.Scenes.{scene_of};
 ghost use Rattle.converge_call.specs.Words.{IsForm};
@@ -51,12 +52,14 @@ pub fn converge_shipped<S: Source, W: Sink, K: Keeper, P: Provider>(
     // which agree.
     ensures opened { (b : Shown K P) → result.end ≡ End.Book b
         → OpensFor (K.may_open keeper) words.now (P.cloud cloud) (P.cloud b.origin.cloud) b.opening }
+    ensures goes_on { (b : Shown K P) → result.end ≡ End.Book b
+        → GoesOn (K.shown keeper) (K.shown b.origin.keeper) (K.faults keeper) (K.faults b.origin.keeper) }
 
     // A book that is handed back was driven by the lines, with what the program registers in stock before the first.
     ensures driven { (b : Shown K P) → result.end ≡ End.Book b → HasDriven shipped_stock
         (K.shown b.origin.keeper) (K.shown b.keeper) (first_scene P.cloud b) (scene_of P.cloud b) b.halt
         (outside (S.left source.old) (S.faults source.old) (W.holds sink.old) (W.faults sink.old)
-        (K.faults b.origin.keeper))
+        (K.faults keeper))
         (outside (S.left source.new) (S.faults source.new) (W.holds sink.new) (W.faults sink.new)
         (K.faults b.keeper))
         result.status }

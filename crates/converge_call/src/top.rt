@@ -1,5 +1,6 @@
 //! The top call: from the words and the bytes that come in to the bytes that go out.
 ghost use Rattle.std.specs.Prelude.{◌≡◌, ◌≢◌, ◌≤◌, ◌↔◌, [], None, map};
+ghost use Rattle.record_keeper.specs.Calls.{GoesOn};
 ghost use Rattle.driver.specs.Kept.{Shown, IsSameBook};
 ghost use Rattle.driver.specs.Scenes.{scene_of};
 ghost use Rattle.converge_call.specs.Words.{IsForm};
@@ -73,13 +74,15 @@ pub fn converge<S: Source, W: Sink, K: Keeper, P: Provider>(
     // which agree.
     ensures opened { (b : Shown K P) → result.end ≡ End.Book b
         → OpensFor (K.may_open keeper) words.now (P.cloud cloud) (P.cloud b.origin.cloud) b.opening }
+    ensures goes_on { (b : Shown K P) → result.end ≡ End.Book b
+        → GoesOn (K.shown keeper) (K.shown b.origin.keeper) (K.faults keeper) (K.faults b.origin.keeper) }
 
     // A book that is handed back was driven by the lines; from a sound opening the main theorem holds of it.
     ensures driven { (b : Shown K P) → result.end ≡ End.Book b → HasDriven
         (first_stock (map (λ j. j.kind) registry.now.judges) (map (λ t. t.test) registry.now.customs))
         (K.shown b.origin.keeper) (K.shown b.keeper) (first_scene P.cloud b) (scene_of P.cloud b) b.halt
         (outside (S.left source.old) (S.faults source.old) (W.holds sink.old) (W.faults sink.old)
-        (K.faults b.origin.keeper))
+        (K.faults keeper))
         (outside (S.left source.new) (S.faults source.new) (W.holds sink.new) (W.faults sink.new)
         (K.faults b.keeper))
         result.status }
@@ -119,13 +122,15 @@ pub fn run_serial<S: Source, W: Sink, K: Keeper, P: Provider>(
     // A book is opened with so many engines, over an image of the keeper's and what the cloud lists, which agree.
     ensures opened { (b : Shown K P) → result.end ≡ End.Book b
         → OpensWith (K.may_open keeper) workers (P.cloud cloud) (P.cloud b.origin.cloud) b.opening }
+    ensures goes_on { (b : Shown K P) → result.end ≡ End.Book b
+        → GoesOn (K.shown keeper) (K.shown b.origin.keeper) (K.faults keeper) (K.faults b.origin.keeper) }
 
     // A book that is handed back was driven by the lines; from a sound opening the main theorem holds of it.
     ensures driven { (b : Shown K P) → result.end ≡ End.Book b → HasDriven
         (first_stock (map (λ j. j.kind) registry.now.judges) (map (λ t. t.test) registry.now.customs))
         (K.shown b.origin.keeper) (K.shown b.keeper) (first_scene P.cloud b) (scene_of P.cloud b) b.halt
         (outside (S.left source.old) (S.faults source.old) (W.holds sink.old) (W.faults sink.old)
-        (K.faults b.origin.keeper))
+        (K.faults keeper))
         (outside (S.left source.new) (S.faults source.new) (W.holds sink.new) (W.faults sink.new)
         (K.faults b.keeper))
         result.status }

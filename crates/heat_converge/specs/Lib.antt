@@ -1,2 +1,4 @@
 pub mod Said
 pub mod Ended
+pub mod Called
+pub mod Files

@@ -1,12 +1,15 @@
 //! The simulated cloud between two runs: a file that is read before the top call and written after it. What a
 //! file holds, and that it keeps what was synced, is trusted here, and no clause says it.
-ghost use Rattle.std.specs.Prelude.{◌≡◌};
+ghost use Rattle.std.specs.Prelude.{◌≡◌, ◌≢◌, ◌==◌, Err, IfOk};
+ghost use Rattle.cloud_file.specs.Files.{IsFileOf};
+ghost use Rattle.heat_converge.specs.Called.{IsEmptyCloud};
+ghost use Rattle.heat_converge.specs.Files.{IsNoFile, fault_by};
 
 use crate::empty_cloud;
 use cloud_file::{CloudFileFault, read, text};
 use heat_value::Text;
 use sim_cloud::SimCloud;
-use std::alloc::AllocError;
+use std::alloc::{AllocError, Global};
 use std::fs::{self, File};
 use std::io::{self, ErrorKind, Write};
 
@@ -32,21 +35,39 @@ impl From<AllocError> for KeepFault {
 /// The cloud of the file at this path; an empty one where there is no such file.
 pub fn load(rt: &HostRuntime, path: &Text) -> Result<SimCloud, KeepFault> {
     match fs::read(rt, path.as_str()) {
-        Ok(bytes) => match read(rt.alloc(), &bytes) {
-            Ok(cloud) => Ok(cloud),
-            Err(CloudFileFault::NotJson) => Err(KeepFault::File),
-            Err(CloudFileFault::Shape(_)) => Err(KeepFault::File),
-            Err(CloudFileFault::Memory) => Err(KeepFault::Memory),
-        },
-        Err(error) => match error.kind() {
-            ErrorKind::NotFound => Ok(empty_cloud(rt.alloc())?),
-            kind => Err(fault_of(kind)),
-        },
+        Ok(bytes) => cloud_in(rt.alloc(), &bytes),
+        Err(error) => cloud_without(rt.alloc(), error.kind()),
+    }
+}
+
+// The cloud that the bytes of a file say.
+fn cloud_in(alloc: Global, bytes: &[u8]) -> Result<SimCloud, KeepFault>
+    ensures ok { IfOk result (λ c. IsFileOf bytes.now c) }
+    ensures file { result ≡ Err KeepFault.File → IsNoFile bytes.now }
+{
+    match read(alloc, bytes) {
+        Ok(cloud) => Ok(cloud),
+        Err(CloudFileFault::NotJson) => Err(KeepFault::File),
+        Err(CloudFileFault::Shape(_)) => Err(KeepFault::File),
+        Err(CloudFileFault::Memory) => Err(KeepFault::Memory),
+    }
+}
+
+// The cloud where no file was read, for this: an empty one exactly where there is no such file.
+fn cloud_without(alloc: Global, kind: ErrorKind) -> Result<SimCloud, KeepFault>
+    ensures none { kind ≡ ErrorKind.NotFound → result ≢ Err KeepFault.File }
+    ensures empty { IfOk result (λ c. (kind ≡ ErrorKind.NotFound) × IsEmptyCloud c) }
+{
+    match kind {
+        ErrorKind::NotFound => Ok(empty_cloud(alloc)?),
+        kind => Err(fault_of(kind)),
     }
 }
 
 // Want of memory, told apart from all else that a file may meet.
-fn fault_of(kind: ErrorKind) -> KeepFault {
+fn fault_of(kind: ErrorKind) -> KeepFault
+    ensures { result ≡ fault_by (kind == ErrorKind.OutOfMemory) }
+{
     if kind == ErrorKind::OutOfMemory {
         KeepFault::Memory
     } else {

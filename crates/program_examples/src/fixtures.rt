@@ -1,5 +1,5 @@
 //! What several tests share: a create and what it adds, and a drive from memory into memory.
-use converge_call::{Outcome, converge_shipped};
+use converge_call::{Outcome, Unkept, converge_shipped};
 use heat_io::{MemSink, MemSource};
 use heat_value::Text;
 use sim_cloud::{Settings, SimCloud};
@@ -27,8 +27,8 @@ pub(crate) fn drives(
     alloc: Global,
     source: &mut MemSource,
     sink: &mut MemSink,
-) -> Result<Outcome<SimCloud>, AllocError> {
+) -> Result<Outcome<Unkept, SimCloud>, AllocError> {
     let words = [Text::from_str(alloc, "drive")?];
     let cloud = SimCloud::new(Settings::empty(alloc))?;
-    Ok(converge_shipped(alloc, &words, source, sink, cloud))
+    Ok(converge_shipped(alloc, &words, source, sink, Unkept, cloud))
 }
