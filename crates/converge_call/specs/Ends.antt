@@ -30,7 +30,7 @@ use Rattle.converge_call.specs.Exits.{exit_of}
 use Rattle.converge_call.specs.Words.{IsForm, setup_of}
 use Rattle.converge_call.specs.Stocks.{Stock}
 use Rattle.converge_call.specs.Sources.{StaysWithin}
-use Rattle.converge_call.specs.Drives.{Streams, standing, streams, Drove}
+use Rattle.converge_call.specs.Drives.{Streams, line_end, streams, Drove}
 
 -- what source, sink and keeper show at one moment: what is left and held, and how often they have failed
 pub record Outside : Type 0 where
@@ -102,7 +102,7 @@ EndsCalmly status = (status ≡ exit.Done) ⊎ (status ≡ exit.Memory)
 pub record HasDriven (t : Stock) (origin keeper : ShownKeeper) (first last : Scene) (halt : Option Halt)
     (old new : Outside) (status : Exit) : Type 0 where
   pub drove : Drove (opening_in first) t origin.recalls (streams_of old) (streams_of new) last.state last.entries
-      (standing last.cloud halt) status
+      (line_end last.cloud halt) status
   pub read : status ≡ exit.ReadFault → Rose old.read_faults new.read_faults
   pub write : status ≡ exit.WriteFault → Rose old.write_faults new.write_faults
   pub disk : status ≡ exit.DiskFault → Rose old.disk_faults new.disk_faults

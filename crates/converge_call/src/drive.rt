@@ -6,7 +6,7 @@ ghost use Rattle.report.specs.Text.{seen_after, text_after};
 ghost use Rattle.driver.specs.Kept.{opening_of};
 ghost use Rattle.driver.specs.Quiet.{page};
 ghost use Rattle.converge_call.specs.Carrying.{Carries};
-ghost use Rattle.converge_call.specs.Drives.{standing, streams, Drove, LineAnswered, Written};
+ghost use Rattle.converge_call.specs.Drives.{line_end, streams, Drove, LineAnswered, Written};
 ghost use Rattle.converge_call.specs.Stocks.{stock, first_stock, CatalogBehind};
 ghost use Rattle.converge_call.specs.Shortening.{Shortens};
 
@@ -41,7 +41,7 @@ pub fn drive<S: Source, W: Sink, K: Keeper, P: Provider>(
         (K.shown book.old.origin.keeper).recalls
         (streams (S.left source.old) (W.holds sink.old))
         (streams (S.left source.new) (W.holds sink.new)) book.new.state book.new.entries
-        (standing (P.cloud book.new.cloud) book.new.halt) result }
+        (line_end (P.cloud book.new.cloud) book.new.halt) result }
     ensures read { result ≡ Exit.ReadFault → Rose (S.faults source.old) (S.faults source.new) }
     ensures write { result ≡ Exit.WriteFault → Rose (W.faults sink.old) (W.faults sink.new) }
     ensures short { result ≡ Exit.Done → (K.shown book.new.keeper).is_long ≡ false }
@@ -103,7 +103,7 @@ fn answer<W: Sink, K: Keeper, P: Provider>(
         (stock (map (λ t. t.test) by.now.registry.now.customs) catalog.old)
         (K.shown book.old.origin.keeper).recalls number line.now
         (page book.old.state book.old.entries) (page book.new.state book.new.entries)
-        (standing (P.cloud book.new.cloud) book.new.halt)
+        (line_end (P.cloud book.new.cloud) book.new.halt)
         (W.holds sink.old) (W.holds sink.new) result }
     ensures kinds { OnOk result (CatalogBehind line.now catalog.old catalog.new) }
     ensures seen { OnOk result (reporter.new ≡ seen_after (seen_of book.new.opening) book.new.entries) }

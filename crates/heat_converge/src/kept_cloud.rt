@@ -1,9 +1,9 @@
 //! The simulated cloud between two runs: a file that is read before the top call and written after it. What a
 //! file holds, and that it keeps what was synced, is trusted here, and no clause says it.
-ghost use Rattle.std.specs.Prelude.{◌≡◌, ◌≢◌, ◌==◌, Err, IfOk};
+ghost use Rattle.std.specs.Prelude.{◌≡◌, ◌≢◌, Err, IfOk};
 ghost use Rattle.cloud_file.specs.Files.{IsFileOf};
 ghost use Rattle.heat_converge.specs.Called.{IsEmptyCloud};
-ghost use Rattle.heat_converge.specs.Files.{IsNoFile, fault_by};
+ghost use Rattle.heat_converge.specs.Files.{IsNoFile};
 
 use crate::empty_cloud;
 use cloud_file::{CloudFileFault, read, text};
@@ -66,7 +66,8 @@ fn cloud_without(alloc: Global, kind: ErrorKind) -> Result<SimCloud, KeepFault>
 
 // Want of memory, told apart from all else that a file may meet.
 fn fault_of(kind: ErrorKind) -> KeepFault
-    ensures { result ≡ fault_by (kind == ErrorKind.OutOfMemory) }
+    ensures memory { kind ≡ ErrorKind.OutOfMemory → result ≡ KeepFault.Memory }
+    ensures other { kind ≢ ErrorKind.OutOfMemory → result ≡ KeepFault.File }
 {
     if kind == ErrorKind::OutOfMemory {
         KeepFault::Memory
