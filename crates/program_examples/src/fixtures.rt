@@ -9,6 +9,9 @@ use std::alloc::{AllocError, Global};
 pub(crate) const CREATE: &str = "create s {\"template\":{\"heat_template_version\":\"2018-08-31\",\
     \"resources\":{\"a\":{\"type\":\"Test::Box\",\"properties\":{\"size\":1}}}}}\n";
 
+/// A run to its end.
+pub(crate) const RUN: &str = "run\n";
+
 /// What it adds with its run.
 pub(crate) const CREATED: &str = "stack s 1 CREATE_IN_PROGRESS\nresource s a 1 CREATE_IN_PROGRESS\n\
     resource s a 1 CREATE_COMPLETE\nstack s 1 CREATE_COMPLETE\nidle 5\n";
