@@ -1,8 +1,9 @@
 //! Lines that make one step by the reader of commands: commands on stacks, and changes of engines.
-ghost use Rattle.std.specs.Prelude.{◌≡◌, ◌≢◌, ◌↔◌, Err, IfOk, IfErr, map};
+ghost use Rattle.std.specs.Prelude.{◌≡◌, ◌≢◌, IfOk, IfErr, map};
+ghost use Rattle.book.specs.Halting.{halt_for};
 ghost use Rattle.driver.specs.Quiet.{page};
 ghost use Rattle.converge_call.specs.Carrying.{Carries};
-ghost use Rattle.converge_call.specs.Halting.{HaltsBehind, halt_broken};
+ghost use Rattle.converge_call.specs.Halting.{HaltsBehind, halt_behind, halt_broken};
 ghost use Rattle.converge_call.specs.Notes.{IsUndone, IsUnkept, HasDone};
 ghost use Rattle.converge_call.specs.Commands.{BodyDoes, OrderDoes, StopDoes, StartDoes, IsRefusedFor, IsUnplannedFor};
 ghost use Rattle.converge_call.specs.Commands.{IsUnmadeFor, beside_body, exit_unmade};
@@ -158,10 +159,9 @@ fn refuse_for<K: Keeper, P: Provider>(
 ) -> Result<(), Exit>
     ensures done { HasDone (IsRefusedFor number refusal) (IsUnmadeFor refusal)
         (page book.old.state book.old.entries) (page book.new.state book.new.entries) result }
+    ensures only { book.new ≡ record book.old { entries = book.new.entries } }
     ensures carries { Carries K.shown P.cloud book.old book.new }
-    ensures keeper { book.new.keeper ≡ book.old.keeper }
-    ensures halt { book.new.halt ≡ book.old.halt }
-    ensures fault { (result ≡ Err Exit.DiskFault) ↔ (refusal ≡ Refusal.DiskFault) }
+    ensures halts { halt_behind halt_broken result ≡ halt_for refusal }
 {
     match refusal.code() {
         Some(code) => refuse(alloc, book, number, code),

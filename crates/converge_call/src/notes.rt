@@ -23,6 +23,7 @@ pub fn refuse<K: Keeper, P: Provider>(
 ) -> Result<(), Exit>
     ensures done { HasDone (Notes (refused line code.now)) IsUndone
         (page book.old.state book.old.entries) (page book.new.state book.new.entries) result }
+    ensures only { book.new ≡ record book.old { entries = book.new.entries } }
     ensures carries { Carries K.shown P.cloud book.old book.new }
     ensures halt { HaltsBehind halt_broken book.old.halt book.new.halt result }
 {
@@ -39,6 +40,7 @@ pub fn refuse_at<K: Keeper, P: Provider>(
 ) -> Result<(), Exit>
     ensures done { HasDone (Notes (refused_at line code.now (option_map (λ p. p.now) path.entry))) IsUndone
         (page book.old.state book.old.entries) (page book.new.state book.new.entries) result }
+    ensures only { book.new ≡ record book.old { entries = book.new.entries } }
     ensures carries { Carries K.shown P.cloud book.old book.new }
     ensures halt { HaltsBehind halt_broken book.old.halt book.new.halt result }
 {
@@ -66,6 +68,7 @@ pub fn note<K: Keeper, P: Provider>(book: &mut Book<K, P>, what: What) -> Result
     requires { IsNote what }
     ensures done { HasDone (Notes what) IsUndone
         (page book.old.state book.old.entries) (page book.new.state book.new.entries) result }
+    ensures only { book.new ≡ record book.old { entries = book.new.entries } }
     ensures carries { Carries K.shown P.cloud book.old book.new }
     ensures halt { HaltsBehind halt_broken book.old.halt book.new.halt result }
 {
