@@ -100,3 +100,33 @@ module _ {K P : Type 0} (shown : K → ShownKeeper) (cloud_of : P → Cloud) whe
         (λ l k. seen_earlier shown cloud_of old mid new a.added a.same a.entries l k) second))
     by (called first) (called second) =
         called (leaves_then shown cloud_of old mid new a.added b.added a.same a.entries b.entries first second)
+
+  -- a note, or nothing
+  pub carries_noted : (old new : Shown K P) (added : List Entry)
+      → new ≡ record old { entries = old.entries ++ added } → Carries shown cloud_of old new
+  carries_noted old new added is = carries_uncalled old new added
+      (record { opening = ap (λ (b : Shown K P). b.opening) is; origin = ap (λ (b : Shown K P). b.origin) is })
+      (ap (λ (b : Shown K P). b.entries) is) (ap (λ (b : Shown K P). b.keeper) is)
+
+  pub carries_still : (old new : Shown K P) → new ≡ old → Carries shown cloud_of old new
+  carries_still old new is = subst (λ (b : Shown K P). Carries shown cloud_of old b) (sym is) (carries_none old)
+
+  -- a note behind what may have halted the book
+  pub carries_grown : (old mid new : Shown K P) → Carries shown cloud_of old mid → Carries shown cloud_of mid new
+      → new ≡ record mid { entries = new.entries } → Carries shown cloud_of old new
+  carries_grown old mid new a b only = record {
+    same = record { opening = b.same.opening ∙ a.same.opening; origin = b.same.origin ∙ a.same.origin };
+    added = a.added ++ b.added;
+    entries = b.entries ∙ ap (λ (xs : List Entry). xs ++ b.added) a.entries
+        ∙ append_assoc old.entries a.added b.added;
+    leaves = λ goes tells. by (a.leaves goes tells);
+  } where
+    kept : new.keeper ≡ mid.keeper
+    kept = ap (λ (x : Shown K P). x.keeper) only
+
+    by : LeavesOrNot shown cloud_of old mid → LeavesOrNot shown cloud_of old new
+    by (uncalled first) = uncalled (kept ∙ first)
+    by (called first) =
+        called (subst (λ (k : K). LeavesOnly (shown old.keeper) (shown k) (Along old new)) (sym kept)
+        (LeavesOnly-weaker (shown old.keeper) (shown mid.keeper) (Along old mid) (Along old new)
+        (λ l k. along_later (opening_of cloud_of old) old.entries mid.entries b.added new.entries l b.entries k) first))

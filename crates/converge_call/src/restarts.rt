@@ -16,14 +16,15 @@ use record_keeper::Keeper;
 /// Stops all engines, and enlists as many as were live at the opening; a restart that is refused halts
 /// the book.
 pub fn restart<K: Keeper, P: Provider>(book: &mut Book<K, P>) -> Result<(), Exit>
-    ensures done { book.old.halt ≡ None
-        → HasDone (RestartDoes (opening_of P.cloud book.old) book.old.entries)
+    requires unhalted { book.old.halt ≡ None }
+    ensures done { HasDone (RestartDoes (opening_of P.cloud book.old) book.old.entries)
         (RestartBreaks (opening_of P.cloud book.old) book.old.entries
         (K.shown book.old.origin.keeper).recalls (P.cloud book.new.cloud))
         (page book.old.state book.old.entries) (page book.new.state book.new.entries) result }
     ensures carries { Carries K.shown P.cloud book.old book.new }
     ensures halt { HaltsBehind halt_refused book.old.halt book.new.halt result }
 {
+    book.promises();
     let workers = first_workers(book);
     match book.restart(workers) {
         Ok(()) => Ok(()),
