@@ -11,7 +11,9 @@ pub mod Reporting
 pub mod Answering
 pub mod Sourcing
 pub mod Driving
+pub mod Finding
 pub mod Completing
+pub mod Stopping
 pub mod Handing
 pub mod Running
 pub mod Options
