@@ -99,3 +99,8 @@ kinds_stay (Err e) c = tt
 pub where_well : (A : Type 0) (result : Result (Unit {0}) Exit) → A → OnOk result A
 where_well A (Ok u) it = it
 where_well A (Err e) it = tt
+
+-- all went well
+pub goes_well : (A : Type 0) (result : Result (Unit {0}) Exit) → OnOk result A → result ≡ Ok tt → A
+goes_well A (Ok u) it is = it
+goes_well A (Err e) it is = cc

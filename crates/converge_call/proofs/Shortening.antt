@@ -1,6 +1,6 @@
 -- What a compaction of the book came to.
 use Rattle.std.proofs.Common.{◌≡◌, ◌∙◌, refl, ap, Result, Ok, Err}
-use Rattle.std.specs.Prelude.{None, ℕ}
+use Rattle.std.specs.Prelude.{None, false, ℕ}
 use Rattle.provider.specs.Cloud.{Cloud}
 use Rattle.record_keeper.specs.Calls.{GoesOn}
 use Rattle.record_keeper.specs.Shown.{ShownKeeper}
@@ -9,6 +9,7 @@ use Rattle.book.specs.Compactions as compacts
 use Rattle.book.specs.declared.compacting.Uncompacted.{Uncompacted}
 use Rattle.book.specs.declared.compacting.Uncompacted.TheVariants as why
 use Rattle.driver.specs.Kept.{HasRun, IsSameBook, Shown}
+use Rattle.converge_call.specs.declared.exit.Exit.{Exit}
 use Rattle.converge_call.specs.declared.exit.Exit.TheVariants as exit
 use Rattle.converge_call.specs.Carrying.{Carries}
 use Rattle.converge_call.specs.Shortening.{Shortens, done, failed, lacking}
@@ -47,3 +48,42 @@ module _ {K P : Type 0} (shown : K → ShownKeeper) (faults_of : K → ℕ) wher
     by (compacts.done is same short) = from _ same (record { opening = refl; origin = refl }) refl
     by (compacts.failed is same rose) = from _ same (record { opening = refl; origin = refl }) refl
     by (compacts.lacking is same kept) = from _ same (record { opening = refl; origin = refl }) refl
+
+-- what a compaction between lines leaves as it is
+module _ {K P : Type 0} (shown : K → ShownKeeper) (old new : Shown K P) (result : Result (Unit {0}) Exit)
+    (it : Shortens shown old new result) where
+  pub shortened_state : new.state ≡ old.state
+  shortened_state = by it where
+    by : Shortens shown old new result → new.state ≡ old.state
+    by (done same short is) = ap (λ (b : Shown K P). b.state) same
+    by (lacking same is) = ap (λ (b : Shown K P). b.state) same
+    by (failed same is) = ap (λ (b : Shown K P). b.state) same
+
+  pub shortened_entries : new.entries ≡ old.entries
+  shortened_entries = by it where
+    by : Shortens shown old new result → new.entries ≡ old.entries
+    by (done same short is) = ap (λ (b : Shown K P). b.entries) same
+    by (lacking same is) = ap (λ (b : Shown K P). b.entries) same
+    by (failed same is) = ap (λ (b : Shown K P). b.entries) same
+
+  pub shortened_opening : new.opening ≡ old.opening
+  shortened_opening = by it where
+    by : Shortens shown old new result → new.opening ≡ old.opening
+    by (done same short is) = ap (λ (b : Shown K P). b.opening) same
+    by (lacking same is) = ap (λ (b : Shown K P). b.opening) same
+    by (failed same is) = ap (λ (b : Shown K P). b.opening) same
+
+  -- where it went well
+  pub shortened_short : result ≡ Ok tt → (shown new.keeper).is_long ≡ false
+  shortened_short went = by it where
+    by : Shortens shown old new result → (shown new.keeper).is_long ≡ false
+    by (done same short is) = short
+    by (lacking same is) = cc
+    by (failed same is) = cc
+
+  pub shortened_halt : result ≡ Ok tt → new.halt ≡ old.halt
+  shortened_halt went = by it where
+    by : Shortens shown old new result → new.halt ≡ old.halt
+    by (done same short is) = ap (λ (b : Shown K P). b.halt) same
+    by (lacking same is) = cc
+    by (failed same is) = cc

@@ -13,14 +13,14 @@ use Rattle.converge_call.proofs.drive.drive.Given as goal
 abbrev pub invariant-loop-number : goal.invariant-loop-number
 invariant-loop-number g l = record {
   so : SoFar (streams (g.S.Source.left l.initial.source) (g.W.Sink.holds l.initial.sink))
-      (opening_of g.P.Provider.cloud l.fn.book.old)
+      (opening_of g.P.Provider.cloud l.fn.book)
       (first_stock (map (λ j. j.kind) l.registry.judges) (map (λ t. t.test) l.registry.customs))
       (stock (map (λ t. t.test) l.registry.customs) l.catalog)
       (page l.book.state l.book.entries) l.reader.held (g.S.Source.left l.source)
       (g.W.Sink.holds l.sink) l.reader.given l.number;
   reads : g.S.Source.faults l.initial.source ≤ g.S.Source.faults l.source;
   writes : g.W.Sink.faults l.initial.sink ≤ g.W.Sink.faults l.sink;
-  carried : Carries g.K.Keeper.shown g.P.Provider.cloud l.fn.book.old l.book;
+  carried : Carries g.K.Keeper.shown g.P.Provider.cloud l.fn.book l.book;
   unhalted : l.book.halt ≡ None;
   short : (g.K.Keeper.shown l.book.keeper).is_long ≡ false;
   goes_on : l.reader.goes_on ≡ true;
