@@ -14,6 +14,11 @@ use Rattle.driver.proofs.Leavings.{along_later, along_rest, leaves_step, leaves_
 use Rattle.converge_call.specs.Carrying.{Carries, LeavesOrNot, called, uncalled}
 use Rattle.converge_call.proofs.Noting.{append-none}
 
+-- a book's keeper recalls or doesn't, as it did
+pub recalls_same : {K P : Type 0} (shown : K → ShownKeeper) (old new : Shown K P) → IsSameBook old new
+    → (shown new.origin.keeper).recalls ≡ (shown old.origin.keeper).recalls
+recalls_same shown old new same = rw same.origin refl
+
 module _ {K P : Type 0} (shown : K → ShownKeeper) (cloud_of : P → Cloud) where
   -- what a crash may leave of what was done
   abbrev pub Along : Shown K P → Shown K P → Option Left → Type 0

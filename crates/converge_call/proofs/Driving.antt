@@ -13,7 +13,9 @@ use Rattle.heat_io.proofs.Streaming.{grown-grown}
 use Rattle.report.specs.Text.{text_of, text_after, told}
 use Rattle.report.proofs.Parts.{is_parted}
 use Rattle.book.specs.declared.halting.Halt.TheVariants as halted
-use Rattle.driver.specs.Quiet.{Page}
+use Rattle.record_keeper.specs.Shown.{ShownKeeper}
+use Rattle.driver.specs.Kept.{Shown}
+use Rattle.driver.specs.Quiet.{Page, page}
 use Rattle.converge_call.specs.declared.exit.Exit.{Exit}
 use Rattle.converge_call.specs.declared.exit.Exit.TheVariants as exit
 use Rattle.converge_call.specs.Lines.{LineDoes, LineBreaks, Serial}
@@ -26,7 +28,10 @@ use Rattle.type_catalog.specs.declared.kind.KindDef.{KindDef}
 use Rattle.converge_call.specs.Stocks as stocks
 use Rattle.converge_call.specs.Drives.{LineAnswered, LineEnd, Drove, EndsWriting, Streams, streams, Written}
 use Rattle.converge_call.specs.Drives as drives
+use Rattle.converge_call.specs.Shortening.{Shortens}
+use Rattle.converge_call.specs.Shortening as shortening
 use Rattle.converge_call.proofs.Noting.{append-none}
+use Rattle.converge_call.proofs.Shortening.{shortened_entries, shortened_state}
 use Rattle.converge_call.proofs.Sourcing.{IsAt, at_first, just_read}
 
 -- a drive so far, before the line of this number: what the reader holds, and what the source has left
@@ -183,3 +188,59 @@ module _ (old : Streams) (o : Opening) (first t : Stock) (recalls : Bool) (now :
     pub ends_uncompacted : JustRead old.left left_new so.lines → ends.halt ≡ Some halted.DiskFault
         → Drove o first recalls old (streams left_new holds) now.state now.entries ends exit.DiskFault
     ends_uncompacted read fault = drives.not_compacted so.lines so.serial read so.text fault refl
+
+-- what leaves the state and the history as they are leaves a drive so far as it is
+pub still_so : (old : Streams) (o : Opening) (first t : Stock) (now new : Page) (held : List ℕ)
+    (left holds : Option (List ℕ)) (given number : ℕ) → new.state ≡ now.state → new.entries ≡ now.entries
+    → SoFar old o first t now held left holds given number → SoFar old o first t new held left holds given number
+still_so old o first t now new held left holds given number same none so = record {
+  lines = so.lines;
+  serial = subst (λ (s : StateData). Serial o first so.lines s new.entries) (sym same)
+      (subst (λ (h : List Entry). Serial o first so.lines now.state h) (sym none) so.serial);
+  behind = so.behind;
+  count = so.count;
+  few = so.few;
+  within = so.within;
+  at = so.at;
+  text = so.text ∙ ap (λ (h : List Entry). grown old.holds (text_of o.state h)) (sym none);
+}
+
+-- the keeper couldn't be compacted
+pub ends_shortened : {K P : Type 0} (shown : K → ShownKeeper) (old : Streams) (o : Opening) (first t : Stock)
+    (recalls : Bool) (mid new : Shown K P) (held : List ℕ) (left holds : Option (List ℕ)) (given number : ℕ)
+    (ends : LineEnd) (status : Exit)
+    → SoFar old o first t (page mid.state mid.entries) held left holds given number → mid.halt ≡ None
+    → ends.halt ≡ new.halt → Shortens shown mid new (Err status)
+    → Drove o first recalls old (streams left holds) new.state new.entries ends status
+ends_shortened shown old o first t recalls mid new held left holds given number ends status so goes halts it =
+    by it where
+  still : SoFar old o first t (page new.state new.entries) held left holds given number
+  still = still_so old o first t (page mid.state mid.entries) (page new.state new.entries) held left holds given number
+      (shortened_state shown mid new (Err status) it) (shortened_entries shown mid new (Err status) it) so
+
+  read : JustRead old.left left so.lines
+  read = just_read old.left held left so.lines given so.at
+
+  abbrev Ended : Exit → Type 0
+  Ended why = Drove o first recalls old (streams left holds) new.state new.entries ends why
+
+  by : Shortens shown mid new (Err status) → Ended status
+  by (shortening.done same short is) = cc
+  by (shortening.lacking same is) =
+      let memory : status ≡ exit.Memory = cc in
+      subst Ended (sym memory) (ends_lacking old o first t recalls (page new.state new.entries) held left holds given
+      number still left ends read.first (halts ∙ ap (λ (b : Shown _ _). b.halt) same ∙ goes))
+  by (shortening.failed same is) =
+      let fault : status ≡ exit.DiskFault = cc in
+      subst Ended (sym fault) (ends_uncompacted old o first t recalls (page new.state new.entries) held left holds given
+      number still left ends read (halts ∙ ap (λ (b : Shown _ _). b.halt) same))
+
+-- no line was read
+pub ends_unbegun : (old : Streams) (o : Opening) (first : Stock) (recalls : Bool) (now : Page) (ends : LineEnd)
+    → now.state ≡ o.state → now.entries ≡ [] → ends.halt ≡ None
+    → Drove o first recalls old old now.state now.entries ends exit.Memory
+ends_unbegun old o first recalls now ends at_start none goes =
+    ends_lacking old o first first recalls now [] old.left old.holds 0 1 so old.left ends
+    (just_read old.left [] old.left [] 0 so.at).first goes where
+  so : SoFar old o first first now [] old.left old.holds 0 1
+  so = starts old o first first now [] 0 at_start none refl refl refl

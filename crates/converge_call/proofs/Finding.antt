@@ -16,7 +16,7 @@ found_in : (before : List Alive) (it : Alive) (behind : List Alive) (t : Token) 
     → IsSome (find (λ (a : Alive). same_token a.token t) (before ++ it ∷ behind))
 found_in [] it behind t is =
     let same : same_token it.token t ≡ true =
-        subst (λ (x : Token). same_token it.token x ≡ true) is (same_token-same it.token) in
+    subst (λ (x : Token). same_token it.token x ≡ true) is (same_token-same it.token) in
     rw same refl
 found_in (a ∷ before) it behind t is = by (same_token a.token t) refl where
   by : (b : Bool) → same_token a.token t ≡ b

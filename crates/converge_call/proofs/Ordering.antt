@@ -56,7 +56,7 @@ unmade_unkept r old new es why (unnoted un) = undone_unkept old new es why un
 unmade_unkept r old new es why (uncoded none state empty is) = record {
   state = state;
   none = empty;
-  cause = elim (unmade_is r) [ | inl memory ↦ inl (is ∙ memory) | inr fault ↦ inr (is ∙ fault) ];
+  cause = elim (unmade_is r) [ inl memory ↦ inl (is ∙ memory) | inr fault ↦ inr (is ∙ fault) ];
 }
 
 module _ {A : Type 0} (number : ℕ) (Is : List Change → List Entry → Type 0) (Refuses : Refusal → Type 0) (answer : A)

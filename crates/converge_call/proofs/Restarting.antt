@@ -130,9 +130,9 @@ module _ {K P : Type 0} (shown : K → ShownKeeper) (cloud_of : P → Cloud) (ol
       → IsHaltedBy shown faults_of cloud_of count old new w → Restarted (Err e)
   restart_broke faults_of before now goes w e is it =
       let mine = subst (λ (n : ℕ). of_book.RestartBreaks (shown old.keeper).recalls n (scene_of cloud_of old)
-          (scene_of cloud_of new) w) counted it.breaks in
+      (scene_of cloud_of new) w) counted it.breaks in
       let told = subst (λ (r : Bool). of_book.RestartBreaks r (length old.opening.live) (scene_of cloud_of old)
-          (scene_of cloud_of new) w) goes.recalls mine in
+      (scene_of cloud_of new) w) goes.recalls mine in
       broke [] e (record {
         before = cloud_of old.cloud;
         allowed = run.agrees;

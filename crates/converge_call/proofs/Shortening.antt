@@ -1,5 +1,5 @@
 -- What a compaction of the book came to.
-use Rattle.std.proofs.Common.{◌≡◌, ◌∙◌, refl, ap, Result, Ok, Err}
+use Rattle.std.proofs.Common.{◌≡◌, ◌⊎◌, ◌∙◌, inl, inr, refl, sym, ap, Result, Ok, Err}
 use Rattle.std.specs.Prelude.{None, false, ℕ}
 use Rattle.provider.specs.Cloud.{Cloud}
 use Rattle.record_keeper.specs.Calls.{GoesOn}
@@ -40,8 +40,10 @@ module _ {K P : Type 0} (shown : K → ShownKeeper) (faults_of : K → ℕ) wher
   compacted_carries cloud_of old new result before now run goes it leaves = by it where
     from : (x : Shown K P) → new ≡ x → IsSameBook old x → x.entries ≡ old.entries → Carries shown cloud_of old new
     from x is same grows = carries_compacted shown cloud_of old new before now run goes
-        (record { opening = ap (λ (b : Shown K P). b.opening) is ∙ same.opening;
-          origin = ap (λ (b : Shown K P). b.origin) is ∙ same.origin })
+        (record {
+          opening = ap (λ (b : Shown K P). b.opening) is ∙ same.opening;
+          origin = ap (λ (b : Shown K P). b.origin) is ∙ same.origin;
+        })
         (ap (λ (b : Shown K P). b.entries) is ∙ grows) leaves
 
     by : Compacts shown faults_of old new result → Carries shown cloud_of old new
@@ -87,3 +89,16 @@ module _ {K P : Type 0} (shown : K → ShownKeeper) (old new : Shown K P) (resul
     by (done same short is) = ap (λ (b : Shown K P). b.halt) same
     by (lacking same is) = cc
     by (failed same is) = cc
+
+-- for which causes alone it breaks off
+pub shortened_why : {K P : Type 0} (shown : K → ShownKeeper) (old new : Shown K P) (why : Exit)
+    → Shortens shown old new (Err why) → (why ≡ exit.Memory) ⊎ (why ≡ exit.DiskFault)
+shortened_why shown old new why (done same short is) = cc
+shortened_why shown old new why (lacking same is) = inl cc
+shortened_why shown old new why (failed same is) = inr cc
+
+-- it breaks off for want of memory or a fault of the disk
+pub shortened_never : {K P : Type 0} (shown : K → ShownKeeper) (old new : Shown K P) (why other : Exit)
+    → Shortens shown old new (Err why) → why ≡ other → (exit.Memory ≡ other → ⊥) → (exit.DiskFault ≡ other → ⊥) → ⊥
+shortened_never shown old new why other it same memory fault =
+    elim (shortened_why shown old new why it) [ inl is ↦ memory (sym is ∙ same) | inr is ↦ fault (sym is ∙ same) ]

@@ -16,5 +16,5 @@ returns c = λ workers old new opening it.
     let (none, sound) = empty_openings new workers it.opened.some it.opened.few found in (
       sym it.found.listed.stays.alive ∙ none,
       subst (λ (s : StateData). SoundAt s new) (sym (it.opened.opens
-      ∙ ap (λ (s : StateData). applied (restart_changes s workers) s) bare_is)) sound,
+          ∙ ap (λ (s : StateData). applied (restart_changes s workers) s) bare_is)) sound,
     )

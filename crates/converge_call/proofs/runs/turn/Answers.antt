@@ -49,7 +49,7 @@ returns-in-DiskFault-clause-done g c = turn_unkept c.args.number c.args.engine (
 pub returns-in-Stepped-clause-carries : goal.returns-in-Stepped-clause-carries
 returns-in-Stepped-clause-carries g c =
     let (es, grows) = turned_grows c.args.engine (scene_of g.P.Provider.cloud c.args.book.now)
-        (scene_of g.P.Provider.cloud c.turn.new.self) c.turn.result c.turn.ensures.turned in
+    (scene_of g.P.Provider.cloud c.turn.new.self) c.turn.result c.turn.ensures.turned in
     carries_step g.K.Keeper.shown g.P.Provider.cloud c.args.book.now c.turn.new.self es _ _ c.promises.ensures.run
     c.promises.ensures.held.goes_on c.turn.ensures.same grows c.turn.ensures.records
 
@@ -60,7 +60,7 @@ returns-in-Stepped-clause-halt g c = halts_else g.K.Keeper.faults _ _ c.args.boo
 pub returns-in-Worn-clause-carries : goal.returns-in-Worn-clause-carries
 returns-in-Worn-clause-carries g c =
     let (es, grows) = turned_grows c.args.engine (scene_of g.P.Provider.cloud c.args.book.now)
-        (scene_of g.P.Provider.cloud c.turn.new.self) c.turn.result c.turn.ensures.turned in
+    (scene_of g.P.Provider.cloud c.turn.new.self) c.turn.result c.turn.ensures.turned in
     carries_step g.K.Keeper.shown g.P.Provider.cloud c.args.book.now c.turn.new.self es _ _ c.promises.ensures.run
     c.promises.ensures.held.goes_on c.turn.ensures.same grows c.turn.ensures.records
 
@@ -71,7 +71,7 @@ returns-in-Worn-clause-halt g c = halts_else g.K.Keeper.faults _ _ c.args.book.n
 pub returns-in-Memory-clause-carries : goal.returns-in-Memory-clause-carries
 returns-in-Memory-clause-carries g c =
     let (es, grows) = turned_grows c.args.engine (scene_of g.P.Provider.cloud c.args.book.now)
-        (scene_of g.P.Provider.cloud c.turn.new.self) c.turn.result c.turn.ensures.turned in
+    (scene_of g.P.Provider.cloud c.turn.new.self) c.turn.result c.turn.ensures.turned in
     carries_step g.K.Keeper.shown g.P.Provider.cloud c.args.book.now c.turn.new.self es _ _ c.promises.ensures.run
     c.promises.ensures.held.goes_on c.turn.ensures.same grows c.turn.ensures.records
 
@@ -82,7 +82,7 @@ returns-in-Memory-clause-halt g c = halts_else g.K.Keeper.faults _ _ c.args.book
 pub returns-in-DiskFault-clause-carries : goal.returns-in-DiskFault-clause-carries
 returns-in-DiskFault-clause-carries g c =
     let (es, grows) = turned_grows c.args.engine (scene_of g.P.Provider.cloud c.args.book.now)
-        (scene_of g.P.Provider.cloud c.turn.new.self) c.turn.result c.turn.ensures.turned in
+    (scene_of g.P.Provider.cloud c.turn.new.self) c.turn.result c.turn.ensures.turned in
     carries_step g.K.Keeper.shown g.P.Provider.cloud c.args.book.now c.turn.new.self es _ _ c.promises.ensures.run
     c.promises.ensures.held.goes_on c.turn.ensures.same grows c.turn.ensures.records
 
@@ -93,7 +93,7 @@ returns-in-DiskFault-clause-halt g c = halts_by_fault g.K.Keeper.faults _ _ c.ar
 pub returns-in-Idle-clause-carries : goal.returns-in-Idle-clause-carries
 returns-in-Idle-clause-carries g c =
     let (es, grows) = turned_grows c.args.engine (scene_of g.P.Provider.cloud c.args.book.now)
-        (scene_of g.P.Provider.cloud c.turn.new.self) c.turn.result c.turn.ensures.turned in
+    (scene_of g.P.Provider.cloud c.turn.new.self) c.turn.result c.turn.ensures.turned in
     carries_then g.K.Keeper.shown g.P.Provider.cloud c.args.book.now c.turn.new.self c.turned.new.book
     (λ goes. c.turn.ensures.halt.same (λ f. let is = c.in-Idle.is in cc) ∙ goes)
     (carries_step g.K.Keeper.shown g.P.Provider.cloud c.args.book.now c.turn.new.self es _ _ c.promises.ensures.run
@@ -106,7 +106,7 @@ returns-in-Idle-clause-halt g c = halts_then _ _ _ _ (c.turn.ensures.halt.same (
 pub returns-in-Lost-clause-carries : goal.returns-in-Lost-clause-carries
 returns-in-Lost-clause-carries g c =
     let (es, grows) = turned_grows c.args.engine (scene_of g.P.Provider.cloud c.args.book.now)
-        (scene_of g.P.Provider.cloud c.turn.new.self) c.turn.result c.turn.ensures.turned in
+    (scene_of g.P.Provider.cloud c.turn.new.self) c.turn.result c.turn.ensures.turned in
     carries_then g.K.Keeper.shown g.P.Provider.cloud c.args.book.now c.turn.new.self c.turned-in-Lost.new.book
     (λ goes. c.turn.ensures.halt.same (λ f. let is = c.in-Lost.is in cc) ∙ goes)
     (carries_step g.K.Keeper.shown g.P.Provider.cloud c.args.book.now c.turn.new.self es _ _ c.promises.ensures.run
