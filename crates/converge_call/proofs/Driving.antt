@@ -214,26 +214,25 @@ pub ends_shortened : {K P : Type 0} (shown : K → ShownKeeper) (old : Streams) 
     → Drove o first recalls old (streams left holds) new.state new.entries ends status
 ends_shortened shown old o first t recalls mid new held left holds given number ends status so goes halts it =
     by it where
-  still : SoFar old o first t (page new.state new.entries) held left holds given number
-  still = still_so old o first t (page mid.state mid.entries) (page new.state new.entries) held left holds given number
-      (shortened_state shown mid new (Err status) it) (shortened_entries shown mid new (Err status) it) so
+      still : SoFar old o first t (page new.state new.entries) held left holds given number
+      still = still_so old o first t (page mid.state mid.entries) (page new.state new.entries) held left holds given number
+          (shortened_state shown mid new (Err status) it) (shortened_entries shown mid new (Err status) it) so
 
-  read : JustRead old.left left so.lines
-  read = just_read old.left held left so.lines given so.at
+      read : JustRead old.left left so.lines
+      read = just_read old.left held left so.lines given so.at
 
-  abbrev Ended : Exit → Type 0
-  Ended why = Drove o first recalls old (streams left holds) new.state new.entries ends why
-
-  by : Shortens shown mid new (Err status) → Ended status
-  by (shortening.done same short is) = cc
-  by (shortening.lacking same is) =
-      let memory : status ≡ exit.Memory = cc in
-      subst Ended (sym memory) (ends_lacking old o first t recalls (page new.state new.entries) held left holds given
-      number still left ends read.first (halts ∙ ap (λ (b : Shown _ _). b.halt) same ∙ goes))
-  by (shortening.failed same is) =
-      let fault : status ≡ exit.DiskFault = cc in
-      subst Ended (sym fault) (ends_uncompacted old o first t recalls (page new.state new.entries) held left holds given
-      number still left ends read (halts ∙ ap (λ (b : Shown _ _). b.halt) same))
+      by : Shortens shown mid new (Err status) → Drove o first recalls old (streams left holds) new.state new.entries ends status
+      by (shortening.done same short is) = cc
+      by (shortening.lacking same is) =
+          let memory : status ≡ exit.Memory = cc in
+          subst (λ (why : Exit). Drove o first recalls old (streams left holds) new.state new.entries ends why)
+          (sym memory) (ends_lacking old o first t recalls (page new.state new.entries) held left holds given
+          number still left ends read.first (halts ∙ ap (λ (b : Shown _ _). b.halt) same ∙ goes))
+      by (shortening.failed same is) =
+          let fault : status ≡ exit.DiskFault = cc in
+          subst (λ (why : Exit). Drove o first recalls old (streams left holds) new.state new.entries ends why)
+          (sym fault) (ends_uncompacted old o first t recalls (page new.state new.entries) held left holds given
+          number still left ends read (halts ∙ ap (λ (b : Shown _ _). b.halt) same))
 
 -- no line was read
 pub ends_unbegun : (old : Streams) (o : Opening) (first : Stock) (recalls : Bool) (now : Page) (ends : LineEnd)
@@ -242,5 +241,5 @@ pub ends_unbegun : (old : Streams) (o : Opening) (first : Stock) (recalls : Bool
 ends_unbegun old o first recalls now ends at_start none goes =
     ends_lacking old o first first recalls now [] old.left old.holds 0 1 so old.left ends
     (just_read old.left [] old.left [] 0 so.at).first goes where
-  so : SoFar old o first first now [] old.left old.holds 0 1
-  so = starts old o first first now [] 0 at_start none refl refl refl
+      so : SoFar old o first first now [] old.left old.holds 0 1
+      so = starts old o first first now [] 0 at_start none refl refl refl

@@ -7,13 +7,16 @@ use Rattle.core_state.specs.declared.entry.Entry.{Entry}
 use Rattle.provider.specs.Cloud.{Cloud}
 use Rattle.step_relation.specs.Opening.{Opening}
 use Rattle.step_relation.specs.Runs.{Run, begins}
+use Rattle.record_keeper.specs.Calls.{GoesOn}
 use Rattle.record_keeper.specs.Laws.{IsLawful}
 use Rattle.record_keeper.specs.Shown.{Left, LeavesOnly, ShownKeeper, StandsFor, at_rest}
 use Rattle.book.specs.Halts.{IsHaltedAs}
 use Rattle.book.specs.declared.halting.Halt.{Halt}
 use Rattle.book.specs.declared.halting.Halt.TheVariants as halted
-use Rattle.driver.specs.Kept.{IsHeld, Shown, opening_of, registries}
+use Rattle.book.specs.declared.restarting.Unrestarted.{Unrestarted}
+use Rattle.driver.specs.Kept.{IsOpenedFrom, IsSameBook, Shown, opening_of, registries}
 use Rattle.driver.specs.Leaving.{IsLeftAlong}
+use Rattle.driver.specs.Openings.{HasImageListed, HasOpened, WhyUnopened}
 use Rattle.driver.specs.Scenes.{scene_of}
 use Rattle.driver.proofs.Leavings.{along_rest, leaves_still, same_opening}
 use Rattle.converge_call.specs.declared.exit.Exit.{Exit}
@@ -21,7 +24,8 @@ use Rattle.converge_call.specs.declared.exit.Exit.TheVariants as exit
 use Rattle.converge_call.specs.Carrying.{Carries, LeavesOrNot, called, uncalled}
 use Rattle.converge_call.specs.Stocks.{Stock}
 use Rattle.converge_call.specs.Drives.{Drove, Streams, line_end, streams}
-use Rattle.converge_call.specs.Ends.{HasDriven, first_scene, outside}
+use Rattle.converge_call.specs.Exits.{exit_of}
+use Rattle.converge_call.specs.Ends.{HasDriven, IsUnopened, OpensWith, by_opening, first_scene, outside}
 use Rattle.converge_call.specs.Promises.{Promises}
 use Rattle.converge_call.proofs.Completing.{calm_end}
 use Rattle.converge_call.proofs.Stopping.{drive_stops}
@@ -68,14 +72,13 @@ module _ {K P : Type 0} (shown : K → ShownKeeper) (cloud_of : P → Cloud) (f 
       → IsTrue (shown b.origin.keeper).tells → LeavesOnly (shown b.origin.keeper) (shown b.keeper) Whole
   inside may_open lawful tells =
       subst (λ (k : K). LeavesOnly (shown k) (shown b.keeper) Whole) (sym origin_is)
-      (by (carried.leaves fresh.unhalted (subst (λ (k : K). IsTrue (shown k).tells) (origin_is ∙ fresh.keeper) tells)))
-  where
-    by : LeavesOrNot shown cloud_of f b → LeavesOnly (shown f.keeper) (shown b.keeper) Whole
-    by (uncalled same) = subst (λ (k : K). LeavesOnly (shown f.keeper) (shown k) Whole) (sym same)
-        (leaves_still may_open (shown f.keeper) Whole lawful
-        (subst (λ (k : K). IsTrue (shown k).tells) origin_is tells) f.state fresh.stands
-        (rests (Some (at_rest f.state)) refl))
-    by (called k) = widened k
+      (by (carried.leaves fresh.unhalted (subst (λ (k : K). IsTrue (shown k).tells) (origin_is ∙ fresh.keeper) tells))) where
+        by : LeavesOrNot shown cloud_of f b → LeavesOnly (shown f.keeper) (shown b.keeper) Whole
+        by (uncalled same) = subst (λ (k : K). LeavesOnly (shown f.keeper) (shown k) Whole) (sym same)
+            (leaves_still may_open (shown f.keeper) Whole lawful
+            (subst (λ (k : K). IsTrue (shown k).tells) origin_is tells) f.state fresh.stands
+            (rests (Some (at_rest f.state)) refl))
+        by (called k) = widened k
 
 module _ {K P : Type 0} (shown : K → ShownKeeper) (faults_of : K → ℕ) (cloud_of : P → Cloud) (t : Stock)
     (f b : Shown K P) (fresh : IsFresh shown f) (carried : Carries shown cloud_of f b)
@@ -135,29 +138,65 @@ pub from_before : (t : Stock) (origin keeper : ShownKeeper) (first last : _) (ha
     (outside left_new reads_new holds_new writes_new now) status
 from_before t origin keeper first last halt left left_new holds holds_new reads reads_new writes writes_new before faults
     now status le it = record {
-  drove = it.drove;
-  read = it.read;
-  write = it.write;
-  disk = λ is. rises (it.disk is);
-  halts = it.halts;
-  short = it.short;
-  inside = it.inside;
-  calm = λ calm. it.calm (record {
-    read = calm.read;
-    write = calm.write;
-    disk = λ rose. calm.disk (rises rose);
-    listed = calm.listed;
-    within = calm.within;
-    unworn = calm.unworn;
-    engines = calm.engines;
-    recalls = calm.recalls;
-    sound = calm.sound;
-  });
-  run = it.run;
-  agrees = it.agrees;
-  trace = it.trace;
-  sound = it.sound;
-  headline = it.headline;
-} where
-  rises : Rose faults now → Rose before now
-  rises rose = grind (arith, le, rose)
+      drove = it.drove;
+      read = it.read;
+      write = it.write;
+      disk = λ is. rises (it.disk is);
+      halts = it.halts;
+      short = it.short;
+      inside = it.inside;
+      calm = λ calm. it.calm (record {
+        read = calm.read;
+        write = calm.write;
+        disk = λ rose. calm.disk (rises rose);
+        listed = calm.listed;
+        within = calm.within;
+        unworn = calm.unworn;
+        engines = calm.engines;
+        recalls = calm.recalls;
+        sound = calm.sound;
+      });
+      run = it.run;
+      agrees = it.agrees;
+      trace = it.trace;
+      sound = it.sound;
+      headline = it.headline;
+    } where
+      rises : Rose faults now → Rose before now
+      rises rose = grind (arith, le, rose)
+
+-- what isn't halted isn't halted for a fault of the disk
+pub halted_not : (h : Option Halt) → h ≡ None → h ≡ Some halted.DiskFault → ⊥
+halted_not h none some = cc
+
+-- a book opens as it did, over what was found
+pub opened_with : {K P : Type 0} (may_open : StateData → Type 0) (cloud_of : P → Cloud) (workers : ℕ) (cloud : P)
+    (f b : Shown K P) → IsSameBook f b → HasOpened may_open cloud_of workers cloud f
+    → OpensWith may_open workers (cloud_of cloud) (cloud_of b.origin.cloud) b.opening
+opened_with may_open cloud_of workers cloud f b same has =
+    rw (same.opening, same.origin) (opens_with (cloud_of f.origin.cloud) f.opening has.found has.opened) where
+      opens_with : (new : Cloud) (opening : StateData) (found : HasImageListed may_open (cloud_of cloud) new)
+          → IsOpenedFrom found.image opening new workers → OpensWith may_open workers (cloud_of cloud) new opening
+      opens_with new opening found opened = record { found = found; opened = opened }
+
+-- the keeper has gone on from before the opening
+pub opened_over : {K P : Type 0} (shown : K → ShownKeeper) (faults_of : K → ℕ) (keeper : K) (f b : Shown K P)
+    → IsSameBook f b
+    → GoesOn (shown keeper) (shown f.origin.keeper) (faults_of keeper) (faults_of f.origin.keeper)
+    → GoesOn (shown keeper) (shown b.origin.keeper) (faults_of keeper) (faults_of b.origin.keeper)
+opened_over shown faults_of keeper f b same it = rw same.origin it
+
+-- no book was opened, for this
+pub unopened_by : {K P : Type 0} (may_open : K → StateData → Type 0) (shown : K → ShownKeeper) (faults_of : K → ℕ)
+    (cloud_of : P → Cloud) (workers : ℕ) (old new k : K) (cloud left p : P) (why : Unrestarted) (status : Exit)
+    → new ≡ k → left ≡ p
+    → WhyUnopened (may_open old) (shown old).recalls (shown new).is_old workers (faults_of old) (faults_of new)
+    (cloud_of cloud) (cloud_of left) why → status ≡ exit_of why
+    → IsUnopened may_open shown faults_of cloud_of (λ n. n ≡ workers) (record { keeper = old; cloud = cloud })
+    (record { keeper = k; cloud = p }) status
+unopened_by may_open shown faults_of cloud_of workers old new k cloud left p why status same given it is =
+    by_opening workers why refl
+    (subst (λ (x : _). WhyUnopened (may_open old) (shown old).recalls (shown x).is_old workers (faults_of old)
+    (faults_of x) (cloud_of cloud) (cloud_of p) why) same
+    (subst (λ (x : _). WhyUnopened (may_open old) (shown old).recalls (shown new).is_old workers (faults_of old)
+    (faults_of new) (cloud_of cloud) (cloud_of x) why) given it)) is
