@@ -25,7 +25,8 @@ use Rattle.converge_call.specs.Carrying.{Carries, LeavesOrNot, called, uncalled}
 use Rattle.converge_call.specs.Stocks.{Stock}
 use Rattle.converge_call.specs.Drives.{Drove, Streams, line_end, streams}
 use Rattle.converge_call.specs.Exits.{exit_of}
-use Rattle.converge_call.specs.Ends.{HasDriven, IsUnopened, OpensWith, by_opening, first_scene, outside}
+use Rattle.converge_call.specs.Ends.{Around, HasDriven, IsUnopened, OpensWith, by_memory, by_opening, by_words}
+use Rattle.converge_call.specs.Ends.{first_scene, outside}
 use Rattle.converge_call.specs.Promises.{Promises}
 use Rattle.converge_call.proofs.Completing.{calm_end}
 use Rattle.converge_call.proofs.Stopping.{drive_stops}
@@ -200,3 +201,21 @@ unopened_by may_open shown faults_of cloud_of workers old new k cloud left p why
     (faults_of x) (cloud_of cloud) (cloud_of p) why) same
     (subst (λ (x : _). WhyUnopened (may_open old) (shown old).recalls (shown new).is_old workers (faults_of old)
     (faults_of new) (cloud_of cloud) (cloud_of x) why) given it)) is
+
+abbrev around : {K P : Type 0} → K → P → Around K P
+around keeper cloud = record { keeper = keeper; cloud = cloud }
+
+-- keeper and cloud as they were
+pub around_same : {K P : Type 0} (keeper k : K) (cloud p : P) → keeper ≡ k → cloud ≡ p
+    → around k p ≡ around keeper cloud
+around_same keeper k cloud p same given = rw (same, given) refl
+
+-- so many engines are also what is asked for otherwise
+pub asked_more : {K P : Type 0} (may_open : K → StateData → Type 0) (shown : K → ShownKeeper) (faults_of : K → ℕ)
+    (cloud_of : P → Cloud) (A B : ℕ → Type 0) (old new : Around K P) (status : Exit) → ((n : ℕ) → A n → B n)
+    → IsUnopened may_open shown faults_of cloud_of A old new status
+    → IsUnopened may_open shown faults_of cloud_of B old new status
+asked_more may_open shown faults_of cloud_of A B old new status more (by_words is same) = by_words is same
+asked_more may_open shown faults_of cloud_of A B old new status more (by_memory is same) = by_memory is same
+asked_more may_open shown faults_of cloud_of A B old new status more (by_opening workers why asks unopened is) =
+    by_opening workers why (more workers asks) unopened is

@@ -24,11 +24,11 @@ holds_few old mid new count at within rest kept last = elim (end_or_none old) [
   | inl none ↦ inl (let few = last none in let size = ap length rest in let cut = length-drop (count + 1) mid in
       omega (arith, at, within, few, size, cut))
   | inr some ↦ inr (
-      take (count + 1) old,
-      sym (take-append-drop (count + 1) old)
-      ∙ ap (λ (xs : List ℕ). take (count + 1) old ++ xs)
-      (sym (rest ∙ ap (λ (xs : List ℕ). drop (count + 1) xs) (kept some))),
-    )
+    take (count + 1) old,
+    sym (take-append-drop (count + 1) old)
+        ∙ ap (λ (xs : List ℕ). take (count + 1) old ++ xs)
+        (sym (rest ∙ ap (λ (xs : List ℕ). drop (count + 1) xs) (kept some))),
+  )
 ]
 
 -- nothing is held

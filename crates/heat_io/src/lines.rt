@@ -1,5 +1,5 @@
 //! A script read line by line, with at most one line and one read held at a time.
-ghost use Rattle.std.specs.Prelude.{◌≡◌, ◌≢◌, ◌<◌, ◌≤◌, ℕ, List, [], ◌++◌, IsTrue, true, length, take, drop};
+ghost use Rattle.std.specs.Prelude.{◌≡◌, ◌≢◌, ◌<◌, ◌+◌, ◌≤◌, ℕ, List, [], ◌++◌, IsTrue, true, length, take, drop};
 ghost use Rattle.std.specs.Io.BufRead.{strip_last};
 ghost use Rattle.heat_value.specs.Counts.{Rose};
 ghost use Rattle.heat_io.specs.Streams.{ahead};

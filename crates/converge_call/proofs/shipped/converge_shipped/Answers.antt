@@ -8,9 +8,10 @@ use Rattle.record_keeper.specs.Shown.{ShownKeeper}
 use Rattle.book.specs.declared.halting.Halt.{Halt}
 use Rattle.driver.specs.Scenes.{Scene}
 use Rattle.converge_call.specs.declared.exit.Exit.{Exit}
-use Rattle.converge_call.specs.Ends.{HasDriven, Outside}
+use Rattle.converge_call.specs.Ends.{HasDriven, Outside, by_memory}
 use Rattle.converge_call.specs.Stocks.{Stock, first_stock}
 use Rattle.converge_call.specs.Shipped.{shipped_stock}
+use Rattle.converge_call.proofs.Handing.{around_same}
 use Rattle.converge_call.proofs.shipped.converge_shipped.Goals as goal
 
 first_is : (kinds : List KindDef) (tests : List NamedTest) → kinds ≡ box_kind ∷ [] → tests ≡ flavor_test ∷ []
@@ -28,3 +29,15 @@ returns-in-Ok-shipped_registry-clause-driven g c b is =
     driven_from _ _ _ _ _ _ _ _ _ _
     (first_is _ _ c.in-Ok-shipped_registry.ensures.judges c.in-Ok-shipped_registry.ensures.customs)
     (c.converge.ensures.driven b is)
+
+pub returns-in_default-clause-unopened : goal.returns-in_default-clause-unopened
+returns-in_default-clause-unopened g c k p is = by_memory c.unopened.ensures.status
+    (around_same _ _ _ _ (let both = c.unopened.ensures.end in cc) (let both = c.unopened.ensures.end in cc))
+
+pub returns-in_default-2-clause-unopened : goal.returns-in_default-2-clause-unopened
+returns-in_default-2-clause-unopened g c k p is = by_memory c.unopened.ensures.status
+    (around_same _ _ _ _ (let both = c.unopened.ensures.end in cc) (let both = c.unopened.ensures.end in cc))
+
+pub returns-in-Err-clause-unopened : goal.returns-in-Err-clause-unopened
+returns-in-Err-clause-unopened g c k p is = by_memory c.unopened.ensures.status
+    (around_same _ _ _ _ (let both = c.unopened.ensures.end in cc) (let both = c.unopened.ensures.end in cc))
