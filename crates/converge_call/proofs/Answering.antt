@@ -21,7 +21,6 @@ use Rattle.converge_call.specs.declared.exit.Exit.TheVariants as exit
 use Rattle.converge_call.specs.Exits.{exit_of}
 use Rattle.converge_call.specs.Notes.{HasDone, IsUndone, IsUnkept}
 use Rattle.converge_call.specs.Notes as notes
-use Rattle.converge_call.specs.Restarts.{RestartBreaks}
 use Rattle.converge_call.specs.Runs.{RunBreaks, TurnBreaks, break_of}
 use Rattle.converge_call.specs.Runs as runs
 use Rattle.converge_call.specs.Lines.{AskedBreaks, LineDoes, LineBreaks}

@@ -1,6 +1,6 @@
 -- What came in the way of a drive that didn't end well.
-use Rattle.std.proofs.Common.{◌≡◌, ◌⊎◌, inl, inr, ◌+◌, ◌<◌, ◌≤◌, ◌^◌, ℕ, List, [], ◌++◌, Option, refl, sym, ap, ◌∙◌, subst, arith, length}
-use Rattle.std.specs.Prelude.{Bool, IsTrue, None, Some}
+use Rattle.std.proofs.Common.{◌≡◌, ◌⊎◌, inl, inr, ◌+◌, ◌≤◌, ◌^◌, ℕ, List, [], Option, refl, sym, subst, arith, length}
+use Rattle.std.specs.Prelude.{Bool, IsTrue}
 use Rattle.heat_value.specs.Counts.{Rose}
 use Rattle.core_state.specs.declared.entry.Entry.{Entry}
 use Rattle.core_state.specs.State.{StateData}
@@ -25,7 +25,7 @@ use Rattle.driver.specs.declared.ran.Ran.{Ran}
 use Rattle.converge_call.specs.declared.exit.Exit.{Exit}
 use Rattle.converge_call.specs.declared.exit.Exit.TheVariants as exit
 use Rattle.converge_call.specs.Exits.{exit_of}
-use Rattle.converge_call.specs.Notes.{IsUndone, IsUnkept}
+use Rattle.converge_call.specs.Notes.{IsUndone}
 use Rattle.converge_call.specs.Restarts.{RestartBreaks}
 use Rattle.converge_call.specs.Runs.{RunBreaks, TurnBreaks, break_of}
 use Rattle.converge_call.specs.Runs as runs
@@ -33,7 +33,7 @@ use Rattle.converge_call.specs.Lines.{AskedBreaks, LineBreaks}
 use Rattle.converge_call.specs.Lines as lines
 use Rattle.converge_call.specs.Stocks.{Stock}
 use Rattle.converge_call.specs.Sources.{LimitRead, StaysWithin}
-use Rattle.converge_call.specs.Drives.{EndsWriting, LineEnd, Drove, line_end}
+use Rattle.converge_call.specs.Drives.{Drove, line_end}
 use Rattle.converge_call.specs.Drives as drives
 use Rattle.converge_call.specs.Ends.{Outside, streams_of, HasFailedList, IsCalm, EndsCalmly, opening_in}
 use Rattle.converge_call.proofs.Finding.{found_not}

@@ -1,5 +1,5 @@
 -- A drive so far, and how each line takes it on or ends it.
-use Rattle.std.proofs.Common.{◌≡◌, inl, inr, ◌<◌, ◌≤◌, ◌+◌, ℕ, List, [], ◌∷◌, ◌++◌, Option, Some, None, length}
+use Rattle.std.proofs.Common.{◌≡◌, ◌<◌, ◌≤◌, ◌+◌, ℕ, List, [], ◌∷◌, ◌++◌, Option, Some, None, length}
 use Rattle.std.proofs.Common.{take, drop, refl, sym, ap, ◌∙◌, subst, Result, Ok, Err, arith}
 use Rattle.std.specs.Prelude.{Bool}
 use Rattle.std.proofs.Math.Seq.{take-append_seam}

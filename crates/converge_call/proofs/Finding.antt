@@ -1,12 +1,12 @@
 -- What a comparison finds, it doesn't find where it finds nothing.
-use Rattle.std.proofs.Common.{◌≡◌, List, ◌∷◌, ◌++◌, [], Some, refl, sym, ap, subst, true, false}
+use Rattle.std.proofs.Common.{◌≡◌, List, ◌∷◌, ◌++◌, [], Some, refl, sym, subst, true, false}
 use Rattle.std.specs.Prelude.{Bool, IsSome, find, option_map}
 use Rattle.heat_plan.specs.declared.token.Token.{Token}
 use Rattle.provider.specs.Same.{same_token}
 use Rattle.provider.specs.declared.alive.Alive.{Alive}
 use Rattle.provider.proofs.Sames.{same_token-same}
 use Rattle.step_relation.specs.Compared.{FindsNothing, FindsStranger, IsFirstUnlisted}
-use Rattle.step_relation.specs.Opening.{Opening, first_of}
+use Rattle.step_relation.specs.Opening.{Opening}
 use Rattle.opening_check.specs.Findings.{HasFound}
 use Rattle.opening_check.specs.declared.finding.Finding.{Finding}
 use Rattle.opening_check.specs.declared.finding.Finding.TheVariants.{Differs, Missing, Stranger}

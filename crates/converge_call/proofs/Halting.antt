@@ -1,5 +1,5 @@
 -- What halts a book behind a part of a line, alone and behind another part.
-use Rattle.std.proofs.Common.{◌≡◌, ◌≢◌, List, refl, sym, ap, ◌∙◌, Result, Ok, Err}
+use Rattle.std.proofs.Common.{◌≡◌, ◌≢◌, List, refl, sym, ap, ◌∙◌, Result, Err}
 use Rattle.std.specs.Prelude.{None, Option, Some, ℕ}
 use Rattle.heat_plan.specs.Refusals.{code_of}
 use Rattle.heat_plan.specs.declared.refusal.Refusal.{Refusal}

@@ -23,7 +23,7 @@ use Rattle.converge_call.specs.declared.exit.Exit.{Exit}
 use Rattle.converge_call.specs.declared.exit.Exit.TheVariants as exit
 use Rattle.converge_call.specs.Carrying.{Carries, LeavesOrNot, called, uncalled}
 use Rattle.converge_call.specs.Stocks.{Stock}
-use Rattle.converge_call.specs.Drives.{Drove, Streams, line_end, streams}
+use Rattle.converge_call.specs.Drives.{Drove, line_end, streams}
 use Rattle.converge_call.specs.Exits.{exit_of}
 use Rattle.converge_call.specs.Ends.{Around, HasDriven, IsUnopened, OpensWith, by_memory, by_opening, by_words}
 use Rattle.converge_call.specs.Ends.{first_scene, outside}

@@ -1,7 +1,7 @@
 -- What a restart came to, as the line's; and how many engines were live at the opening.
 use Rattle.std.proofs.Common.{◌≡◌, inl, inr, ◌+◌, ◌≤◌, ℕ, zero, suc, List, [], ◌∷◌, ◌++◌, length, map}
 use Rattle.std.proofs.Common.{refl, sym, ap, ◌∙◌, subst, arith, length-append, Result, Ok, Err}
-use Rattle.std.specs.Prelude.{Bool, Contains, None, Option, Some}
+use Rattle.std.specs.Prelude.{Bool, Contains, Some}
 use Rattle.next_laws.proofs.Listings.{cons_cases, in_head, no_member}
 use Rattle.provider.specs.Cloud.{Cloud}
 use Rattle.core_state.specs.Changes.{applied, apply}

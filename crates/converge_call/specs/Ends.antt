@@ -1,9 +1,8 @@
 -- What the top call comes to: of a book that was opened, and where none was.
-use Rattle.std.specs.Prelude.{◌≡◌, ◌≢◌, ◌⊎◌, ◌↔◌, ◌+◌, ◌^◌, ◌≤◌, ◌++◌, ◌∷◌, [], Bool, IsTrue, ℕ, List, Option, Some}
+use Rattle.std.specs.Prelude.{◌≡◌, ◌⊎◌, ◌↔◌, ◌+◌, ◌^◌, ◌≤◌, ◌++◌, ◌∷◌, [], Bool, IsTrue, ℕ, List, Option, Some}
 use Rattle.std.specs.Prelude.{false, length}
 use Rattle.heat_value.specs.Counts.{Rose}
 use Rattle.core_state.specs.State.{StateData}
-use Rattle.core_state.specs.declared.entry.Entry.{Entry}
 use Rattle.provider.specs.Cloud.{Cloud}
 use Rattle.provider.specs.declared.traced.Listing.TheVariants as listing
 use Rattle.provider.specs.declared.traced.Traced.{Traced}
@@ -21,7 +20,7 @@ use Rattle.book.specs.declared.restarting.Unrestarted.{Unrestarted}
 use Rattle.driver.specs.Kept.{IsOpenedFrom, IsTraced, Shown, registries}
 use Rattle.driver.specs.Leaving.{IsLeftAlong}
 use Rattle.driver.specs.Openings.{HasImageListed, WhyUnopened}
-use Rattle.driver.specs.Scenes.{Scene, scene, scene_of}
+use Rattle.driver.specs.Scenes.{Scene, scene}
 use Rattle.driver.specs.Turned.{IsWornBy}
 use Rattle.converge_call.specs.declared.exit.Exit.{Exit}
 use Rattle.converge_call.specs.declared.exit.Exit.TheVariants as exit

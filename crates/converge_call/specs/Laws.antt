@@ -1,5 +1,5 @@
 -- What holds of a call over a keeper that keeps nothing.
-use Rattle.std.specs.Prelude.{List, [], ℕ, ◌≡◌}
+use Rattle.std.specs.Prelude.{[], ℕ, ◌≡◌}
 use Rattle.core_state.specs.State.{StateData}
 use Rattle.provider.specs.Cloud.{Cloud}
 use Rattle.step_relation.specs.Laws.{SoundAt}

@@ -1,5 +1,5 @@
 -- What a drive makes of a keeper that is long.
-use Rattle.std.specs.Prelude.{None, Ok, Err, Result, Some, false, ◌≡◌}
+use Rattle.std.specs.Prelude.{Ok, Err, Result, Some, false, ◌≡◌}
 use Rattle.record_keeper.specs.Shown.{ShownKeeper}
 use Rattle.driver.specs.Kept.{Shown}
 use Rattle.book.specs.declared.halting.Halt.TheVariants as halt

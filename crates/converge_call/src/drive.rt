@@ -1,5 +1,5 @@
 //! Reads a script line by line, does each, and writes what it added to the text.
-ghost use Rattle.std.specs.Prelude.{◌≡◌, ◌≢◌, ◌≤◌, [], false, None, Some, OnOk, take, length, map, IsErrOf};
+ghost use Rattle.std.specs.Prelude.{◌≡◌, ◌≤◌, [], false, None, OnOk, take, length, map, IsErrOf};
 ghost use Rattle.heat_value.specs.Counts.{Rose};
 ghost use Rattle.report.specs.Seen.{seen_of};
 ghost use Rattle.report.specs.Text.{seen_after, text_after};
@@ -8,7 +8,6 @@ ghost use Rattle.driver.specs.Quiet.{page};
 ghost use Rattle.converge_call.specs.Carrying.{Carries};
 ghost use Rattle.converge_call.specs.Drives.{line_end, streams, Drove, LineAnswered, Written};
 ghost use Rattle.converge_call.specs.Stocks.{stock, first_stock, CatalogBehind};
-ghost use Rattle.converge_call.specs.Shortening.{Shortens};
 
 use crate::exit::Exit;
 use crate::line::do_line;

@@ -1,5 +1,5 @@
 -- A restart that was made, and one that was refused.
-use Rattle.std.proofs.Common.{◌∙◌, [], ◌∷◌, ap, refl, sym}
+use Rattle.std.proofs.Common.{◌∙◌, [], ◌∷◌, ap, sym}
 use Rattle.book.specs.Restarts.{restart_entry}
 use Rattle.converge_call.specs.Halting.{halt_refused}
 use Rattle.converge_call.proofs.Carrying.{carries_step}

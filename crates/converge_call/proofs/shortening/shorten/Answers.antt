@@ -1,5 +1,5 @@
 -- A keeper that isn't long, one that was compacted, and one that wasn't.
-use Rattle.std.proofs.Common.{ap, refl}
+use Rattle.std.proofs.Common.{refl}
 use Rattle.converge_call.specs.Shortening.{done}
 use Rattle.converge_call.proofs.Carrying.{carries_none}
 use Rattle.converge_call.proofs.Shortening.{compacted_carries, compacted_done, compacted_failed, compacted_lacks}

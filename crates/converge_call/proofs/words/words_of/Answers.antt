@@ -1,8 +1,7 @@
 -- The form that the words are, or that they are none; and that they are one at most.
-use Rattle.std.proofs.Common.{◌≡◌, ◌≤◌, ◌∷◌, ◌∙◌, ℕ, List, ap, subst, refl}
+use Rattle.std.proofs.Common.{◌∷◌, ◌∙◌, ℕ, List, ap, refl}
 use Rattle.converge_call.specs.Words.{setup_for}
 use Rattle.converge_call.specs.Choices.{said_of}
-use Rattle.converge_call.specs.declared.setup.Setup.{Setup}
 use Rattle.converge_call.specs.declared.setup.Mode.TheVariants.{Drive}
 use Rattle.converge_call.proofs.Wording.{form_one, no_form, drives_few}
 use Rattle.converge_call.proofs.words.words_of.Goals as goal
