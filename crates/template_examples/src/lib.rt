@@ -14,6 +14,8 @@ mod forms;
 #[cfg(test)]
 mod functions;
 #[cfg(test)]
+mod levels;
+#[cfg(test)]
 mod limits;
 #[cfg(test)]
 mod lines;
