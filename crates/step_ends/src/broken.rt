@@ -1,5 +1,5 @@
 //! A resource that is broken, told by the turn of a poll that failed: what was laid out for it serves.
-ghost use Rattle.std.specs.Prelude.{◌≡◌, IfOk};
+ghost use Rattle.std.specs.Prelude.{◌≡◌, IfOk, option_map, unwrap_or};
 ghost use Rattle.step_ends.specs.Broken.{IsBrokenOf, entries_broken, entry_broken, what_broken};
 ghost use Rattle.step_ends.specs.Broken.{cause_broken, why_broken};
 
@@ -37,75 +37,64 @@ fn broken_entries(
 fn broken_entry(entry: Entry, code: &Text) -> Result<Entry, AllocError>
     ensures { IfOk result (λ told. told ≡ entry_broken code.now entry) }
 {
-    let Entry { by, what } = entry;
-    let what = broken_what(what, code)?;
-    Ok(Entry { by, what })
+    match broken_what(&entry.what, code)? {
+        Some(what) => Ok(Entry { by: entry.by, what }),
+        None => Ok(entry),
+    }
 }
 
-// What it tells.
-fn broken_what(what: What, code: &Text) -> Result<What, AllocError>
-    ensures { IfOk result (λ told. told ≡ what_broken code.now what) }
+// What it tells, where that is another.
+fn broken_what(what: &What, code: &Text) -> Result<Option<What>, AllocError>
+    ensures { IfOk result (λ told. unwrap_or told what.now ≡ what_broken code.now what.now) }
 {
     match what {
-        What::Call {
-            token,
-            request,
-            answer: _,
-        } => {
-            let answer = Answered::Broken(code.copy()?);
-            Ok(What::Call {
-                token,
-                request,
-                answer,
-            })
-        }
+        What::Call { token, request, .. } => Ok(Some(What::Call {
+            token: token.copy()?,
+            request: request.copy()?,
+            answer: Answered::Broken(code.copy()?),
+        })),
         What::Mark {
             stack,
             trav,
             act,
             cause,
-        } => {
-            let cause = broken_cause(cause, code)?;
-            Ok(What::Mark {
-                stack,
-                trav,
-                act,
-                cause,
-            })
+        } => Ok(Some(What::Mark {
+            stack: stack.copy()?,
+            trav: *trav,
+            act: *act,
+            cause: broken_cause(cause.as_ref(), code)?,
+        })),
+        What::Command { .. } | What::Release { .. } | What::Rows { .. } | What::Mail { .. } => {
+            Ok(None)
         }
-        What::Command { .. }
-        | What::Release { .. }
-        | What::Rows { .. }
-        | What::Mail { .. }
-        | What::Engine { .. }
-        | What::Show { .. }
-        | What::Note { .. }
-        | What::Ran { .. }
-        | What::Turned { .. }
-        | What::Preview { .. }
-        | What::Closed => Ok(what),
+        What::Engine { .. } | What::Show { .. } | What::Note { .. } | What::Ran { .. } => Ok(None),
+        What::Turned { .. } | What::Preview { .. } | What::Closed => Ok(None),
     }
 }
 
 // A mark's cause, if it has one.
-fn broken_cause(cause: Option<Cause>, code: &Text) -> Result<Option<Cause>, AllocError>
-    ensures { IfOk result (λ told. told ≡ cause_broken code.now cause) }
+fn broken_cause(cause: Option<&Cause>, code: &Text) -> Result<Option<Cause>, AllocError>
+    ensures { IfOk result (λ told. told
+        ≡ cause_broken code.now (option_map (λ c. c.now) cause.entry)) }
 {
     match cause {
-        Some(Cause { name, row, why }) => {
-            let why = broken_why(why, code)?;
-            Ok(Some(Cause { name, row, why }))
-        }
+        Some(cause) => Ok(Some(Cause {
+            name: cause.name.copy()?,
+            row: cause.row,
+            why: broken_why(&cause.why, code)?,
+        })),
         None => Ok(None),
     }
 }
 
 // Why the traversal failed.
-fn broken_why(why: Why, code: &Text) -> Result<Why, AllocError>
-    ensures { IfOk result (λ told. told ≡ why_broken code.now why) }
+fn broken_why(why: &Why, code: &Text) -> Result<Why, AllocError>
+    ensures { IfOk result (λ told. told ≡ why_broken code.now why.now) }
 {
     match why {
-        Why::Failed(act) => Ok(Why::Broken(act, code.copy()?)),
-        Why::Quota | Why::Broken(_, _) | Why::Resolve(_, _) => Ok(why),
+        Why::Quota => Ok(Why::Quota),
+        Why::Failed(act) => Ok(Why::Broken(*act, code.copy()?)),
+        Why::Broken(act, other) => Ok(Why::Broken(*act, other.copy()?)),
+        Why::Resolve(other, path) => Ok(Why::Resolve(other.copy()?, path.copy()?)),
     }
 }
