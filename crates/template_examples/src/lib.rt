@@ -14,8 +14,6 @@ mod forms;
 #[cfg(test)]
 mod functions;
 #[cfg(test)]
-mod levels;
-#[cfg(test)]
 mod limits;
 #[cfg(test)]
 mod lines;
