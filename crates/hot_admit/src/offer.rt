@@ -1,5 +1,6 @@
 //! What a resource offers to get_attr: its kind's attributes, by references in byte order.
-ghost use Rattle.std.specs.Prelude.{◌≡◌, ℕ, List, IfOk, map, option_map};
+ghost use Rattle.std.specs.Prelude.{◌≡◌, ℕ, List, IfOk, map, option_map, find, bytes_eq};
+ghost use Rattle.heat_plan.specs.Order.{Rising};
 ghost use Rattle.hot_admit.specs.Basis.{basis_data};
 ghost use Rattle.hot_admit.specs.Offers.{unlisted, IsOffer, AreOffers};
 ghost use Rattle.hot_admit.specs.References.{lacks_attribute};
@@ -92,7 +93,8 @@ pub fn offers_of<'a>(alloc: Global, basis: &Basis<'a>) -> Result<Vec<Offer<'a>>,
 {
     let mut offers = Vec::with_capacity(alloc, basis.resources.len())?;
     for res in basis.resources {
-        offers.push(offer_of(alloc, basis, res)?)?;
+        let offer = offer_of(alloc, basis, res)?;
+        offers.push(offer)?;
     }
     Ok(offers)
 }
@@ -102,10 +104,8 @@ fn offer_of<'a>(alloc: Global, basis: &Basis<'a>, res: &'a Res) -> Result<Offer<
     ensures same { IfOk result (λ o. o.res.now ≡ res.now) }
     ensures offers { IfOk result (IsOffer (basis_data basis.now)) }
 {
-    Ok(Offer {
-        res,
-        attrs: attributes_of(alloc, basis.kind_at(res))?,
-    })
+    let attrs = attributes_of(alloc, basis.kind_at(res))?;
+    Ok(Offer { res, attrs })
 }
 
 // The attributes of a kind that stands.
@@ -117,7 +117,21 @@ fn attributes_of<'a>(
         ≡ lacks_attribute a (option_map (λ k. k.now) kind.entry)) }
 {
     match kind {
-        Some(kind) => Ok(Some(Listed::new(alloc, kind.attrs.as_slice())?)),
+        Some(kind) => {
+            let listed = Listed::new(alloc, kind.attrs.as_slice())?;
+            Ok(Some(listed))
+        }
         None => Ok(None),
+    }
+}
+
+/// The offer of the resource of this name, found by halves among those that stand in byte order.
+pub fn offer_named<'a, 'b>(offers: &'b [Offer<'a>], name: &Text) -> Option<&'b Offer<'a>>
+    requires { Rising (map (λ o. o.res.now.name) offers.now) }
+    ensures { option_map (λ o. o.now) result ≡ find (λ o. bytes_eq o.res.now.name name.now) offers.now }
+{
+    match offers.binary_search_by(|offer| offer.res.name.cmp(name)) {
+        Ok(place) => Some(&offers[place]),
+        Err(_) => None,
     }
 }

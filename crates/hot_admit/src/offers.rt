@@ -7,7 +7,7 @@ ghost use Rattle.hot_admit.specs.Offers.{unlisted_at};
 ghost use Rattle.hot_admit.specs.References.{is_no_attribute};
 
 use crate::Basis;
-use crate::offer::{Offer, offers_of};
+use crate::offer::{Offer, offer_named, offers_of};
 use heat_value::Text;
 use std::alloc::{AllocError, Global};
 
@@ -26,10 +26,9 @@ impl<'a> Offers<'a> {
     pub fn new(alloc: Global, basis: &Basis<'a>) -> Result<Offers<'a>, AllocError>
         ensures { IfOk result (λ o. o.basis ≡ basis.now) }
     {
-        Ok(Offers {
-            basis: *basis,
-            all: offers_of(alloc, basis)?,
-        })
+        let all = offers_of(alloc, basis)?;
+        let offers = Offers { basis: *basis, all };
+        Ok(offers)
     }
 
     /// Whether the resource of a name is of a kind that stands and hasn't this attribute. Both are found by
@@ -37,9 +36,9 @@ impl<'a> Offers<'a> {
     pub fn lacks(&self, name: &Text, attribute: &Text) -> bool
         ensures { result ≡ is_no_attribute (basis_data self.now.basis) name.now attribute.now }
     {
-        match self.all.binary_search_by(|offer| offer.res.name.cmp(name)) {
-            Ok(place) => self.all[place].lacks(attribute),
-            Err(_) => false,
+        match offer_named(self.all.as_slice(), name) {
+            Some(offer) => offer.lacks(attribute),
+            None => false,
         }
     }
 }
