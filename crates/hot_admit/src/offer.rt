@@ -1,5 +1,7 @@
 //! What a resource offers to get_attr: its kind's attributes, by references in byte order.
-ghost use Rattle.std.specs.Prelude.{◌≡◌, ℕ, List, IfOk, map, option_map, find, bytes_eq};
+ghost use Rattle.std.specs.Prelude.{◌≡◌, ℕ, List, IfOk, IsSorted, map, option_map, find, bytes_eq};
+ghost use Rattle.std.specs.Cmp.Lexicographic.{slice_cmp};
+ghost use Rattle.std.specs.Ordering.{nat_cmp};
 ghost use Rattle.heat_plan.specs.Order.{Rising};
 ghost use Rattle.hot_admit.specs.Basis.{basis_data};
 ghost use Rattle.hot_admit.specs.Offers.{unlisted, IsOffer, AreOffers};
@@ -48,10 +50,18 @@ impl<'a> Listed<'a> {
     pub fn has(&self, text: &Text) -> bool
         ensures { result ≡ is_among self.now text.now }
     {
-        match self.all.binary_search(&text) {
-            Ok(_) => true,
-            Err(_) => false,
-        }
+        is_listed(self.all.as_slice(), text)
+    }
+}
+
+// Whether a text is one of these, which stand in byte order.
+fn is_listed(texts: &[&Text], text: &Text) -> bool
+    requires { IsSorted (λ a b. slice_cmp nat_cmp a.now b.now) texts.now }
+    ensures { result ≡ is_among (map (λ t. t.now) texts.now) text.now }
+{
+    match texts.binary_search(&text) {
+        Ok(_) => true,
+        Err(_) => false,
     }
 }
 
