@@ -18,19 +18,24 @@ use Rattle.traversal_graph.specs.declared.shape.Node.{Node}
 use Rattle.core_state.specs.State.{StateData}
 use Rattle.core_state.specs.declared.change.Change.{Change}
 use Rattle.core_state.specs.declared.entry.Actor.{Actor}
+use Rattle.core_state.specs.declared.entry.Actor.TheVariants.{Engine}
 use Rattle.core_state.specs.declared.entry.Entry.{Entry}
 use Rattle.core_state.specs.declared.entry.MailWrite.{MailWrite}
+use Rattle.core_state.specs.declared.entry.MailWrite.TheVariants.{Sent}
 use Rattle.core_state.specs.declared.entry.RowWrite.{RowWrite}
+use Rattle.core_state.specs.declared.entry.RowWrite.TheVariants.{Set}
+use Rattle.core_state.specs.declared.entry.What.TheVariants as what
 use Rattle.core_state.specs.declared.entry.Why.{Why}
 use Rattle.core_state.specs.declared.entry.Why.TheVariants as why
 use Rattle.core_state.specs.declared.made.Made.{Made}
 use Rattle.core_state.specs.declared.stack.Stack.{Stack}
-use Rattle.step_relation.specs.Asks.{Calls, Falls, Polls, Refuses, by_code, by_failure, failed_changes, failed_entries, polls}
-use Rattle.step_relation.specs.Commands.{Lays, Sets, laid_entries, settled_mark}
+use Rattle.step_relation.specs.Asks.{Calls, Falls, Polls, Refuses, by_code, by_failure, by_quota, failed_changes, failed_entries, polls}
+use Rattle.step_relation.specs.Commands.{Lays, Sets, first_letters, laid_entries, settled_mark}
 use Rattle.step_relation.specs.Given.{Answer, Given, IsLike, answers, same}
 use Rattle.step_relation.specs.Moves.{poll_failed}
+use Rattle.step_relation.specs.Orders.{plan_back, rollback_sets}
 use Rattle.step_relation.specs.Turns.{FollowsFailure, Turn, WearsOut, plain, rolls}
-use Rattle.step_relation.specs.Writes.{call_entry, mail_entry, rows_entry}
+use Rattle.step_relation.specs.Writes.{call_entry, entry_of, mail_entry, rows_entry}
 use Rattle.command_steps.specs.Turns.{IsTurn}
 use Rattle.next_laws.proofs.Parts.{IsAsked, Kind, Part, at_ask, at_poll, placed, refuses}
 use Rattle.next_laws.proofs.Readings.{works_one}
@@ -82,13 +87,19 @@ module _ (code : List ℕ) where
   kept_laying : (s : StateData) (name : List ℕ) (items : List Item) (it : Sets) (k : Lays s name items)
       → entries_broken code (laid_entries s name items it k) ≡ laid_entries s name items it k
   kept_laying s name items it k =
-      ap (λ (l : List Entry). _ ∷ l) (kept_both _ _ (kept_rows it.actor _)
-      (kept_both _ _ (kept_mail it.actor _) (kept_mark k.graph.nodes s name it)))
+      let letters = map Sent (first_letters s name items it k) in
+      let mark = settled_mark k.graph.nodes s name it in
+      ap (λ (l : List Entry). entry_of it.actor (what.Command name s.next.trav it.act it.plan it.past.rollback) ∷ l)
+      (kept_both (rows_entry it.actor (map Set k.rows)) (mail_entry it.actor letters ++ mark)
+      (kept_rows it.actor (map Set k.rows))
+      (kept_both (mail_entry it.actor letters) mark (kept_mail it.actor letters) (kept_mark k.graph.nodes s name it)))
 
   kept_rollback : (s : StateData) (e : ℕ) (st : Stack) (cs : List Change) (es : List Entry)
       → FollowsFailure s e st cs es → entries_broken code es ≡ es
   kept_rollback s e st cs es k =
-      ap (entries_broken code) k.entries ∙ kept_laying s _ _ _ k.lays ∙ sym k.entries
+      ap (entries_broken code) k.entries
+      ∙ kept_laying s k.failed.name (plan_back s k.failed).items (rollback_sets s k.failed (Engine e)) k.lays
+      ∙ sym k.entries
 
   -- the failure itself, with the code
   failed_told : (e : ℕ) (r : Row) (asked : Request) (letters : List Letter) (f : Option Stack) (act : Act)
@@ -116,7 +127,7 @@ plain_reason : (act : Act) (asked : Request) (given : Answered) (reason : Why) �
     → given ≡ answer.Failed → reason ≡ why.Failed act
 plain_reason act asked given reason (by_failure _) is = refl
 plain_reason act asked given reason (by_code code) is = let f : answer.Broken code ≡ answer.Failed = is in cc
-plain_reason act asked given reason refuses is = cc
+plain_reason act asked given reason (by_quota kind props) is = let f : answer.Quota ≡ answer.Failed = is in cc
 
 fell_by : (s : StateData) (e : ℕ) (k : Calls s e Polling) → k.row.act ≢ Delete → (kind : Kind) (f : Option Stack)
     (cs : List Change) (es : List Entry) → Part s e kind (Answer answer.Failed) f cs es → FellBy s e k f cs es
