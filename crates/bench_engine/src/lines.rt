@@ -93,12 +93,7 @@ fn bound(alloc: Global, registry: &Registry, template: &Template) -> Result<Boun
 }
 
 // The plan, by the one kind that the resources have.
-fn admitted(
-    alloc: Global,
-    registry: &Registry,
-    template: &Template,
-    bound: &Bound,
-) -> Result<Plan>
+fn admitted(alloc: Global, registry: &Registry, template: &Template, bound: &Bound) -> Result<Plan>
     requires { members_depth template.now ≤ 64 }
 {
     let mut catalog = Catalog::new(alloc, registry)?;

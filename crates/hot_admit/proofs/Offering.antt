@@ -59,9 +59,9 @@ module _ {A : Type 0} (text_in : A → List ℕ) where
       → false ≡ is_among (map text_in xs) s
   missed xs s p parts =
       sym (list_any_none (λ y. bytes_eq s (text_in y)) xs (λ k d l. elim (cases_lt k p) [
-    | inl below ↦ equal_by (text_in (get_or xs k d)) s Less (parts.0 k d (omega arith) below)
-    | inr above ↦ equal_by (text_in (get_or xs k d)) s Greater (parts.1 k d above l)
-  ])) ∙ mapped s xs
+        | inl below ↦ equal_by (text_in (get_or xs k d)) s Less (parts.0 k d (omega arith) below)
+        | inr above ↦ equal_by (text_in (get_or xs k d)) s Greater (parts.1 k d above l)
+      ])) ∙ mapped s xs
 
 -- ---- offers
 

@@ -64,11 +64,7 @@ fn resources_flaw(alloc: Global, offers: &Offers) -> Result<Option<AdmitFlaw>, A
 }
 
 // A01, A08, A05, A06, A02 and A03 of a resource, in this order.
-fn resource_flaw(
-    alloc: Global,
-    offers: &Offers,
-    res: &Res,
-) -> Result<Option<AdmitFlaw>, AllocError>
+fn resource_flaw(alloc: Global, offers: &Offers, res: &Res) -> Result<Option<AdmitFlaw>, AllocError>
     ensures { IfOk result (λ o. o
         ≡ the_resource_flaw (basis_data offers.now.basis) (resource_data res.now)) }
 {
