@@ -6,6 +6,7 @@ pub mod Alike
 pub mod Cycles
 pub mod Rising
 pub mod Searched
+pub mod Offering
 pub mod NameMarks
 pub mod OneCycle
 pub mod Judged

@@ -4,6 +4,7 @@ pub mod Basis
 pub mod Places
 pub mod Unsupported
 pub mod References
+pub mod Offers
 pub mod Kinds
 pub mod Sought
 pub mod Entries

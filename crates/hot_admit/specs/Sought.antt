@@ -9,4 +9,4 @@ use Rattle.hot_admit.specs.declared.sought.Sought.TheVariants as sought
 abbrev pub sort_of : Sought → Sort
 sort_of sought.Unsupported = is_unsupported
 sort_of (sought.UnknownReference basis) = is_unknown_reference (basis_data basis)
-sort_of (sought.UnknownAttribute basis) = is_unknown_attribute (basis_data basis)
+sort_of (sought.UnknownAttribute offers) = is_unknown_attribute (basis_data offers.now.basis)

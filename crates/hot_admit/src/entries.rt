@@ -14,7 +14,7 @@ use crate::references::{
     unknown_in_resource,
 };
 use crate::unsupported::{unsupported_in_output, unsupported_in_resource};
-use crate::{AdmitCode, AdmitFlaw, Basis};
+use crate::{AdmitCode, AdmitFlaw, Basis, Offers};
 use heat_value::{Path, Text};
 use hot_catalog::{behind_key, behind_name, here_unless};
 use hot_tree::{Out, Res};
@@ -34,10 +34,11 @@ pub fn entries_flaw(
     if let Some(flaw) = with_many_resources(alloc, basis.resources)? {
         return Ok(Some(flaw));
     }
-    if let Some(flaw) = resources_flaw(alloc, basis)? {
+    let offers = Offers::new(alloc, basis)?;
+    if let Some(flaw) = resources_flaw(alloc, &offers)? {
         return Ok(Some(flaw));
     }
-    outputs_flaw(alloc, basis, outputs)
+    outputs_flaw(alloc, &offers, outputs)
 }
 
 // A07.
@@ -50,12 +51,12 @@ fn with_many_resources(alloc: Global, resources: &[Res]) -> Result<Option<AdmitF
 }
 
 // The first resource, in byte order of the names, that is wrong.
-fn resources_flaw(alloc: Global, basis: &Basis) -> Result<Option<AdmitFlaw>, AllocError>
-    ensures { IfOk result (λ o. o ≡ first_refused (the_resource_flaw (basis_data basis.now))
-        (basis_data basis.now).resources) }
+fn resources_flaw(alloc: Global, offers: &Offers) -> Result<Option<AdmitFlaw>, AllocError>
+    ensures { IfOk result (λ o. o ≡ first_refused (the_resource_flaw (basis_data offers.now.basis))
+        (basis_data offers.now.basis).resources) }
 {
-    for res in basis.resources {
-        if let Some(flaw) = resource_flaw(alloc, basis, res)? {
+    for res in offers.basis.resources {
+        if let Some(flaw) = resource_flaw(alloc, offers, res)? {
             return Ok(Some(flaw));
         }
     }
@@ -63,9 +64,11 @@ fn resources_flaw(alloc: Global, basis: &Basis) -> Result<Option<AdmitFlaw>, All
 }
 
 // A01, A08, A05, A06, A02 and A03 of a resource, in this order.
-fn resource_flaw(alloc: Global, basis: &Basis, res: &Res) -> Result<Option<AdmitFlaw>, AllocError>
-    ensures { IfOk result (λ o. o ≡ the_resource_flaw (basis_data basis.now) (resource_data res.now)) }
+fn resource_flaw(alloc: Global, offers: &Offers, res: &Res) -> Result<Option<AdmitFlaw>, AllocError>
+    ensures { IfOk result (λ o. o
+        ≡ the_resource_flaw (basis_data offers.now.basis) (resource_data res.now)) }
 {
+    let basis = &offers.basis;
     let unknown = of_unknown_kind(alloc, basis, res)?;
     if unknown.is_some() {
         return in_entry(alloc, AdmitCode::A01, "resources", &res.name, unknown);
@@ -86,21 +89,21 @@ fn resource_flaw(alloc: Global, basis: &Basis, res: &Res) -> Result<Option<Admit
     if reference.is_some() {
         return in_entry(alloc, AdmitCode::A02, "resources", &res.name, reference);
     }
-    let attribute = unknown_attribute_in_resource(alloc, basis, res)?;
+    let attribute = unknown_attribute_in_resource(alloc, offers, res)?;
     in_entry(alloc, AdmitCode::A03, "resources", &res.name, attribute)
 }
 
 // The first output, in byte order of the names, that is wrong.
 fn outputs_flaw(
     alloc: Global,
-    basis: &Basis,
+    offers: &Offers,
     outputs: &[Out],
 ) -> Result<Option<AdmitFlaw>, AllocError>
-    ensures { IfOk result (λ o. o ≡ first_refused (the_output_flaw (basis_data basis.now))
+    ensures { IfOk result (λ o. o ≡ first_refused (the_output_flaw (basis_data offers.now.basis))
         (outputs_data outputs.now)) }
 {
     for out in outputs {
-        if let Some(flaw) = output_flaw(alloc, basis, out)? {
+        if let Some(flaw) = output_flaw(alloc, offers, out)? {
             return Ok(Some(flaw));
         }
     }
@@ -108,18 +111,19 @@ fn outputs_flaw(
 }
 
 // A08, A02 and A03 of an output, in this order.
-fn output_flaw(alloc: Global, basis: &Basis, out: &Out) -> Result<Option<AdmitFlaw>, AllocError>
-    ensures { IfOk result (λ o. o ≡ the_output_flaw (basis_data basis.now) (output_data out.now)) }
+fn output_flaw(alloc: Global, offers: &Offers, out: &Out) -> Result<Option<AdmitFlaw>, AllocError>
+    ensures { IfOk result (λ o. o
+        ≡ the_output_flaw (basis_data offers.now.basis) (output_data out.now)) }
 {
     let unsupported = unsupported_in_output(alloc, out)?;
     if unsupported.is_some() {
         return in_entry(alloc, AdmitCode::A08, "outputs", &out.name, unsupported);
     }
-    let reference = unknown_in_output(alloc, basis, out)?;
+    let reference = unknown_in_output(alloc, &offers.basis, out)?;
     if reference.is_some() {
         return in_entry(alloc, AdmitCode::A02, "outputs", &out.name, reference);
     }
-    let attribute = unknown_attribute_in_output(alloc, basis, out)?;
+    let attribute = unknown_attribute_in_output(alloc, offers, out)?;
     in_entry(alloc, AdmitCode::A03, "outputs", &out.name, attribute)
 }
 

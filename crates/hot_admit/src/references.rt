@@ -1,14 +1,11 @@
 //! A02 and A03: names of resources, files and attributes that aren't there.
-ghost use Rattle.std.specs.Prelude.{◌≡◌, IfOk, option_map, bytes_eq};
-ghost use Rattle.std.specs.List.{list_any};
+ghost use Rattle.std.specs.Prelude.{◌≡◌, IfOk, option_map};
 ghost use Rattle.heat_value.specs.Meaning.{data_of, nodes_of};
-ghost use Rattle.hot_forms.specs.Checks.{is_among};
 ghost use Rattle.hot_admit.specs.Basis.{basis_data};
 ghost use Rattle.hot_admit.specs.References.{is_unknown_resource as the_is_unknown_resource};
 ghost use Rattle.hot_admit.specs.References.{is_unknown_file as the_is_unknown_file};
 ghost use Rattle.hot_admit.specs.References.{is_unknown_reference as the_is_unknown_reference};
 ghost use Rattle.hot_admit.specs.References.{is_unknown_attribute as the_is_unknown_attribute};
-ghost use Rattle.hot_admit.specs.References.{is_no_attribute as the_is_no_attribute};
 ghost use Rattle.hot_admit.specs.References.{first_two_texts as the_first_two_texts};
 ghost use Rattle.hot_admit.specs.References.{two_texts as the_two_texts, both_texts as the_both_texts};
 ghost use Rattle.hot_admit.specs.References.{unknown_text as the_unknown_text};
@@ -21,7 +18,7 @@ ghost use Rattle.hot_admit.specs.References.{unknown_attribute_in_output as the_
 ghost use Rattle.hot_admit.specs.Resources.{resource_data, output_data};
 
 use crate::sought::{place_in, place_there, place_under};
-use crate::{Basis, Sought};
+use crate::{Basis, Offers, Sought};
 use heat_value::{Member, Path, Text, Value};
 use hot_catalog::{behind_name, behind_place, here_unless};
 use hot_eval::{list_in, referred, text_in};
@@ -147,15 +144,15 @@ pub fn unknown_in_output(
 // ---- A03
 
 /// Whether an object with this one member is a get_attr of what isn't an attribute of the kind.
-pub fn is_unknown_attribute(basis: &Basis, member: &Member) -> bool
-    ensures { result ≡ the_is_unknown_attribute (basis_data basis.now) member.now.key
+pub fn is_unknown_attribute(offers: &Offers, member: &Member) -> bool
+    ensures { result ≡ the_is_unknown_attribute (basis_data offers.now.basis) member.now.key
         (data_of member.now.value) }
 {
     if member.key.as_str() != "get_attr" {
         return false;
     }
     match first_two_texts(&member.value) {
-        Some((name, attribute)) => is_no_attribute(basis, name, attribute),
+        Some((name, attribute)) => offers.lacks(name, attribute),
         None => false,
     }
 }
@@ -195,29 +192,16 @@ fn both_texts<'a>(first: Option<&'a Text>, second: Option<&'a Text>) -> Option<(
     }
 }
 
-// Whether the attribute isn't one of the kind of the resource of this name.
-fn is_no_attribute(basis: &Basis, name: &Text, attribute: &Text) -> bool
-    ensures { result ≡ the_is_no_attribute (basis_data basis.now) name.now attribute.now }
-{
-    let Some(res) = basis.resource_named(name) else {
-        return false;
-    };
-    let Some(kind) = basis.kind_at(res) else {
-        return false;
-    };
-    !is_listed(kind.attrs.as_slice(), attribute.as_str())
-}
-
 /// The first in a resource's properties.
 pub fn unknown_attribute_in_resource(
     alloc: Global,
-    basis: &Basis,
+    offers: &Offers,
     res: &Res,
 ) -> Result<Option<Path>, AllocError>
     ensures { IfOk result (λ o. o
-        ≡ the_unknown_attribute_in_resource (basis_data basis.now) (resource_data res.now)) }
+        ≡ the_unknown_attribute_in_resource (basis_data offers.now.basis) (resource_data res.now)) }
 {
-    let sought = Sought::UnknownAttribute(*basis);
+    let sought = Sought::UnknownAttribute(offers);
     let property = place_under(alloc, sought, res.props.as_slice())?;
     behind_name(alloc, "properties", property)
 }
@@ -225,26 +209,12 @@ pub fn unknown_attribute_in_resource(
 /// The first in an output's value.
 pub fn unknown_attribute_in_output(
     alloc: Global,
-    basis: &Basis,
+    offers: &Offers,
     out: &Out,
 ) -> Result<Option<Path>, AllocError>
     ensures { IfOk result (λ o. o
-        ≡ the_unknown_attribute_in_output (basis_data basis.now) (output_data out.now)) }
+        ≡ the_unknown_attribute_in_output (basis_data offers.now.basis) (output_data out.now)) }
 {
-    let sought = Sought::UnknownAttribute(*basis);
+    let sought = Sought::UnknownAttribute(offers);
     behind_name(alloc, "value", place_in(alloc, sought, &out.value)?)
-}
-
-// Whether a text is one of these.
-fn is_listed(texts: &[Text], text: &str) -> bool
-    ensures { result ≡ is_among texts.now text.now }
-{
-    any_is(texts, text)
-}
-
-// Whether one of the texts is this one.
-fn any_is(texts: &[Text], text: &str) -> bool
-    ensures { result ≡ list_any (bytes_eq text.now) texts.now }
-{
-    texts.iter().any(|other| text == other.as_str())
 }

@@ -6,9 +6,9 @@ ghost use Rattle.hot_admit.specs.Places.{lone_is, place_in as the_place_in, plac
 ghost use Rattle.hot_admit.specs.Places.{place_under as the_place_under, place_there as the_place_there};
 ghost use Rattle.hot_admit.specs.Sought.{sort_of};
 
-use crate::Basis;
 use crate::references::{is_unknown_attribute, is_unknown_reference};
 use crate::unsupported::is_unsupported;
+use crate::{Basis, Offers};
 use heat_value::{Member, Path, Value};
 use hot_catalog::{behind_key, behind_place};
 use hot_functions::lone;
@@ -22,7 +22,7 @@ pub enum Sought<'a> {
     /// A function that names a resource or a file that isn't there.
     UnknownReference(Basis<'a>),
     /// A get_attr of what isn't an attribute of the resource's kind.
-    UnknownAttribute(Basis<'a>),
+    UnknownAttribute(&'a Offers<'a>),
 }
 
 /// In the value that stands there, if one does.
@@ -109,6 +109,6 @@ fn is_sought(sought: Sought, member: &Member) -> bool
     match sought {
         Sought::Unsupported => is_unsupported(member),
         Sought::UnknownReference(basis) => is_unknown_reference(&basis, member),
-        Sought::UnknownAttribute(basis) => is_unknown_attribute(&basis, member),
+        Sought::UnknownAttribute(offers) => is_unknown_attribute(offers, member),
     }
 }

@@ -8,5 +8,5 @@ use Rattle.hot_admit.proofs.entries.resources_flaw.Given as goal
 -- what is left decides
 abbrev pub invariant-loop-res : goal.invariant-loop-res
 invariant-loop-res l =
-    first_refused (resource_flaw (basis_data l.basis)) (basis_data l.basis).resources
-    ≡ first_refused (resource_flaw (basis_data l.basis)) (resources_data (drop l.res-index l.res-items))
+    first_refused (resource_flaw (basis_data l.offers.basis)) (basis_data l.offers.basis).resources
+    ≡ first_refused (resource_flaw (basis_data l.offers.basis)) (resources_data (drop l.res-index l.res-items))
