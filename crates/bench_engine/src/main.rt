@@ -1,8 +1,9 @@
-//! Runs the engine and what it reads for the clock outside: its steps, templates, and text functions. The
+//! Runs the engine and what it reads for the clock outside: its steps, templates, lines of many parts, and text functions. The
 //! first word is what is measured, the other words are its own; `all` runs each at its least size. Each
 //! prints a line, which is the same at each run.
 #![tactic(auto)]
 
+mod lines;
 mod steps;
 mod strings;
 mod templates;
@@ -17,7 +18,7 @@ fn main(rt: HostRuntime) -> Result<()> {
         words.push(word.as_str())?;
     }
     let [what, words @ ..] = words.as_slice() else {
-        bail!("steps, templates, strings or all");
+        bail!("lines, steps, templates, strings or all");
     };
     run(&rt, what, words)
 }
@@ -25,16 +26,18 @@ fn main(rt: HostRuntime) -> Result<()> {
 // Runs what the word names, by the words behind it.
 fn run(rt: &HostRuntime, what: &str, words: &[&str]) -> Result<()> {
     match what {
+        "lines" => lines::run(rt, words),
         "steps" => steps::run(rt, words),
         "templates" => templates::run(rt, words),
         "strings" => strings::run(rt, words),
         "all" => run_all(rt),
-        _ => bail!("steps, templates, strings or all"),
+        _ => bail!("lines, steps, templates, strings or all"),
     }
 }
 
 // Runs each at its least size.
 fn run_all(rt: &HostRuntime) -> Result<()> {
+    lines::run(rt, &["references", "2000"])?;
     steps::run(rt, &["chain", "delete", "12"])?;
     templates::run(rt, &["admit", "12"])?;
     strings::run(rt, &["replace", "1000"])

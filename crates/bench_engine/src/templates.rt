@@ -3,7 +3,7 @@
 mod conditions;
 mod parameters;
 mod resources;
-mod work;
+pub mod work;
 
 use anyhow::{Result, bail};
 use work::{Work, count};

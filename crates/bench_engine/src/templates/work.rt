@@ -87,7 +87,8 @@ fn chain_of(alloc: Global, work: Work, size: u32) -> Result<String> {
     Ok(text)
 }
 
-fn read(alloc: Global, text: &str) -> Result<Value>
+/// The value that a text is read as.
+pub fn read(alloc: Global, text: &str) -> Result<Value>
     ensures { IfOk result (λ v. depth (data_of v) ≤ 64) }
 {
     match Value::read(alloc, text.as_bytes()) {
@@ -96,7 +97,8 @@ fn read(alloc: Global, text: &str) -> Result<Value>
     }
 }
 
-fn taken(alloc: Global, value: &Value) -> Result<Template>
+/// The template that a value is.
+pub fn taken(alloc: Global, value: &Value) -> Result<Template>
     requires { depth (data_of value.now) ≤ 64 }
     ensures { IfOk result (λ t. members_depth t ≤ 64) }
 {
@@ -136,20 +138,25 @@ fn bound_on(alloc: Global, work: Work, template: &Template) -> Result<usize>
 fn bound(alloc: Global, template: &Template, registry: &Registry) -> Result<Bound>
     requires { members_depth template.now ≤ 64 }
 {
+    let given = read(alloc, given(alloc)?.as_str())?;
+    let Value::Fields(given) = &given else {
+        bail!("an object");
+    };
+    match bind(alloc, template, given, &ids(alloc)?, registry) {
+        Ok(bound) => Ok(bound),
+        Err(fault) => bail!("{}", fault.code().unwrap_or("no memory")),
+    }
+}
+
+/// The stack that the pseudo parameters name.
+pub fn ids(alloc: Global) -> Result<Ids> {
     let Some(stack) = StackName::read(alloc, b"s")? else {
         bail!("a name");
     };
     let Some(no) = StackNo::new(1) else {
         bail!("a number");
     };
-    let given = read(alloc, given(alloc)?.as_str())?;
-    let Value::Fields(given) = &given else {
-        bail!("an object");
-    };
-    match bind(alloc, template, given, &Ids { stack, no }, registry) {
-        Ok(bound) => Ok(bound),
-        Err(fault) => bail!("{}", fault.code().unwrap_or("no memory")),
-    }
+    Ok(Ids { stack, no })
 }
 
 // The plan, where no file stands beside the template.
