@@ -2,4 +2,8 @@ pub mod Sheets
 pub mod Spellings
 pub mod Numbers
 pub mod Parts
+pub mod Values
+pub mod Plans
 pub mod Laws
+pub mod ValueLaws
+pub mod PlanLaws

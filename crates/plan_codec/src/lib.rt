@@ -1,17 +1,26 @@
-//! The bytes of numbers, flags, texts and names, and of pairs, options and lists of whatever has bytes: one
-//! spelling for each thing, which is put on a sheet without memory, and readers that take exactly what is
-//! spelled so. It answers to `specs/Spellings.antt` and the files behind it.
+//! The bytes of plans and of all that they are made of: one spelling for each thing, which is put on a
+//! sheet without memory, and readers that take exactly what is spelled so. It answers to `specs/Spellings.antt` and the files behind it.
 #![tactic(auto)]
 
 mod coding;
 mod drawn;
+mod facts;
+mod fields;
+mod items;
+mod kinds;
 mod lists;
+mod named;
+mod needs;
 mod numbers;
 mod options;
 mod pairs;
+mod plans;
+mod properties;
 mod sheet;
 mod texts;
 mod unread;
+mod value_puts;
+mod values;
 
 pub use coding::{Readable, Writable};
 pub use lists::{items_at, put_items};

@@ -1,0 +1,180 @@
+//! Reading changes: a tag from 1, and the fields behind it.
+ghost use Rattle.std.specs.Prelude.{◌∷◌, IfOk, IfErr};
+ghost use Rattle.plan_codec.specs.Spellings.{Takes, Refuses};
+ghost use Rattle.row_codec.specs.Changes.{spelled_change, IsProper};
+
+use core_state::{Change, Numbers, Past, Stack};
+use heat_plan::{EngineNo, LetterNo, RowNo, StackName, Token};
+use mail_table::{Job, Letter};
+use plan_codec::{Readable, Unread};
+use row_table::Row;
+use std::alloc::Global;
+use sync_points::Point;
+use traversal_graph::TravGraph;
+
+impl Readable for Change {
+    ghost use Rattle.row_codec.specs.Changes.{spelled_change, IsProper};
+    ghost use Rattle.row_codec.specs.ChangeLaws.{change_unique};
+
+    ghost spelled = { spelled_change };
+
+    ghost proper = { IsProper };
+
+    fn read<'a>(alloc: Global, bytes: &'a [u8]) -> Result<(Change, &'a [u8]), Unread> {
+        match bytes {
+            [1, rest @ ..] => put_stack_at(alloc, rest),
+            [2, rest @ ..] => drop_stack_at(alloc, rest),
+            [3, rest @ ..] => put_row_at(alloc, rest),
+            [4, rest @ ..] => drop_row_at(alloc, rest),
+            [5, rest @ ..] => put_graph_at(alloc, rest),
+            [6, rest @ ..] => put_point_at(alloc, rest),
+            [7, rest @ ..] => send_at(alloc, rest),
+            [8, rest @ ..] => drop_at(alloc, rest),
+            [9, rest @ ..] => put_job_at(alloc, rest),
+            [10, rest @ ..] => end_job_at(alloc, rest),
+            [11, rest @ ..] => enlist_at(alloc, rest),
+            [12, rest @ ..] => stop_at(alloc, rest),
+            [13, rest @ ..] => numbers_at(alloc, rest),
+            [14, rest @ ..] => put_past_at(alloc, rest),
+            [15, rest @ ..] => release_at(alloc, rest),
+            _ => Err(Unread::Unspelled),
+        }
+    }
+
+    ghost unique = { change_unique };
+}
+
+// The PutStack behind its tag.
+fn put_stack_at(alloc: Global, rest: &[u8]) -> Result<(Change, &[u8]), Unread>
+    ensures ok { IfOk result (λ x. Takes spelled_change IsProper (1 ∷ rest.now) x.0 x.1.now) }
+    ensures err { IfErr result (Refuses spelled_change IsProper (1 ∷ rest.now)) }
+{
+    let (stack, rest) = Stack::read(alloc, rest)?;
+    Ok((Change::PutStack(stack), rest))
+}
+
+// The DropStack behind its tag.
+fn drop_stack_at(alloc: Global, rest: &[u8]) -> Result<(Change, &[u8]), Unread>
+    ensures ok { IfOk result (λ x. Takes spelled_change IsProper (2 ∷ rest.now) x.0 x.1.now) }
+    ensures err { IfErr result (Refuses spelled_change IsProper (2 ∷ rest.now)) }
+{
+    let (name, rest) = StackName::read(alloc, rest)?;
+    Ok((Change::DropStack(name), rest))
+}
+
+// The PutRow behind its tag.
+fn put_row_at(alloc: Global, rest: &[u8]) -> Result<(Change, &[u8]), Unread>
+    ensures ok { IfOk result (λ x. Takes spelled_change IsProper (3 ∷ rest.now) x.0 x.1.now) }
+    ensures err { IfErr result (Refuses spelled_change IsProper (3 ∷ rest.now)) }
+{
+    let (row, rest) = Row::read(alloc, rest)?;
+    Ok((Change::PutRow(row), rest))
+}
+
+// The DropRow behind its tag.
+fn drop_row_at(alloc: Global, rest: &[u8]) -> Result<(Change, &[u8]), Unread>
+    ensures ok { IfOk result (λ x. Takes spelled_change IsProper (4 ∷ rest.now) x.0 x.1.now) }
+    ensures err { IfErr result (Refuses spelled_change IsProper (4 ∷ rest.now)) }
+{
+    let (row, rest) = RowNo::read(alloc, rest)?;
+    Ok((Change::DropRow(row), rest))
+}
+
+// The PutGraph behind its tag.
+fn put_graph_at(alloc: Global, rest: &[u8]) -> Result<(Change, &[u8]), Unread>
+    ensures ok { IfOk result (λ x. Takes spelled_change IsProper (5 ∷ rest.now) x.0 x.1.now) }
+    ensures err { IfErr result (Refuses spelled_change IsProper (5 ∷ rest.now)) }
+{
+    let (graph, rest) = <(StackName, TravGraph)>::read(alloc, rest)?;
+    Ok((Change::PutGraph(graph.0, graph.1), rest))
+}
+
+// The PutPoint behind its tag.
+fn put_point_at(alloc: Global, rest: &[u8]) -> Result<(Change, &[u8]), Unread>
+    ensures ok { IfOk result (λ x. Takes spelled_change IsProper (6 ∷ rest.now) x.0 x.1.now) }
+    ensures err { IfErr result (Refuses spelled_change IsProper (6 ∷ rest.now)) }
+{
+    let (point, rest) = Point::read(alloc, rest)?;
+    Ok((Change::PutPoint(point), rest))
+}
+
+// The Send behind its tag.
+fn send_at(alloc: Global, rest: &[u8]) -> Result<(Change, &[u8]), Unread>
+    ensures ok { IfOk result (λ x. Takes spelled_change IsProper (7 ∷ rest.now) x.0 x.1.now) }
+    ensures err { IfErr result (Refuses spelled_change IsProper (7 ∷ rest.now)) }
+{
+    let (letter, rest) = Letter::read(alloc, rest)?;
+    Ok((Change::Send(letter), rest))
+}
+
+// The Drop behind its tag.
+fn drop_at(alloc: Global, rest: &[u8]) -> Result<(Change, &[u8]), Unread>
+    ensures ok { IfOk result (λ x. Takes spelled_change IsProper (8 ∷ rest.now) x.0 x.1.now) }
+    ensures err { IfErr result (Refuses spelled_change IsProper (8 ∷ rest.now)) }
+{
+    let (letter, rest) = LetterNo::read(alloc, rest)?;
+    Ok((Change::Drop(letter), rest))
+}
+
+// The PutJob behind its tag.
+fn put_job_at(alloc: Global, rest: &[u8]) -> Result<(Change, &[u8]), Unread>
+    ensures ok { IfOk result (λ x. Takes spelled_change IsProper (9 ∷ rest.now) x.0 x.1.now) }
+    ensures err { IfErr result (Refuses spelled_change IsProper (9 ∷ rest.now)) }
+{
+    let (job, rest) = Job::read(alloc, rest)?;
+    Ok((Change::PutJob(job), rest))
+}
+
+// The EndJob behind its tag.
+fn end_job_at(alloc: Global, rest: &[u8]) -> Result<(Change, &[u8]), Unread>
+    ensures ok { IfOk result (λ x. Takes spelled_change IsProper (10 ∷ rest.now) x.0 x.1.now) }
+    ensures err { IfErr result (Refuses spelled_change IsProper (10 ∷ rest.now)) }
+{
+    let (engine, rest) = EngineNo::read(alloc, rest)?;
+    Ok((Change::EndJob(engine), rest))
+}
+
+// The Enlist behind its tag.
+fn enlist_at(alloc: Global, rest: &[u8]) -> Result<(Change, &[u8]), Unread>
+    ensures ok { IfOk result (λ x. Takes spelled_change IsProper (11 ∷ rest.now) x.0 x.1.now) }
+    ensures err { IfErr result (Refuses spelled_change IsProper (11 ∷ rest.now)) }
+{
+    let (engine, rest) = EngineNo::read(alloc, rest)?;
+    Ok((Change::Enlist(engine), rest))
+}
+
+// The Stop behind its tag.
+fn stop_at(alloc: Global, rest: &[u8]) -> Result<(Change, &[u8]), Unread>
+    ensures ok { IfOk result (λ x. Takes spelled_change IsProper (12 ∷ rest.now) x.0 x.1.now) }
+    ensures err { IfErr result (Refuses spelled_change IsProper (12 ∷ rest.now)) }
+{
+    let (engine, rest) = EngineNo::read(alloc, rest)?;
+    Ok((Change::Stop(engine), rest))
+}
+
+// The Numbers behind its tag.
+fn numbers_at(alloc: Global, rest: &[u8]) -> Result<(Change, &[u8]), Unread>
+    ensures ok { IfOk result (λ x. Takes spelled_change IsProper (13 ∷ rest.now) x.0 x.1.now) }
+    ensures err { IfErr result (Refuses spelled_change IsProper (13 ∷ rest.now)) }
+{
+    let (numbers, rest) = Numbers::read(alloc, rest)?;
+    Ok((Change::Numbers(numbers), rest))
+}
+
+// The PutPast behind its tag.
+fn put_past_at(alloc: Global, rest: &[u8]) -> Result<(Change, &[u8]), Unread>
+    ensures ok { IfOk result (λ x. Takes spelled_change IsProper (14 ∷ rest.now) x.0 x.1.now) }
+    ensures err { IfErr result (Refuses spelled_change IsProper (14 ∷ rest.now)) }
+{
+    let (past, rest) = Past::read(alloc, rest)?;
+    Ok((Change::PutPast(past), rest))
+}
+
+// The Release behind its tag.
+fn release_at(alloc: Global, rest: &[u8]) -> Result<(Change, &[u8]), Unread>
+    ensures ok { IfOk result (λ x. Takes spelled_change IsProper (15 ∷ rest.now) x.0 x.1.now) }
+    ensures err { IfErr result (Refuses spelled_change IsProper (15 ∷ rest.now)) }
+{
+    let (token, rest) = Token::read(alloc, rest)?;
+    Ok((Change::Release(token), rest))
+}

@@ -1,0 +1,22 @@
+//! The bytes of lists of changes, as a journal's records hold them: read, written, and measured. Nothing here
+//! knows of a disk, or of whether a change applies. It answers to `specs/Changes.antt`.
+#![tactic(auto)]
+
+mod change_puts;
+mod change_reads;
+mod graphs;
+mod laws;
+mod mails;
+mod next;
+mod payloads;
+mod points;
+mod row_puts;
+mod row_reads;
+mod shared;
+mod stacks;
+mod tokens;
+mod words;
+
+pub use laws::{no_prefix, one_reading, read_back};
+pub use payloads::{fill, read, size, write};
+pub use plan_codec::Sheet;

@@ -1,0 +1,89 @@
+//! Reading rows.
+ghost use Rattle.std.specs.Prelude.{◌≡◌, ◌≢◌, ◌↔◌, ◌<◌, ◌^◌, IsTrue, IfOk, IfErr};
+ghost use Rattle.heat_plan.specs.declared.phase.Act.TheVariants.{Rollback};
+ghost use Rattle.plan_codec.specs.Spellings.{Takes, Refuses};
+ghost use Rattle.row_codec.specs.Records.{spelled_row};
+ghost use Rattle.row_codec.specs.RecordLaws.{IsAnyRow, row_parts};
+
+use heat_plan::{
+    Act, EngineNo, Facts, Kind, Policy, Properties, ResName, RowNo, StackName, Status, TravNo, WORN,
+};
+use heat_value::Seq;
+use plan_codec::{Readable, Unread};
+use row_table::Row;
+use std::alloc::Global;
+
+impl Readable for Row {
+    ghost use Rattle.row_codec.specs.Records.{spelled_row, IsProperRow};
+    ghost use Rattle.row_codec.specs.RecordLaws.{row_unique};
+
+    ghost spelled = { spelled_row };
+
+    ghost proper = { IsProperRow };
+
+    fn read<'a>(alloc: Global, bytes: &'a [u8]) -> Result<(Row, &'a [u8]), Unread> {
+        let (row, rest) = any_row_at(alloc, bytes)?;
+        if !is_storable(&row) {
+            return Err(Unread::Unspelled);
+        }
+        Ok((row, rest))
+    }
+
+    ghost unique = { row_unique };
+}
+
+// Whether the row's key is below 2^62 and its act is no rollback.
+fn is_storable(row: &Row) -> bool
+    ensures { IsTrue result ↔ (row.now.key < 2 ^ 62) × (row.now.act ≢ Rollback) }
+{
+    row.key < WORN && row.act != Act::Rollback
+}
+
+// Its number and names, what was last begun at it, and how far that is.
+type Head = (RowNo, (StackName, (ResName, (Kind, (Act, (Status, TravNo))))));
+
+// Its properties, those that it is to get, and its facts.
+type Contents = (Properties, (Option<Properties>, Option<Facts>));
+
+// The rows that it requires, those round it, its engine, key and policy.
+type Ties = (
+    Seq<RowNo>,
+    (Option<RowNo>, (Option<RowNo>, (Option<EngineNo>, (u64, Policy)))),
+);
+
+// The row at the front, whatever its act and key.
+fn any_row_at(alloc: Global, bytes: &[u8]) -> Result<(Row, &[u8]), Unread>
+    ensures ok { IfOk result (λ x. Takes spelled_row IsAnyRow bytes.now x.0 x.1.now) }
+    ensures err { IfErr result (Refuses spelled_row IsAnyRow bytes.now) }
+{
+    let (parts, rest) = <(Head, (Contents, Ties))>::read(alloc, bytes)?;
+    Ok((row_of(parts), rest))
+}
+
+// The row of its parts.
+fn row_of(parts: (Head, (Contents, Ties))) -> Row
+    ensures { result ≡ row_parts.to parts }
+{
+    let (head, (contents, ties)) = parts;
+    let (no, (stack, (name, (kind, (act, (status, trav)))))) = head;
+    let (props, (target, facts)) = contents;
+    let (requires_, (replaces, (replaced_by, (engine, (key, policy))))) = ties;
+    Row {
+        no,
+        stack,
+        name,
+        kind,
+        act,
+        status,
+        trav,
+        props,
+        target,
+        facts,
+        requires_,
+        replaces,
+        replaced_by,
+        engine,
+        key,
+        policy,
+    }
+}
