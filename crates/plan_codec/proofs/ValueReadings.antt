@@ -77,9 +77,9 @@ pub no_value : (limit : ℕ) (bytes : List ℕ) → ((rest : List ℕ) → bytes
 no_value limit bytes n0 n1 n2 n3 n4 n5 n6 = record { none = untagged limit bytes n0 n1 n2 n3 n4 n5 n6 }
 
 -- nothing nests less deep than not at all
-pub no_items : (bytes : List ℕ) (limit : ℕ) (e : Unread) → limit ≡ 0 → Refuses spelled_items (AreItems limit) bytes e
-no_items bytes limit unread.Memory so = tt
-no_items bytes limit unread.Unspelled so = record { none = λ x q p e. absurd (omega (arith, so, p.1)) }
+pub no_inner_items : (bytes : List ℕ) (limit : ℕ) (e : Unread) → limit ≡ 0 → Refuses spelled_items (AreItems limit) bytes e
+no_inner_items bytes limit unread.Memory so = tt
+no_inner_items bytes limit unread.Unspelled so = record { none = λ x q p e. absurd (omega (arith, so, p.1)) }
 
 pub no_inner_fields : (bytes : List ℕ) (limit : ℕ) (e : Unread) → limit ≡ 0 → Refuses spelled_fields (IsWithinFields limit) bytes e
 no_inner_fields bytes limit unread.Memory so = tt

@@ -1,3 +1,4 @@
+pub mod Below
 pub mod Sheets
 pub mod Spellings
 pub mod Numbers

@@ -23,6 +23,11 @@ mod value_puts;
 mod values;
 
 pub use coding::{Readable, Writable};
+pub use heat_plan::{
+    Act, EngineNo, Facts, Kind, LetterNo, Plan, Policy, Properties, ResName, RowNo, StackName, StackNo, Status, Token,
+    TravNo, WORN,
+};
+pub use heat_value::Seq;
 pub use lists::{items_at, put_items};
 pub use numbers::put_number;
 pub use sheet::Sheet;

@@ -1,7 +1,7 @@
 -- What a reader of a change's fields answers of the change.
 use Rattle.std.proofs.Common.{◌≡◌, ◌≢◌, ℕ, List, [], ◌∷◌, ◌++◌, ◌≤◌, refl, sym, ap, ◌∙◌, arith}
-use Rattle.heat_plan.specs.Names.{IsStackName}
-use Rattle.heat_plan.specs.Numbers.{IsNumber}
+use Rattle.plan_codec.specs.Below.{IsStackName}
+use Rattle.plan_codec.specs.Below.{IsNumber}
 use Rattle.core_state.specs.declared.change.Change.{Change}
 use Rattle.core_state.specs.declared.change.Change.TheVariants as change
 use Rattle.plan_codec.specs.declared.unread.Unread.{Unread}

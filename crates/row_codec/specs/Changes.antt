@@ -1,8 +1,8 @@
 -- Changes as bytes: a tag from 1, and the fields. A payload is a list of changes and nothing more.
 use Rattle.std.specs.Prelude.{◌≡◌, ◌≢◌, ◌<◌, ◌^◌, ℕ, List, ◌∷◌, ◌++◌}
-use Rattle.heat_plan.specs.declared.phase.Act.TheVariants.{Rollback}
-use Rattle.heat_plan.specs.Names.{IsStackName}
-use Rattle.heat_plan.specs.Numbers.{IsNumber}
+use Rattle.plan_codec.specs.Below.{Rollback}
+use Rattle.plan_codec.specs.Below.{IsStackName}
+use Rattle.plan_codec.specs.Below.{IsNumber}
 use Rattle.core_state.specs.declared.change.Change.{Change}
 use Rattle.core_state.specs.declared.change.Change.TheVariants as change
 use Rattle.plan_codec.specs.Numbers.{spelled_number, spelled_bytes}

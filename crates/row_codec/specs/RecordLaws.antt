@@ -1,9 +1,9 @@
 -- That each record has one spelling.
 use Rattle.std.specs.Prelude.{◌≡◌, ◌≢◌, ℕ, ◌<◌, ◌^◌, List, ◌++◌, refl}
 use Rattle.std.proofs.Common.{arith}
-use Rattle.heat_plan.specs.Names.{IsStackName, IsResName}
-use Rattle.heat_plan.specs.Numbers.{IsNumber}
-use Rattle.heat_plan.specs.declared.phase.Act.TheVariants.{Rollback}
+use Rattle.plan_codec.specs.Below.{IsStackName, IsResName}
+use Rattle.plan_codec.specs.Below.{IsNumber}
+use Rattle.plan_codec.specs.Below.{Rollback}
 use Rattle.row_table.specs.declared.row.Row.{Row}
 use Rattle.plan_codec.specs.Spellings.{IsUnique, Regroups}
 use Rattle.plan_codec.specs.Numbers.{spelled_number, spelled_bytes, spelled_flag, IsHalfWord, IsWord, IsAny}

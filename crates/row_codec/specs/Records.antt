@@ -1,9 +1,9 @@
 -- What a state holds, as bytes: the parts of each record in their order.
 use Rattle.std.specs.Prelude.{◌≢◌, ℕ, ◌<◌, ◌^◌, List, ◌++◌}
-use Rattle.heat_plan.specs.Names.{IsStackName, IsResName}
-use Rattle.heat_plan.specs.Numbers.{IsNumber}
-use Rattle.heat_plan.specs.declared.phase.Act.TheVariants.{Rollback}
-use Rattle.heat_plan.specs.declared.token.Token.{Token}
+use Rattle.plan_codec.specs.Below.{IsStackName, IsResName}
+use Rattle.plan_codec.specs.Below.{IsNumber}
+use Rattle.plan_codec.specs.Below.{Rollback}
+use Rattle.plan_codec.specs.Below.{Token}
 use Rattle.traversal_graph.specs.declared.shape.TravGraph.{TravGraph}
 use Rattle.row_table.specs.declared.row.Row.{Row}
 use Rattle.sync_points.specs.declared.point.Input.{Input}

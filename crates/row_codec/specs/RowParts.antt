@@ -1,7 +1,7 @@
 -- What a row keeps, part by part, but for its act and key.
 use Rattle.std.specs.Prelude.{ℕ}
-use Rattle.heat_plan.specs.Names.{IsStackName, IsResName}
-use Rattle.heat_plan.specs.Numbers.{IsNumber}
+use Rattle.plan_codec.specs.Below.{IsStackName, IsResName}
+use Rattle.plan_codec.specs.Below.{IsNumber}
 use Rattle.row_table.specs.declared.row.Row.{Row}
 use Rattle.plan_codec.specs.Numbers.{IsWord}
 use Rattle.plan_codec.specs.Parts.{IsIfSome, AreAll}

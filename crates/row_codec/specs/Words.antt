@@ -1,11 +1,11 @@
 -- Acts, statuses, stages, nodes and next numbers as bytes.
 use Rattle.std.specs.Prelude.{ℕ, ◌<◌, ◌≤◌, ◌^◌, List, [], ◌∷◌, ◌++◌}
-use Rattle.heat_plan.specs.Names.{IsResName}
-use Rattle.heat_plan.specs.Numbers.{IsNumber}
-use Rattle.heat_plan.specs.declared.phase.Act.{Act}
-use Rattle.heat_plan.specs.declared.phase.Act.TheVariants.{Init, Create, Update, Delete, Rollback}
-use Rattle.heat_plan.specs.declared.phase.Status.{Status}
-use Rattle.heat_plan.specs.declared.phase.Status.TheVariants.{Complete, InProgress, Failed}
+use Rattle.plan_codec.specs.Below.{IsResName}
+use Rattle.plan_codec.specs.Below.{IsNumber}
+use Rattle.plan_codec.specs.Below.{Act}
+use Rattle.plan_codec.specs.Below.{Init, Create, Update, Delete, Rollback}
+use Rattle.plan_codec.specs.Below.{Status}
+use Rattle.plan_codec.specs.Below.{Complete, InProgress, Failed}
 use Rattle.mail_table.specs.declared.mail.Stage.{Stage}
 use Rattle.mail_table.specs.declared.mail.Stage.TheVariants.{Taken, Asking, Polling, Ending}
 use Rattle.traversal_graph.specs.declared.shape.Node.{Node}

@@ -1,6 +1,5 @@
 //! Graphs of traversals.
-use heat_value::Seq;
-use plan_codec::{Readable, Sheet, Unread, Writable};
+use plan_codec::{Readable, Seq, Sheet, Unread, Writable};
 use traversal_graph::{Node, TravGraph};
 use std::alloc::Global;
 

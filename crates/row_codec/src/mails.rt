@@ -1,7 +1,6 @@
 //! Letters and jobs.
-use heat_plan::{EngineNo, LetterNo, RowNo, StackName, TravNo};
+use plan_codec::{EngineNo, LetterNo, Readable, RowNo, Sheet, StackName, TravNo, Unread, Writable};
 use mail_table::{Job, Letter, Stage};
-use plan_codec::{Readable, Sheet, Unread, Writable};
 use std::alloc::Global;
 
 impl Readable for Letter {

@@ -1,7 +1,5 @@
 //! Points of graphs, with what they were given.
-use heat_plan::{Facts, ResName, RowNo, StackName};
-use heat_value::Seq;
-use plan_codec::{Readable, Sheet, Unread, Writable};
+use plan_codec::{Facts, Readable, ResName, RowNo, Seq, Sheet, StackName, Unread, Writable};
 use sync_points::{Input, Point, SharedInput};
 use std::alloc::Global;
 

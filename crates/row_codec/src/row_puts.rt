@@ -1,6 +1,6 @@
 //! Writing rows.
 ghost use Rattle.std.specs.Prelude.{◌≡◌, ◌≢◌, ◌<◌, ◌^◌};
-ghost use Rattle.heat_plan.specs.declared.phase.Act.TheVariants.{Rollback};
+ghost use Rattle.plan_codec.specs.Below.{Rollback};
 ghost use Rattle.plan_codec.specs.Sheets.{behind};
 ghost use Rattle.row_codec.specs.Records.{spelled_row, spelled_row_head, spelled_row_contents, spelled_row_ties, IsProperRow};
 ghost use Rattle.row_codec.specs.RowParts.{IsRowHead, AreRowContents, AreRowTies};

@@ -1,15 +1,14 @@
 //! Reading rows.
 ghost use Rattle.std.specs.Prelude.{◌≡◌, ◌≢◌, ◌↔◌, ◌<◌, ◌^◌, IsTrue, IfOk, IfErr};
-ghost use Rattle.heat_plan.specs.declared.phase.Act.TheVariants.{Rollback};
+ghost use Rattle.plan_codec.specs.Below.{Rollback};
 ghost use Rattle.plan_codec.specs.Spellings.{Takes, Refuses};
 ghost use Rattle.row_codec.specs.Records.{spelled_row};
 ghost use Rattle.row_codec.specs.RecordLaws.{IsAnyRow, row_parts};
 
-use heat_plan::{
-    Act, EngineNo, Facts, Kind, Policy, Properties, ResName, RowNo, StackName, Status, TravNo, WORN,
+use plan_codec::{
+    Act, EngineNo, Facts, Kind, Policy, Properties, Readable, ResName, RowNo, Seq, StackName, Status, TravNo, Unread,
+    WORN,
 };
-use heat_value::Seq;
-use plan_codec::{Readable, Unread};
 use row_table::Row;
 use std::alloc::Global;
 

@@ -1,7 +1,6 @@
 //! What has several holders: plans and inputs.
 use core_state::SharedPlan;
-use heat_plan::Plan;
-use plan_codec::{Readable, Sheet, Unread, Writable};
+use plan_codec::{Plan, Readable, Sheet, Unread, Writable};
 use std::alloc::Global;
 use sync_points::{Input, SharedInput};
 

@@ -1,7 +1,6 @@
 //! Stacks, and what they could go back to.
 use core_state::{Past, SharedPlan, Stack};
-use heat_plan::{Act, StackName, StackNo, Status, TravNo};
-use plan_codec::{Readable, Sheet, Unread, Writable};
+use plan_codec::{Act, Readable, Sheet, StackName, StackNo, Status, TravNo, Unread, Writable};
 use std::alloc::Global;
 
 impl Readable for Stack {

@@ -1,6 +1,5 @@
 //! Tokens.
-use heat_plan::{ResName, RowNo, StackName, Token};
-use plan_codec::{Readable, Sheet, Unread, Writable};
+use plan_codec::{Readable, ResName, RowNo, Sheet, StackName, Token, Unread, Writable};
 use std::alloc::Global;
 
 impl Readable for Token {

@@ -1,8 +1,7 @@
 //! Acts, statuses, stages, nodes and next numbers.
 use core_state::Next;
-use heat_plan::{Act, ResName, RowNo, Status, WORN};
+use plan_codec::{Act, Readable, ResName, RowNo, Sheet, Status, Unread, WORN, Writable, put_number};
 use mail_table::Stage;
-use plan_codec::{Readable, Sheet, Unread, Writable, put_number};
 use std::alloc::Global;
 use traversal_graph::Node;
 

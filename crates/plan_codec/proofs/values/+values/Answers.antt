@@ -1,7 +1,7 @@
 use Rattle.std.proofs.Common.{◌≡◌, ap, sym, ◌∙◌, subst, arith}
 use Rattle.std.proofs.lemmas.Result.{err_from_is_err_and}
 use Rattle.heat_value.specs.Meaning.{data_of}
-use Rattle.plan_codec.proofs.ValueReadings.{items_refused, fields_refused, no_items, no_inner_fields, inner_refused, inner_taken}
+use Rattle.plan_codec.proofs.ValueReadings.{items_refused, fields_refused, no_inner_items, no_inner_fields, inner_refused, inner_taken}
 use Rattle.plan_codec.proofs.ValueLists.{values_begin, values_more, values_refused, values_taken, count_refused}
 use Rattle.plan_codec.proofs.ValueLists.{members_begin, members_more, members_refused, members_taken, members_count_refused}
 use Rattle.plan_codec.proofs.ValueLists.{key_refused, value_refused, member_taken, map_refused, map_taken, map_falls_if}
@@ -20,7 +20,7 @@ fields_value_at-returns-in_err-fields-clause-err t c =
 pub items_at-returns-in_err-deep-clause-err : goal.items_at-returns-in_err-deep-clause-err
 items_at-returns-in_err-deep-clause-err t c =
     let p = err_from_is_err_and c.from_residual.result c.from_residual.ensures.1 in
-    rw (p.1, p.2) (no_items c.args.bytes.now c.args.limit c.in_err-deep.field-0.0 c.in_err-deep.ensures.err)
+    rw (p.1, p.2) (no_inner_items c.args.bytes.now c.args.limit c.in_err-deep.field-0.0 c.in_err-deep.ensures.err)
 
 pub items_at-returns-in_err-count-clause-err : goal.items_at-returns-in_err-count-clause-err
 items_at-returns-in_err-count-clause-err t c =
