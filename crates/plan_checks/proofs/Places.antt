@@ -1,5 +1,5 @@
 -- The place of an item by its name.
-use Rattle.std.proofs.Common.{◌≡◌, ◌∙◌, ◌<◌, ℕ, suc, List, [], ◌∷◌, Some, Contains, slice_get, length, refl, sym, ap}
+use Rattle.std.proofs.Common.{◌≡◌, ◌∙◌, ◌<◌, ℕ, zero, suc, List, [], ◌∷◌, Some, Contains, slice_get, length, get_or, refl, sym, ap}
 use Rattle.std.proofs.Common.{subst, inl, inr, ◌⊎◌, arith}
 use Rattle.std.specs.Ordering.{nat_cmp}
 use Rattle.std.specs.Cmp.Lexicographic.{slice_cmp}
@@ -8,10 +8,11 @@ use Rattle.heat_plan.specs.Order.{Rising}
 use Rattle.heat_plan.specs.Plans.{names_of}
 use Rattle.heat_plan.specs.declared.item.Item.{Item}
 use Rattle.traversal_graph.specs.Candidates.{place_of}
+use Rattle.std.specs.declared.cmp.Ordering.TheVariants.{Equal}
 use Rattle.traversal_graph.proofs.PlaceLemmas.{place_found}
 use Rattle.traversal_graph.proofs.NeedMembers.{same_name, place_there, place_least}
 use Rattle.plan_checks.specs.Needs.{IsNamedAt}
-use Rattle.plan_checks.proofs.Members.{front_cases, first_is, none_in}
+use Rattle.plan_checks.proofs.Members.{front_cases, first_is, none_in, behind}
 
 -- a name of the items is one item's
 pub item_named : (is : List Item) (name : List ℕ) → Contains (names_of is) name
@@ -55,6 +56,23 @@ named_at_place is name p h here =
 -- the name whose place is none's isn't an item's
 pub place_past : (is : List Item) (name : List ℕ) → Contains (names_of is) name → length is ≡ place_of is name → ⊥
 place_past is name h past = let inside = place_within is name h in absurd (omega (arith, inside, past))
+
+-- the name of an item is among their names
+name_there : (is : List Item) (name : List ℕ) (p : ℕ) (i : Item) → slice_get is p ≡ Some i → i.name ≡ name
+    → Contains (names_of is) name
+name_there [] name p i at named = absurd (omega (arith, slice_get_within [] p i at))
+name_there (x ∷ is) name zero i at named =
+    let same : x ≡ i = cc in
+    first_is x.name (names_of is) name (sym (ap (λ (y : Item). y.name) same ∙ named))
+name_there (x ∷ is) name (suc p) i at named = behind x.name (names_of is) name (name_there is name p i at named)
+
+-- a name that was found is among them
+pub found_named : (is : List Item) (name : List ℕ) (p : ℕ) → Rising (names_of is) → p < length is
+    → ((d : Item) → slice_cmp nat_cmp (get_or is p d).name name ≡ Equal) → Contains (names_of is) name
+found_named is name p up inside same =
+    let here : p ≡ place_of is name = place_found is name p up inside same in
+    let stands = place_there is name (omega (arith, here, inside)) in
+    name_there is name (place_of is name) stands.0 stands.1 stands.2
 
 -- two items of one name stand at one place
 pub one_place : (is : List Item) (name : List ℕ) (p q : ℕ) → Rising (names_of is) → IsNamedAt is (name ∷ []) p

@@ -1,6 +1,6 @@
 -- What a reader of parts answers of the whole.
 use Rattle.std.proofs.Common.{◌≡◌, ℕ, zero, suc, ◌+◌, ◌<◌, ◌≤◌, ◌^◌, List, [], ◌∷◌, ◌++◌, length, All, Option, Some}
-use Rattle.std.proofs.Common.{None, refl, sym, ap, subst, ◌∙◌, append_assoc, arith}
+use Rattle.std.proofs.Common.{None, ◌⊎◌, inl, inr, get_or, refl, sym, ap, subst, ◌∙◌, append_assoc, arith}
 use Rattle.std.specs.List.{flat_map}
 use Rattle.std.proofs.lemmas.List.{length-append, flat_map_more}
 use Rattle.std.proofs.lemmas.List.Elements.{All-head, All-tail}
@@ -128,3 +128,9 @@ one_more spelled front bytes middle rest xs x so e =
     so ∙ ap (λ (t : List ℕ). front ++ (flat_map spelled xs ++ t)) e
     ∙ ap (λ (t : List ℕ). front ++ t) (sym (append_assoc (flat_map spelled xs) (spelled x) rest))
     ∙ ap (λ (t : List ℕ). front ++ (t ++ rest)) (flat_map_more spelled [] xs x)
+
+-- the first byte, if there is one, is the tag or beyond
+pub tag_past : (tags : ℕ) (bytes : List ℕ) → (length bytes < 1) ⊎ (tags ≤ get_or bytes 0 0) → (tag : ℕ) (rest : List ℕ)
+    → bytes ≡ tag ∷ rest → tags ≤ tag
+tag_past tags bytes (inl none) tag rest e = absurd (omega (arith, none, ap length e))
+tag_past tags bytes (inr past) tag rest e = omega (arith, past, ap (λ (b : List ℕ). get_or b 0 0) e)

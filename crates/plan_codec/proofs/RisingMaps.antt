@@ -1,5 +1,5 @@
 -- Members put into a map one after the other, by rising keys.
-use Rattle.std.proofs.Common.{◌≡◌, ◌∙◌, ℕ, List, [], ◌∷◌, map, refl, sym, ap, subst}
+use Rattle.std.proofs.Common.{◌≡◌, ◌∙◌, ℕ, List, [], ◌∷◌, length, map, refl, sym, ap, subst, arith}
 use Rattle.std.specs.List.{AllByRecursion}
 use Rattle.std.specs.List.Sorted.{IsStrictlySortedBy}
 use Rattle.std.specs.Ordering.{nat_cmp}
@@ -11,7 +11,7 @@ use Rattle.heat_value.specs.declared.value.Member.{Member}
 use Rattle.heat_value.proofs.Searches.{flipped}
 
 -- a map with another behind it
-joined : Members → Members → Members
+abbrev joined : Members → Members → Members
 joined no_members ns = ns
 joined (member k d ms) ns = member k d (joined ms ns)
 
@@ -53,6 +53,12 @@ with_all-rising (e ∷ es) ms up =
 pub with_all-nothing : (es : List Member) → Rises (members_of es) → with_all no_members es ≡ members_of es
 with_all-nothing es up = with_all-rising es no_members up
 
+-- once all were put, the map is theirs
+pub all_put : (ms : Members) (es fs : List Member) → length es ≡ 0 → with_all ms es ≡ with_all no_members fs
+    → Rises (members_of fs) → ms ≡ members_of fs
+all_put ms [] fs none so up = so ∙ with_all-nothing fs up
+all_put ms (e ∷ es) fs none so up = absurd (omega (arith, none))
+
 -- the keys of a map of members
 pub keys_of-members_of : (es : List Member) → keys_of (members_of es) ≡ map (λ (m : Member). m.key) es
 keys_of-members_of [] = refl
@@ -63,5 +69,3 @@ rises_by_keys es up = subst (IsStrictlySortedBy (slice_cmp nat_cmp)) (sym (keys_
 
 pub keys_from_rises : (es : List Member) → Rises (members_of es) → IsStrictlySortedBy (slice_cmp nat_cmp) (map (λ (m : Member). m.key) es)
 keys_from_rises es up = subst (IsStrictlySortedBy (slice_cmp nat_cmp)) (keys_of-members_of es) up
-
-pub ruleset for_maps = (with_all-nothing)

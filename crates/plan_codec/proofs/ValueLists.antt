@@ -57,10 +57,11 @@ values_more bytes rest behind count i deep all more d h t so =
     }
 
 pub values_refused : (bytes rest : List ℕ) (count i deep limit : ℕ) (all : Nodes) (e : Unread) → limit ≡ deep + 1 → HasValues bytes rest count i deep all → i < count → Refuses spelled_value (IsWithin deep) rest e → Refuses spelled_items (AreItems limit) bytes e
-values_refused bytes rest count i deep limit all e so h less no =
-    refused_as (items_parts limit deep so) bytes e (item_refused (within_unique deep) bytes rest count (listed all) e h.so h.word h.each (omega (arith, less, h.counted)) no)
+values_refused bytes rest count i deep limit all e so h less none =
+    refused_as (items_parts limit deep so) bytes e (item_refused (within_unique deep) bytes rest count (listed all) e h.so h.word h.each (omega (arith, less, h.counted)) none)
 
 pub values_taken : (bytes rest : List ℕ) (count i deep limit : ℕ) (all : Nodes) → limit ≡ deep + 1 → HasValues bytes rest count i deep all → i ≡ count → Takes spelled_items (AreItems limit) bytes all rest
+unfolding items_parts
 values_taken bytes rest count i deep limit all so h end =
     subst (λ (ns : Nodes). Takes spelled_items (AreItems limit) bytes ns rest) (nodes_from-listed all)
     (taken_as (items_parts limit deep so) bytes rest (listed all) (items_taken spelled_value (IsWithin deep) bytes rest count (listed all) h.so h.word h.each (h.counted ∙ end)))
@@ -70,6 +71,7 @@ pub map_refused : (bytes : List ℕ) (limit : ℕ) (e : Unread) → Refuses (spe
 map_refused bytes limit e h = any_refused bytes limit e (refused_as (fields_parts limit) bytes e h)
 
 map_any : (bytes rest : List ℕ) (limit : ℕ) (ms : List Member) → Takes (spelled_list spelled_member) (AreAll (IsMember limit)) bytes (map pair_of ms) rest → Takes spelled_fields (AreAnyFields limit) bytes (members_of ms) rest
+unfolding fields_parts
 map_any bytes rest limit ms t = subst (λ (x : Members). Takes spelled_fields (AreAnyFields limit) bytes x rest) (members_from-pairs ms) (taken_as (fields_parts limit) bytes rest (map pair_of ms) t)
 
 pub map_taken : (bytes rest : List ℕ) (limit : ℕ) (ms : List Member) → Rises (members_of ms) → Takes (spelled_list spelled_member) (AreAll (IsMember limit)) bytes (map pair_of ms) rest → Takes spelled_fields (AreFields limit) bytes (members_of ms) rest
@@ -108,8 +110,8 @@ members_more bytes rest behind count i limit all more m h t so =
     }
 
 pub members_refused : (bytes rest : List ℕ) (count i limit : ℕ) (all : List Member) (e : Unread) → HasMembers bytes rest count i limit all → i < count → Refuses spelled_member (IsMember limit) rest e → Refuses (spelled_list spelled_member) (AreAll (IsMember limit)) bytes e
-members_refused bytes rest count i limit all e h less no =
-    item_refused (member_unique limit) bytes rest count (map pair_of all) e h.so h.word h.each (omega (arith, less, h.counted)) no
+members_refused bytes rest count i limit all e h less none =
+    item_refused (member_unique limit) bytes rest count (map pair_of all) e h.so h.word h.each (omega (arith, less, h.counted)) none
 
 pub members_taken : (bytes rest : List ℕ) (count i limit : ℕ) (all : List Member) → HasMembers bytes rest count i limit all → i ≡ count → Takes (spelled_list spelled_member) (AreAll (IsMember limit)) bytes (map pair_of all) rest
 members_taken bytes rest count i limit all h end = items_taken spelled_member (IsMember limit) bytes rest count (map pair_of all) h.so h.word h.each (h.counted ∙ end)

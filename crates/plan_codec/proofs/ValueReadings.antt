@@ -61,20 +61,20 @@ pub fields_refused : (limit : ℕ) (rest : List ℕ) (e : Unread) → Refuses sp
 fields_refused limit rest unread.Memory h = tt
 fields_refused limit rest unread.Unspelled h = record { none = no_fields limit rest h.none }
 
--- bytes that begin with no tag
-untagged : (limit : ℕ) (bytes : List ℕ) → ((rest : List ℕ) → bytes ≢ 0 ∷ rest) → ((rest : List ℕ) → bytes ≢ 1 ∷ rest) → ((rest : List ℕ) → bytes ≢ 2 ∷ rest) → ((rest : List ℕ) → bytes ≢ 3 ∷ rest) → ((rest : List ℕ) → bytes ≢ 4 ∷ rest) → ((rest : List ℕ) → bytes ≢ 5 ∷ rest) → ((rest : List ℕ) → bytes ≢ 6 ∷ rest)
-    → (x : Data) (q : List ℕ) → IsWithin limit x → bytes ≡ spelled_value x ++ q → ⊥
-untagged limit bytes n0 n1 n2 n3 n4 n5 n6 null q p e = n0 q e
-untagged limit bytes n0 n1 n2 n3 n4 n5 n6 (flag false) q p e = n1 q e
-untagged limit bytes n0 n1 n2 n3 n4 n5 n6 (flag true) q p e = n2 q e
-untagged limit bytes n0 n1 n2 n3 n4 n5 n6 (whole y) q p e = n3 _ e
-untagged limit bytes n0 n1 n2 n3 n4 n5 n6 (words y) q p e = n4 _ e
-untagged limit bytes n0 n1 n2 n3 n4 n5 n6 (items y) q p e = n5 _ e
-untagged limit bytes n0 n1 n2 n3 n4 n5 n6 (fields y) q p e = n6 _ e
+-- bytes that begin with no tag of a value
+no_tag : (limit : ℕ) (bytes : List ℕ) → ((tag : ℕ) (rest : List ℕ) → bytes ≡ tag ∷ rest → 7 ≤ tag) → (x : Data)
+    (q : List ℕ) → IsWithin limit x → bytes ≡ spelled_value x ++ q → ⊥
+no_tag limit bytes past null q p e = absurd (omega (arith, past 0 q e))
+no_tag limit bytes past (flag false) q p e = absurd (omega (arith, past 1 q e))
+no_tag limit bytes past (flag true) q p e = absurd (omega (arith, past 2 q e))
+no_tag limit bytes past (whole y) q p e = absurd (omega (arith, past 3 _ e))
+no_tag limit bytes past (words y) q p e = absurd (omega (arith, past 4 _ e))
+no_tag limit bytes past (items y) q p e = absurd (omega (arith, past 5 _ e))
+no_tag limit bytes past (fields y) q p e = absurd (omega (arith, past 6 _ e))
 
-pub no_value : (limit : ℕ) (bytes : List ℕ) → ((rest : List ℕ) → bytes ≢ 0 ∷ rest) → ((rest : List ℕ) → bytes ≢ 1 ∷ rest) → ((rest : List ℕ) → bytes ≢ 2 ∷ rest) → ((rest : List ℕ) → bytes ≢ 3 ∷ rest) → ((rest : List ℕ) → bytes ≢ 4 ∷ rest) → ((rest : List ℕ) → bytes ≢ 5 ∷ rest) → ((rest : List ℕ) → bytes ≢ 6 ∷ rest)
+pub no_value : (limit : ℕ) (bytes : List ℕ) → ((tag : ℕ) (rest : List ℕ) → bytes ≡ tag ∷ rest → 7 ≤ tag)
     → Lacks spelled_value (IsWithin limit) bytes
-no_value limit bytes n0 n1 n2 n3 n4 n5 n6 = record { none = untagged limit bytes n0 n1 n2 n3 n4 n5 n6 }
+no_value limit bytes past = record { none = no_tag limit bytes past }
 
 -- nothing nests less deep than not at all
 pub no_inner_items : (bytes : List ℕ) (limit : ℕ) (e : Unread) → limit ≡ 0 → Refuses spelled_items (AreItems limit) bytes e

@@ -35,7 +35,7 @@ policies Retain Retain r q e = (refl, cc)
 pub policy_unique : IsUnique spelled_policy IsPolicy
 policy_unique = record { one = λ x y r q p o e. policies x y r q e }
 
-pub kind_parts : Regroups (spelled_pair spelled_bytes (spelled_pair (spelled_list spelled_bytes) (spelled_list spelled_bytes)))
+unfoldable pub kind_parts : Regroups (spelled_pair spelled_bytes (spelled_pair (spelled_list spelled_bytes) (spelled_list spelled_bytes)))
     (AreBoth IsText (AreBoth (AreAll IsText) (AreAll IsText)))
     spelled_kind IsProperKind
 unfolding spelled_kind
@@ -52,7 +52,7 @@ kind_parts = record {
 pub kind_unique : IsUnique spelled_kind IsProperKind
 kind_unique = regrouped_unique kind_parts (pair_unique text_unique (pair_unique (list_unique text_unique) (list_unique text_unique)))
 
-pub facts_parts : Regroups (spelled_pair spelled_bytes spelled_fields)
+unfoldable pub facts_parts : Regroups (spelled_pair spelled_bytes spelled_fields)
     (AreBoth IsText IsProperties)
     spelled_facts IsProperFacts
 unfolding spelled_facts
@@ -69,7 +69,7 @@ facts_parts = record {
 pub facts_unique : IsUnique spelled_facts IsProperFacts
 facts_unique = regrouped_unique facts_parts (pair_unique text_unique properties_unique)
 
-pub item_parts : Regroups (spelled_pair spelled_bytes (spelled_pair spelled_kind (spelled_pair spelled_fields (spelled_pair (spelled_list spelled_bytes) spelled_policy))))
+unfoldable pub item_parts : Regroups (spelled_pair spelled_bytes (spelled_pair spelled_kind (spelled_pair spelled_fields (spelled_pair (spelled_list spelled_bytes) spelled_policy))))
     (AreBoth IsResName (AreBoth IsProperKind (AreBoth IsProperties (AreBoth IsProperNeeds IsPolicy))))
     spelled_item IsProperItem
 unfolding spelled_item
@@ -86,7 +86,7 @@ item_parts = record {
 pub item_unique : IsUnique spelled_item IsProperItem
 item_unique = regrouped_unique item_parts (pair_unique resource_name_unique (pair_unique kind_unique (pair_unique properties_unique (pair_unique needs_unique policy_unique))))
 
-pub output_parts : Regroups (spelled_pair spelled_bytes spelled_value)
+unfoldable pub output_parts : Regroups (spelled_pair spelled_bytes spelled_value)
     (AreBoth IsText (IsWithin 64))
     spelled_output IsProperOutput
 unfolding spelled_output
@@ -103,7 +103,7 @@ output_parts = record {
 pub output_unique : IsUnique spelled_output IsProperOutput
 output_unique = regrouped_unique output_parts (pair_unique text_unique (within_unique 64))
 
-pub condition_parts : Regroups (spelled_pair spelled_bytes spelled_flag)
+unfoldable pub condition_parts : Regroups (spelled_pair spelled_bytes spelled_flag)
     (AreBoth IsText IsAny)
     spelled_condition IsProperCondition
 unfolding spelled_condition
@@ -120,7 +120,7 @@ condition_parts = record {
 pub condition_unique : IsUnique spelled_condition IsProperCondition
 condition_unique = regrouped_unique condition_parts (pair_unique text_unique flag_unique)
 
-pub file_parts : Regroups (spelled_pair spelled_bytes spelled_bytes)
+unfoldable pub file_parts : Regroups (spelled_pair spelled_bytes spelled_bytes)
     (AreBoth IsText IsText)
     spelled_file IsProperFile
 unfolding spelled_file
@@ -146,7 +146,7 @@ pub record IsAnyPlan (p : PlanData) : Type 0 where
   pub files : AreAll IsProperFile p.files
   pub absent : AreAll IsResName p.absent
 
-pub plan_parts : Regroups (spelled_pair (spelled_list spelled_item) (spelled_pair (spelled_list spelled_output) (spelled_pair spelled_fields (spelled_pair (spelled_list spelled_condition) (spelled_pair (spelled_list spelled_file) (spelled_list spelled_bytes))))))
+unfoldable pub plan_parts : Regroups (spelled_pair (spelled_list spelled_item) (spelled_pair (spelled_list spelled_output) (spelled_pair spelled_fields (spelled_pair (spelled_list spelled_condition) (spelled_pair (spelled_list spelled_file) (spelled_list spelled_bytes))))))
     (AreBoth (AreAll IsProperItem) (AreBoth (AreAll IsProperOutput) (AreBoth IsParameters (AreBoth (AreAll IsProperCondition) (AreBoth (AreAll IsProperFile) (AreAll IsResName))))))
     spelled_plan IsAnyPlan
 unfolding spelled_plan

@@ -168,23 +168,23 @@ pub listed-node_last : (ns : Nodes) (d : Data) → listed (node_last ns d) ≡ l
 listed-node_last no_nodes d = refl
 listed-node_last (node e ns) d = ap (λ (t : List Data). e ∷ t) (listed-node_last ns d)
 
-spelled_items-listed : (ns : Nodes) → spelled_items ns ≡ spelled_list spelled_value (listed ns)
+pub spelled_items-listed : (ns : Nodes) → spelled_items ns ≡ spelled_list spelled_value (listed ns)
 spelled_items-listed ns = λ i. spelled_number (nodes_count-listed ns i) ++ spelled_nodes-listed ns i
 
-all_values : (limit : ℕ) (ns : Nodes) → AreValues ns → nodes_depth ns ≤ limit → AllByRecursion (IsWithin limit) (listed ns)
+pub all_values : (limit : ℕ) (ns : Nodes) → AreValues ns → nodes_depth ns ≤ limit → AllByRecursion (IsWithin limit) (listed ns)
 all_values limit no_nodes p le = tt
 all_values limit (node d ns) p le = ((p.0, omega (arith, le)), all_values limit ns p.1 (omega (arith, le)))
 
-are_values : (limit : ℕ) (ds : List Data) → AllByRecursion (IsWithin limit) ds → AreValues (nodes_from ds)
+pub are_values : (limit : ℕ) (ds : List Data) → AllByRecursion (IsWithin limit) ds → AreValues (nodes_from ds)
 are_values limit [] p = tt
 are_values limit (d ∷ ds) p = (p.0.0, are_values limit ds p.1)
 
-are_shallow : (limit : ℕ) (ds : List Data) → AllByRecursion (IsWithin limit) ds → nodes_depth (nodes_from ds) ≤ limit
+pub are_shallow : (limit : ℕ) (ds : List Data) → AllByRecursion (IsWithin limit) ds → nodes_depth (nodes_from ds) ≤ limit
 are_shallow limit [] p = omega arith
 are_shallow limit (d ∷ ds) p = omega (arith, p.0.1, are_shallow limit ds p.1)
 
 -- a list's items, each of which nests one less deep
-pub items_parts : (limit deep : ℕ) → limit ≡ deep + 1 → Regroups (spelled_list spelled_value) (AreAll (IsWithin deep)) spelled_items (AreItems limit)
+unfoldable pub items_parts : (limit deep : ℕ) → limit ≡ deep + 1 → Regroups (spelled_list spelled_value) (AreAll (IsWithin deep)) spelled_items (AreItems limit)
 items_parts limit deep so = record {
   to = nodes_from;
   from = listed;
@@ -240,18 +240,18 @@ pub spelled_members-paired : (ms : Members) → spelled_members ms ≡ flat_map 
 spelled_members-paired no_members = refl
 spelled_members-paired (member k d ms) = ap (λ (t : List ℕ). (spelled_bytes k ++ spelled_value d) ++ t) (spelled_members-paired ms)
 
-spelled_fields-paired : (ms : Members) → spelled_fields ms ≡ spelled_list spelled_member (paired ms)
+pub spelled_fields-paired : (ms : Members) → spelled_fields ms ≡ spelled_list spelled_member (paired ms)
 spelled_fields-paired ms = λ i. spelled_number (members_count-paired ms i) ++ spelled_members-paired ms i
 
-all_members : (limit : ℕ) (ms : Members) → AreMembers ms → members_depth ms ≤ limit → AllByRecursion (IsMember limit) (paired ms)
+pub all_members : (limit : ℕ) (ms : Members) → AreMembers ms → members_depth ms ≤ limit → AllByRecursion (IsMember limit) (paired ms)
 all_members limit no_members p le = tt
 all_members limit (member k d ms) p le = ((p.0.0, (p.0.1, omega (arith, le))), all_members limit ms p.1 (omega (arith, le)))
 
-are_members : (limit : ℕ) (ps : List Pair) → AllByRecursion (IsMember limit) ps → AreMembers (members_from ps)
+pub are_members : (limit : ℕ) (ps : List Pair) → AllByRecursion (IsMember limit) ps → AreMembers (members_from ps)
 are_members limit [] p = tt
 are_members limit (x ∷ ps) p = ((p.0.0, p.0.1.0), are_members limit ps p.1)
 
-members_shallow : (limit : ℕ) (ps : List Pair) → AllByRecursion (IsMember limit) ps → members_depth (members_from ps) ≤ limit
+pub members_shallow : (limit : ℕ) (ps : List Pair) → AllByRecursion (IsMember limit) ps → members_depth (members_from ps) ≤ limit
 members_shallow limit [] p = omega arith
 members_shallow limit (x ∷ ps) p = omega (arith, p.0.1.1, members_shallow limit ps p.1)
 
@@ -259,7 +259,7 @@ members_shallow limit (x ∷ ps) p = omega (arith, p.0.1.1, members_shallow limi
 abbrev pub AreAnyFields : ℕ → Members → Type 0
 AreAnyFields limit ms = (members_count ms < 2 ^ 64) × (AreMembers ms × (members_depth ms ≤ limit))
 
-pub fields_parts : (limit : ℕ) → Regroups (spelled_list spelled_member) (AreAll (IsMember limit)) spelled_fields (AreAnyFields limit)
+unfoldable pub fields_parts : (limit : ℕ) → Regroups (spelled_list spelled_member) (AreAll (IsMember limit)) spelled_fields (AreAnyFields limit)
 fields_parts limit = record {
   to = members_from;
   from = paired;

@@ -33,7 +33,6 @@ fn keys_rise(members: &[Member]) -> bool
 }
 
 // The map of members whose keys rise.
-#[tactic(auto, using(crate::proofs::RisingMaps::for_maps))]
 fn map_of(alloc: Global, members: Vec<Member>) -> Result<Props, AllocError>
     requires { Rises (members_of members.items) }
     ensures { IfOk result (λ p. p ≡ members_of members.items) }

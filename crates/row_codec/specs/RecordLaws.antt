@@ -28,7 +28,7 @@ use Rattle.row_codec.specs.Records.{spelled_past, IsProperPast}
 use Rattle.row_codec.specs.Records.{spelled_token, IsProperToken}
 use Rattle.row_codec.specs.Records.{spelled_row_head, spelled_row_contents, spelled_row_ties, spelled_row, IsProperRow}
 
-pub stack_parts : Regroups (spelled_pair spelled_bytes (spelled_pair spelled_number (spelled_pair spelled_number (spelled_pair spelled_act (spelled_pair spelled_status (spelled_option spelled_plan))))))
+unfoldable pub stack_parts : Regroups (spelled_pair spelled_bytes (spelled_pair spelled_number (spelled_pair spelled_number (spelled_pair spelled_act (spelled_pair spelled_status (spelled_option spelled_plan))))))
     (AreBoth IsStackName (AreBoth IsNumber (AreBoth IsNumber (AreBoth IsAct (AreBoth IsStatus (IsIfSome IsProperPlan))))))
     spelled_stack IsProperStack
 unfolding spelled_stack
@@ -45,7 +45,7 @@ stack_parts = record {
 pub stack_unique : IsUnique spelled_stack IsProperStack
 stack_unique = regrouped_unique stack_parts (pair_unique stack_name_unique (pair_unique drawn_unique (pair_unique drawn_unique (pair_unique act_unique (pair_unique status_unique (option_unique plan_unique))))))
 
-pub graph_parts : Regroups (spelled_pair (spelled_list spelled_node) (spelled_list (spelled_pair spelled_number spelled_number)))
+unfoldable pub graph_parts : Regroups (spelled_pair (spelled_list spelled_node) (spelled_list (spelled_pair spelled_number spelled_number)))
     (AreBoth (AreAll IsProperNode) (AreAll (AreBoth IsHalfWord IsHalfWord)))
     spelled_graph IsProperGraph
 unfolding spelled_graph
@@ -62,7 +62,7 @@ graph_parts = record {
 pub graph_unique : IsUnique spelled_graph IsProperGraph
 graph_unique = regrouped_unique graph_parts (pair_unique (list_unique node_unique) (list_unique (pair_unique half_word_unique half_word_unique)))
 
-pub input_parts : Regroups (spelled_pair spelled_number (spelled_pair (spelled_option spelled_bytes) (spelled_pair spelled_number (spelled_option spelled_facts))))
+unfoldable pub input_parts : Regroups (spelled_pair spelled_number (spelled_pair (spelled_option spelled_bytes) (spelled_pair spelled_number (spelled_option spelled_facts))))
     (AreBoth IsHalfWord (AreBoth (IsIfSome IsResName) (AreBoth IsNumber (IsIfSome IsProperFacts))))
     spelled_input IsProperInput
 unfolding spelled_input
@@ -79,7 +79,7 @@ input_parts = record {
 pub input_unique : IsUnique spelled_input IsProperInput
 input_unique = regrouped_unique input_parts (pair_unique half_word_unique (pair_unique (option_unique resource_name_unique) (pair_unique drawn_unique (option_unique facts_unique))))
 
-pub point_parts : Regroups (spelled_pair spelled_bytes (spelled_pair spelled_number (spelled_pair (spelled_list spelled_input) spelled_flag)))
+unfoldable pub point_parts : Regroups (spelled_pair spelled_bytes (spelled_pair spelled_number (spelled_pair (spelled_list spelled_input) spelled_flag)))
     (AreBoth IsStackName (AreBoth IsHalfWord (AreBoth (AreAll IsProperInput) IsAny)))
     spelled_point IsProperPoint
 unfolding spelled_point
@@ -96,7 +96,7 @@ point_parts = record {
 pub point_unique : IsUnique spelled_point IsProperPoint
 point_unique = regrouped_unique point_parts (pair_unique stack_name_unique (pair_unique half_word_unique (pair_unique (list_unique input_unique) flag_unique)))
 
-pub letter_parts : Regroups (spelled_pair spelled_number (spelled_pair spelled_bytes (spelled_pair spelled_number spelled_number)))
+unfoldable pub letter_parts : Regroups (spelled_pair spelled_number (spelled_pair spelled_bytes (spelled_pair spelled_number spelled_number)))
     (AreBoth IsNumber (AreBoth IsStackName (AreBoth IsNumber IsHalfWord)))
     spelled_letter IsProperLetter
 unfolding spelled_letter
@@ -113,7 +113,7 @@ letter_parts = record {
 pub letter_unique : IsUnique spelled_letter IsProperLetter
 letter_unique = regrouped_unique letter_parts (pair_unique drawn_unique (pair_unique stack_name_unique (pair_unique drawn_unique half_word_unique)))
 
-pub job_parts : Regroups (spelled_pair spelled_number (spelled_pair spelled_letter (spelled_pair spelled_number spelled_stage)))
+unfoldable pub job_parts : Regroups (spelled_pair spelled_number (spelled_pair spelled_letter (spelled_pair spelled_number spelled_stage)))
     (AreBoth IsNumber (AreBoth IsProperLetter (AreBoth IsNumber IsStage)))
     spelled_job IsProperJob
 unfolding spelled_job
@@ -130,7 +130,7 @@ job_parts = record {
 pub job_unique : IsUnique spelled_job IsProperJob
 job_unique = regrouped_unique job_parts (pair_unique drawn_unique (pair_unique letter_unique (pair_unique drawn_unique stage_unique)))
 
-pub numbers_parts : Regroups (spelled_pair spelled_number (spelled_pair spelled_number (spelled_pair spelled_number (spelled_pair spelled_number spelled_number))))
+unfoldable pub numbers_parts : Regroups (spelled_pair spelled_number (spelled_pair spelled_number (spelled_pair spelled_number (spelled_pair spelled_number spelled_number))))
     (AreBoth IsNext (AreBoth IsNext (AreBoth IsNext (AreBoth IsNext IsNext))))
     spelled_numbers IsProperNumbers
 unfolding spelled_numbers
@@ -147,7 +147,7 @@ numbers_parts = record {
 pub numbers_unique : IsUnique spelled_numbers IsProperNumbers
 numbers_unique = regrouped_unique numbers_parts (pair_unique next_unique (pair_unique next_unique (pair_unique next_unique (pair_unique next_unique next_unique))))
 
-pub past_parts : Regroups (spelled_pair spelled_bytes (spelled_pair spelled_flag (spelled_option spelled_plan)))
+unfoldable pub past_parts : Regroups (spelled_pair spelled_bytes (spelled_pair spelled_flag (spelled_option spelled_plan)))
     (AreBoth IsStackName (AreBoth IsAny (IsIfSome IsProperPlan)))
     spelled_past IsProperPast
 unfolding spelled_past
@@ -164,7 +164,7 @@ past_parts = record {
 pub past_unique : IsUnique spelled_past IsProperPast
 past_unique = regrouped_unique past_parts (pair_unique stack_name_unique (pair_unique flag_unique (option_unique plan_unique)))
 
-pub token_parts : Regroups (spelled_pair spelled_bytes (spelled_pair spelled_bytes spelled_number))
+unfoldable pub token_parts : Regroups (spelled_pair spelled_bytes (spelled_pair spelled_bytes spelled_number))
     (AreBoth IsStackName (AreBoth IsResName IsNumber))
     spelled_token IsProperToken
 unfolding spelled_token
@@ -200,7 +200,7 @@ pub record IsAnyRow (r : Row) : Type 0 where
   pub key : IsWord r.key
   pub policy : IsPolicy r.policy
 
-pub row_parts : Regroups (spelled_pair (spelled_pair spelled_number (spelled_pair spelled_bytes (spelled_pair spelled_bytes (spelled_pair spelled_kind (spelled_pair spelled_act (spelled_pair spelled_status spelled_number))))))
+unfoldable pub row_parts : Regroups (spelled_pair (spelled_pair spelled_number (spelled_pair spelled_bytes (spelled_pair spelled_bytes (spelled_pair spelled_kind (spelled_pair spelled_act (spelled_pair spelled_status spelled_number))))))
     (spelled_pair (spelled_pair spelled_fields (spelled_pair (spelled_option spelled_fields) (spelled_option spelled_facts)))
     (spelled_pair (spelled_list spelled_number) (spelled_pair (spelled_option spelled_number) (spelled_pair (spelled_option spelled_number) (spelled_pair (spelled_option spelled_number) (spelled_pair spelled_number spelled_policy)))))))
     (AreBoth (AreBoth IsNumber (AreBoth IsStackName (AreBoth IsResName (AreBoth IsProperKind (AreBoth IsAct (AreBoth IsStatus IsNumber))))))

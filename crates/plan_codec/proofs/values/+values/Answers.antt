@@ -1,10 +1,14 @@
-use Rattle.std.proofs.Common.{◌≡◌, ap, sym, ◌∙◌, subst, arith}
+use Rattle.std.proofs.Common.{rules}
+use Rattle.std.proofs.lemmas.Grind.{common_steps}
+use Rattle.std.proofs.Common.{◌≡◌, ap, sym, ◌∙◌, subst, arith, inl, inr}
+use Rattle.plan_codec.proofs.Readings.{tag_past}
 use Rattle.std.proofs.lemmas.Result.{err_from_is_err_and}
 use Rattle.heat_value.specs.Meaning.{data_of}
-use Rattle.plan_codec.proofs.ValueReadings.{items_refused, fields_refused, no_inner_items, no_inner_fields, inner_refused, inner_taken}
+use Rattle.plan_codec.proofs.ValueReadings.{items_refused, fields_refused, no_value, no_inner_items, no_inner_fields, inner_refused, inner_taken}
 use Rattle.plan_codec.proofs.ValueLists.{values_begin, values_more, values_refused, values_taken, count_refused}
 use Rattle.plan_codec.proofs.ValueLists.{members_begin, members_more, members_refused, members_taken, members_count_refused}
 use Rattle.plan_codec.proofs.ValueLists.{key_refused, value_refused, member_taken, map_refused, map_taken, map_falls_if}
+use Rattle.plan_codec.proofs.values.+values.Goals.{value_at-in_default-via-then-bytes-lt1, value_at-in_default-via-else-bytes-lt1+in_default-1}
 use Rattle.plan_codec.proofs.values.+values.Goals as goal
 
 pub items_value_at-returns-in_err-items-clause-err : goal.items_value_at-returns-in_err-items-clause-err
@@ -98,3 +102,9 @@ member_at-returns-in_err-value-clause-err t c =
 
 pub member_at-returns-clause-ok : goal.member_at-returns-clause-ok
 member_at-returns-clause-ok t c = member_taken c.args.bytes.now c.in_ok-key.rest.now c.in_ok-value.rest.now c.args.limit c.in_ok-key.key (data_of c.in_ok-value.value) c.in_ok-key.ensures.ok c.in_ok-value.ensures.ok
+
+pub value_at-returns-in_default-clause-err : goal.value_at-returns-in_default-clause-err
+value_at-returns-in_default-clause-err t c = elim c.in_default.branch [
+  | value_at-in_default-via-then-bytes-lt1 w ↦ no_value c.args.limit c.args.bytes.now (tag_past 7 c.args.bytes.now (inl (first_of (search rules, grind (arith, common_steps)))))
+  | value_at-in_default-via-else-bytes-lt1+in_default-1 w ↦ no_value c.args.limit c.args.bytes.now (tag_past 7 c.args.bytes.now (inr (omega arith)))
+]

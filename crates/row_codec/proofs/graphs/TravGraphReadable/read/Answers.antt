@@ -9,4 +9,5 @@ returns-in_err-parts-clause-err c =
     rw (p.1, p.2) (refused_as graph_parts c.args.bytes.now c.in_err-parts.field-0.0 c.in_err-parts.ensures.err)
 
 pub returns-clause-ok : goal.returns-clause-ok
+unfolding graph_parts
 returns-clause-ok c = taken_as graph_parts c.args.bytes.now c.in_ok-parts.rest.now c.in_ok-parts.parts c.in_ok-parts.ensures.ok
