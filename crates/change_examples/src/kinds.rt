@@ -10,7 +10,8 @@ use std::test::Fail;
 /// A stack s, number 2, traversal 3, CREATE_IN_PROGRESS; its plan has an item a of the kind K with the
 /// attribute x, the property p of -2 and the policy Retain, an output o of a list of null and true, the
 /// parameter q of the text w, the condition c that is false, an empty file f, and the absent name b.
-pub const PUT_STACK: &str = "0000000000000001 01 0000000000000001 73 0000000000000002 0000000000000003 01 01 01 \
+pub const PUT_STACK: &str =
+    "0000000000000001 01 0000000000000001 73 0000000000000002 0000000000000003 01 01 01 \
     0000000000000001 0000000000000001 61 0000000000000001 4b 0000000000000001 0000000000000001 78 \
     0000000000000000 0000000000000001 0000000000000001 70 03 fffffffffffffffe 0000000000000000 01 \
     0000000000000001 0000000000000001 6f 05 0000000000000002 00 02 \
@@ -21,7 +22,8 @@ pub const PUT_STACK: &str = "0000000000000001 01 0000000000000001 73 00000000000
 /// A row 7 of the stack s, named a, of the kind K, UPDATE_IN_PROGRESS in traversal 3, without properties; it is
 /// to get the property p, a map that has false under k; its id is i, it requires row 5, was replaced by row 9,
 /// is engine 4's, and its key is 2^62 - 1.
-pub const PUT_ROW: &str = "0000000000000001 03 0000000000000007 0000000000000001 73 0000000000000001 61 \
+pub const PUT_ROW: &str =
+    "0000000000000001 03 0000000000000007 0000000000000001 73 0000000000000001 61 \
     0000000000000001 4b 0000000000000000 0000000000000000 02 01 0000000000000003 \
     0000000000000000 01 0000000000000001 0000000000000001 70 06 0000000000000001 0000000000000001 6b 01 \
     01 0000000000000001 69 0000000000000000 \
@@ -61,7 +63,8 @@ const NUMBERS: &str = "0000000000000001 0d 0000000000000002 0000000000000004 000
 
 const PUT_PAST: &str = "0000000000000001 0e 0000000000000001 73 01 00";
 
-const RELEASE: &str = "0000000000000001 0f 0000000000000001 73 0000000000000001 61 0000000000000007";
+const RELEASE: &str =
+    "0000000000000001 0f 0000000000000001 73 0000000000000001 61 0000000000000007";
 
 // Two changes in one list, and none.
 const TWO: &str = "0000000000000002 04 0000000000000007 0c 0000000000000005";
@@ -97,8 +100,8 @@ fn stands_alone(alloc: Global, bytes: &[u8]) -> Result<bool, AllocError> {
 #[test]
 fn each_kind_is_read_and_written(rt: HostRuntime) -> Result<(), Fail> {
     let kinds = [
-        PUT_STACK, DROP_STACK, PUT_ROW, DROP_ROW, PUT_GRAPH, PUT_POINT, SEND, DROP, PUT_JOB, END_JOB,
-        ENLIST, STOP, NUMBERS, PUT_PAST, RELEASE, TWO, NONE,
+        PUT_STACK, DROP_STACK, PUT_ROW, DROP_ROW, PUT_GRAPH, PUT_POINT, SEND, DROP, PUT_JOB,
+        END_JOB, ENLIST, STOP, NUMBERS, PUT_PAST, RELEASE, TWO, NONE,
     ];
     for kind in kinds {
         let bytes = bytes_of(rt.alloc(), kind)?;
@@ -110,8 +113,8 @@ fn each_kind_is_read_and_written(rt: HostRuntime) -> Result<(), Fail> {
 #[test]
 fn no_kind_is_read_cut_or_with_more(rt: HostRuntime) -> Result<(), Fail> {
     let kinds = [
-        PUT_STACK, DROP_STACK, PUT_ROW, DROP_ROW, PUT_GRAPH, PUT_POINT, SEND, DROP, PUT_JOB, END_JOB,
-        ENLIST, STOP, NUMBERS, PUT_PAST, RELEASE, TWO, NONE,
+        PUT_STACK, DROP_STACK, PUT_ROW, DROP_ROW, PUT_GRAPH, PUT_POINT, SEND, DROP, PUT_JOB,
+        END_JOB, ENLIST, STOP, NUMBERS, PUT_PAST, RELEASE, TWO, NONE,
     ];
     for kind in kinds {
         let bytes = bytes_of(rt.alloc(), kind)?;

@@ -79,7 +79,8 @@ fn what_a_count_claims(rt: HostRuntime) -> Result<(), Fail> {
 
 // A stack with this plan.
 fn planned(alloc: Global, plan: &str) -> Result<bool, AllocError> {
-    let stack = "0000000000000001 01 0000000000000001 73 0000000000000002 0000000000000003 01 01 01";
+    let stack =
+        "0000000000000001 01 0000000000000001 73 0000000000000002 0000000000000003 01 01 01";
     let mut bytes = bytes_of(alloc, stack)?;
     bytes.extend_from_slice(&bytes_of(alloc, plan)?)?;
     Ok(read(alloc, &bytes)?.is_some())
@@ -122,7 +123,8 @@ fn what_a_plan_keeps(rt: HostRuntime) -> Result<(), Fail> {
 
 // The bytes of a row 7 whose property p is a list in a list, so many deep.
 fn nested(alloc: Global, deep: u32) -> Result<Vec<u8>, AllocError> {
-    let before = "0000000000000001 03 0000000000000007 0000000000000001 73 0000000000000001 61 0000000000000001 4b 0000000000000000 0000000000000000 02 00 0000000000000003 0000000000000001 0000000000000001 70";
+    let before =
+        "0000000000000001 03 0000000000000007 0000000000000001 73 0000000000000001 61 0000000000000001 4b 0000000000000000 0000000000000000 02 00 0000000000000003 0000000000000001 0000000000000001 70";
     let after = "00 00 0000000000000000 00 00 00 0000000000000000 00";
     let mut bytes = bytes_of(alloc, before)?;
     for _ in 1..deep {

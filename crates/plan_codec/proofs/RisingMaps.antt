@@ -47,7 +47,7 @@ with_all-rising [] ms up = sym (joined-nothing ms)
 with_all-rising (e ∷ es) ms up =
     let last = put-last ms e.key (data_of e.value) (below_last ms e.key (data_of e.value) (members_of es) up) in
     let whole : joined (put e.key (data_of e.value) ms) (members_of es) ≡ joined ms (members_of (e ∷ es)) =
-        ap (λ (ns : Members). joined ns (members_of es)) last ∙ joined-joined ms (member e.key (data_of e.value) no_members) (members_of es) in
+    ap (λ (ns : Members). joined ns (members_of es)) last ∙ joined-joined ms (member e.key (data_of e.value) no_members) (members_of es) in
     with_all-rising es (put e.key (data_of e.value) ms) (subst Rises (sym whole) up) ∙ whole
 
 pub with_all-nothing : (es : List Member) → Rises (members_of es) → with_all no_members es ≡ members_of es

@@ -125,8 +125,8 @@ pub value_refused : (bytes rest : List ℕ) (limit : ℕ) (k : List ℕ) (e : Un
 value_refused bytes rest limit k unread.Memory t h = tt
 value_refused bytes rest limit k unread.Unspelled t h = record {
   none = λ x q p e.
-    let both = text_unique.one k x.0 rest (spelled_value x.1 ++ q) t.fits p.0 (sym t.parts ∙ e ∙ append_assoc (spelled_bytes x.0) (spelled_value x.1) q) in
-    h.none x.1 q p.1 both.1;
+      let both = text_unique.one k x.0 rest (spelled_value x.1 ++ q) t.fits p.0 (sym t.parts ∙ e ∙ append_assoc (spelled_bytes x.0) (spelled_value x.1) q) in
+      h.none x.1 q p.1 both.1;
 }
 
 pub member_taken : (bytes rest behind : List ℕ) (limit : ℕ) (k : List ℕ) (d : Data) → Takes spelled_bytes IsText bytes k rest → Takes spelled_value (IsWithin limit) rest d behind → Takes spelled_member (IsMember limit) bytes (k, d) behind

@@ -20,8 +20,8 @@ use Rattle.plan_codec.specs.Laws.{narrowed, number_unique, text_unique, list_uni
 pub whole_unique : IsUnique spelled_whole IsWhole
 whole_unique = record {
   one = λ x y r q p o e.
-    let both = number_unique.one (cast_unsigned w64 x) (cast_unsigned w64 y) r q (fits x p) (fits y o) e in
-    (sym (to_z-of_z w64 x p) ∙ ap (cast_signed w64) both.0 ∙ to_z-of_z w64 y o, both.1);
+      let both = number_unique.one (cast_unsigned w64 x) (cast_unsigned w64 y) r q (fits x p) (fits y o) e in
+      (sym (to_z-of_z w64 x p) ∙ ap (cast_signed w64) both.0 ∙ to_z-of_z w64 y o, both.1);
 }
   where
     fits : (z : ℤ) → IsWhole z → cast_unsigned w64 z < 2 ^ 64
@@ -126,8 +126,8 @@ within_unique limit = narrowed value_unique (λ x p. p.0)
 pub fields_unique : IsUnique spelled_fields (λ ms. IsValue (fields ms))
 fields_unique = record {
   one = λ x y r q p o e.
-    let both = values (fields x) (fields y) r q p o (ap (λ (t : List ℕ). 6 ∷ t) e) in
-    (ap members_in both.0, both.1);
+      let both = values (fields x) (fields y) r q p o (ap (λ (t : List ℕ). 6 ∷ t) e) in
+      (ap members_in both.0, both.1);
 }
   where
     members_in : Data → Members
@@ -192,9 +192,9 @@ items_parts limit deep so = record {
   again = nodes_from-listed;
   alike = spelled_items-listed;
   keeps = λ ds p.
-    let each = recursion_from_All (IsWithin deep) ds p.1 in
-    let len : nodes_count (nodes_from ds) ≡ length ds = nodes_count-listed (nodes_from ds) ∙ ap length (listed-nodes_from ds) in
-    ((omega (arith, len, p.0), are_values deep ds each), omega (arith, so, are_shallow deep ds each));
+      let each = recursion_from_All (IsWithin deep) ds p.1 in
+      let len : nodes_count (nodes_from ds) ≡ length ds = nodes_count-listed (nodes_from ds) ∙ ap length (listed-nodes_from ds) in
+      ((omega (arith, len, p.0), are_values deep ds each), omega (arith, so, are_shallow deep ds each));
   gives = λ ns p. (omega (arith, nodes_count-listed ns, p.0.0), All-from_recursion (IsWithin deep) (listed ns) (all_values deep ns p.0.1 (omega (arith, so, p.1))));
 }
 
@@ -267,9 +267,9 @@ fields_parts limit = record {
   again = members_from-paired;
   alike = spelled_fields-paired;
   keeps = λ ps p.
-    let each = recursion_from_All (IsMember limit) ps p.1 in
-    let len : members_count (members_from ps) ≡ length ps = members_count-paired (members_from ps) ∙ ap length (paired-members_from ps) in
-    (omega (arith, len, p.0), (are_members limit ps each, members_shallow limit ps each));
+      let each = recursion_from_All (IsMember limit) ps p.1 in
+      let len : members_count (members_from ps) ≡ length ps = members_count-paired (members_from ps) ∙ ap length (paired-members_from ps) in
+      (omega (arith, len, p.0), (are_members limit ps each, members_shallow limit ps each));
   gives = λ ms p. (omega (arith, members_count-paired ms, p.0), All-from_recursion (IsMember limit) (paired ms) (all_members limit ms p.1.0 p.1.1));
 }
 

@@ -16,7 +16,16 @@ impl Readable for Item {
     fn read<'a>(alloc: Global, bytes: &'a [u8]) -> Result<(Item, &'a [u8]), Unread> {
         let (parts, rest) = <(ResName, (Kind, (Properties, (Needs, Policy))))>::read(alloc, bytes)?;
         let (name, (kind, (props, (needs, policy)))) = parts;
-        Ok((Item { name, kind, props, needs, policy }, rest))
+        Ok((
+            Item {
+                name,
+                kind,
+                props,
+                needs,
+                policy,
+            },
+            rest,
+        ))
     }
 
     ghost unique = { item_unique };

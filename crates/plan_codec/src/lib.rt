@@ -24,8 +24,8 @@ mod values;
 
 pub use coding::{Readable, Writable};
 pub use heat_plan::{
-    Act, EngineNo, Facts, Kind, LetterNo, Plan, Policy, Properties, ResName, RowNo, StackName, StackNo, Status, Token,
-    TravNo, WORN,
+    Act, EngineNo, Facts, Kind, LetterNo, Plan, Policy, Properties, ResName, RowNo, StackName,
+    StackNo, Status, Token, TravNo, WORN,
 };
 pub use heat_value::Seq;
 pub use lists::{items_at, put_items};

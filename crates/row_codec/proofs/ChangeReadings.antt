@@ -1,5 +1,5 @@
 -- What a reader of a change's fields answers of the change.
-use Rattle.std.proofs.Common.{◌≡◌, ◌≢◌, ℕ, List, [], ◌∷◌, ◌++◌, ◌≤◌, refl, sym, ap, ◌∙◌, arith}
+use Rattle.std.proofs.Common.{◌≡◌, ◌⊎◌, ℕ, List, ◌∷◌, ◌++◌, ◌<◌, ◌≤◌, length, get_or, ap, inl, inr, arith}
 use Rattle.plan_codec.specs.Below.{IsStackName}
 use Rattle.plan_codec.specs.Below.{IsNumber}
 use Rattle.core_state.specs.declared.change.Change.{Change}
@@ -154,3 +154,23 @@ untagged bytes none (change.Release y) q p e = none 15 _ (omega arith) (omega ar
 
 pub no_change : (bytes : List ℕ) → ((t : ℕ) (rest : List ℕ) → 1 ≤ t → t ≤ 15 → bytes ≢ t ∷ rest) → Lacks spelled_change IsProper bytes
 no_change bytes none = record { none = untagged bytes none }
+
+-- tags go from 1 to 15
+tag_range : (c : Change) → (1 ≤ the_tag c) × (the_tag c ≤ 15)
+tag_range (change.PutStack s) = (omega arith, omega arith)
+tag_range _ = (omega arith, omega arith)
+
+-- bytes that begin with no tag of a change
+pub no_change : (bytes : List ℕ) → ((tag : ℕ) (rest : List ℕ) → bytes ≡ tag ∷ rest → 1 ≤ tag → 16 ≤ tag)
+    → Lacks spelled_change IsProper bytes
+no_change bytes past = record {
+  none = λ x q p e. absurd (omega (arith, tag_range x, past (the_tag x) (the_fields x ++ q) e (tag_range x).0));
+}
+
+-- the first byte, if there is one, is 0 or beyond the last tag
+pub tag_off : (bytes : List ℕ) → (length bytes < 1) ⊎ (1 ≤ get_or bytes 0 0 → 16 ≤ get_or bytes 0 0) → (tag : ℕ)
+    (rest : List ℕ) → bytes ≡ tag ∷ rest → 1 ≤ tag → 16 ≤ tag
+tag_off bytes (inl none) tag rest e one = absurd (omega (arith, none, ap length e))
+tag_off bytes (inr past) tag rest e one =
+    let same : get_or bytes 0 0 ≡ tag = ap (λ (b : List ℕ). get_or b 0 0) e in
+    omega (arith, same, past (omega (arith, same, one)))

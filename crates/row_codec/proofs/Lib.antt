@@ -1,3 +1,4 @@
+pub mod WordReadings
 pub mod Puts
 pub mod ChangeReadings
 pub mod PayloadLemmas

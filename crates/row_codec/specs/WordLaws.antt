@@ -82,7 +82,7 @@ stages Ending Ending r q e = (refl, cc)
 pub stage_unique : IsUnique spelled_stage IsStage
 stage_unique = record { one = λ x y r q p o e. stages x y r q e }
 
-next_is_word : (n : ℕ) → IsNext n → IsWord n
+pub next_is_word : (n : ℕ) → IsNext n → IsWord n
 next_is_word n h = omega (arith, h.1)
 
 pub next_unique : IsUnique spelled_number IsNext

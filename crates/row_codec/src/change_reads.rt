@@ -4,8 +4,8 @@ ghost use Rattle.plan_codec.specs.Spellings.{Takes, Refuses};
 ghost use Rattle.row_codec.specs.Changes.{spelled_change, IsProper};
 
 use core_state::{Change, Numbers, Past, Stack};
-use plan_codec::{EngineNo, LetterNo, Readable, RowNo, StackName, Token, Unread};
 use mail_table::{Job, Letter};
+use plan_codec::{EngineNo, LetterNo, Readable, RowNo, StackName, Token, Unread};
 use row_table::Row;
 use std::alloc::Global;
 use sync_points::Point;

@@ -1,7 +1,7 @@
 //! Graphs of traversals.
 use plan_codec::{Readable, Seq, Sheet, Unread, Writable};
-use traversal_graph::{Node, TravGraph};
 use std::alloc::Global;
+use traversal_graph::{Node, TravGraph};
 
 impl Readable for TravGraph {
     ghost use Rattle.row_codec.specs.Records.{spelled_graph, IsProperGraph};

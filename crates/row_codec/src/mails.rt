@@ -1,6 +1,6 @@
 //! Letters and jobs.
-use plan_codec::{EngineNo, LetterNo, Readable, RowNo, Sheet, StackName, TravNo, Unread, Writable};
 use mail_table::{Job, Letter, Stage};
+use plan_codec::{EngineNo, LetterNo, Readable, RowNo, Sheet, StackName, TravNo, Unread, Writable};
 use std::alloc::Global;
 
 impl Readable for Letter {
@@ -14,7 +14,15 @@ impl Readable for Letter {
     fn read<'a>(alloc: Global, bytes: &'a [u8]) -> Result<(Letter, &'a [u8]), Unread> {
         let (parts, rest) = <(LetterNo, (StackName, (TravNo, u32)))>::read(alloc, bytes)?;
         let (no, (stack, (trav, node))) = parts;
-        Ok((Letter { no, stack, trav, node }, rest))
+        Ok((
+            Letter {
+                no,
+                stack,
+                trav,
+                node,
+            },
+            rest,
+        ))
     }
 
     ghost unique = { letter_unique };
@@ -41,7 +49,15 @@ impl Readable for Job {
     fn read<'a>(alloc: Global, bytes: &'a [u8]) -> Result<(Job, &'a [u8]), Unread> {
         let (parts, rest) = <(EngineNo, (Letter, (RowNo, Stage)))>::read(alloc, bytes)?;
         let (engine, (letter, (row, stage))) = parts;
-        Ok((Job { engine, letter, row, stage }, rest))
+        Ok((
+            Job {
+                engine,
+                letter,
+                row,
+                stage,
+            },
+            rest,
+        ))
     }
 
     ghost unique = { job_unique };

@@ -14,7 +14,16 @@ impl Readable for Numbers {
     fn read<'a>(alloc: Global, bytes: &'a [u8]) -> Result<(Numbers, &'a [u8]), Unread> {
         let (parts, rest) = <(Next, (Next, (Next, (Next, Next))))>::read(alloc, bytes)?;
         let (stack, (trav, (row, (engine, letter)))) = parts;
-        Ok((Numbers { stack, trav, row, engine, letter }, rest))
+        Ok((
+            Numbers {
+                stack,
+                trav,
+                row,
+                engine,
+                letter,
+            },
+            rest,
+        ))
     }
 
     ghost unique = { numbers_unique };

@@ -1,7 +1,7 @@
 //! Points of graphs, with what they were given.
 use plan_codec::{Facts, Readable, ResName, RowNo, Seq, Sheet, StackName, Unread, Writable};
-use sync_points::{Input, Point, SharedInput};
 use std::alloc::Global;
+use sync_points::{Input, Point, SharedInput};
 
 impl Readable for Input {
     ghost use Rattle.row_codec.specs.Records.{spelled_input, IsProperInput};
@@ -14,7 +14,15 @@ impl Readable for Input {
     fn read<'a>(alloc: Global, bytes: &'a [u8]) -> Result<(Input, &'a [u8]), Unread> {
         let (parts, rest) = <(u32, (Option<ResName>, (RowNo, Option<Facts>)))>::read(alloc, bytes)?;
         let (from, (name, (row, facts))) = parts;
-        Ok((Input { from, name, row, facts }, rest))
+        Ok((
+            Input {
+                from,
+                name,
+                row,
+                facts,
+            },
+            rest,
+        ))
     }
 
     ghost unique = { input_unique };
@@ -41,7 +49,15 @@ impl Readable for Point {
     fn read<'a>(alloc: Global, bytes: &'a [u8]) -> Result<(Point, &'a [u8]), Unread> {
         let (parts, rest) = <(StackName, (u32, (Seq<SharedInput>, bool)))>::read(alloc, bytes)?;
         let (stack, (node, (inputs, done))) = parts;
-        Ok((Point { stack, node, inputs, done }, rest))
+        Ok((
+            Point {
+                stack,
+                node,
+                inputs,
+                done,
+            },
+            rest,
+        ))
     }
 
     ghost unique = { point_unique };

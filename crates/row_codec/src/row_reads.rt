@@ -6,8 +6,8 @@ ghost use Rattle.row_codec.specs.Records.{spelled_row};
 ghost use Rattle.row_codec.specs.RecordLaws.{IsAnyRow, row_parts};
 
 use plan_codec::{
-    Act, EngineNo, Facts, Kind, Policy, Properties, Readable, ResName, RowNo, Seq, StackName, Status, TravNo, Unread,
-    WORN,
+    Act, EngineNo, Facts, Kind, Policy, Properties, Readable, ResName, RowNo, Seq, StackName,
+    Status, TravNo, Unread, WORN,
 };
 use row_table::Row;
 use std::alloc::Global;
@@ -39,7 +39,10 @@ fn is_storable(row: &Row) -> bool
 }
 
 // Its number and names, what was last begun at it, and how far that is.
-type Head = (RowNo, (StackName, (ResName, (Kind, (Act, (Status, TravNo))))));
+type Head = (
+    RowNo,
+    (StackName, (ResName, (Kind, (Act, (Status, TravNo))))),
+);
 
 // Its properties, those that it is to get, and its facts.
 type Contents = (Properties, (Option<Properties>, Option<Facts>));
@@ -47,7 +50,10 @@ type Contents = (Properties, (Option<Properties>, Option<Facts>));
 // The rows that it requires, those round it, its engine, key and policy.
 type Ties = (
     Seq<RowNo>,
-    (Option<RowNo>, (Option<RowNo>, (Option<EngineNo>, (u64, Policy)))),
+    (
+        Option<RowNo>,
+        (Option<RowNo>, (Option<EngineNo>, (u64, Policy))),
+    ),
 );
 
 // The row at the front, whatever its act and key.
@@ -60,6 +66,7 @@ fn any_row_at(alloc: Global, bytes: &[u8]) -> Result<(Row, &[u8]), Unread>
 }
 
 // The row of its parts.
+#[tactic(auto, unfolding(crate::specs::RecordLaws::row_parts))]
 fn row_of(parts: (Head, (Contents, Ties))) -> Row
     ensures { result ≡ row_parts.to parts }
 {

@@ -12,9 +12,22 @@ impl Readable for Stack {
     ghost proper = { IsProperStack };
 
     fn read<'a>(alloc: Global, bytes: &'a [u8]) -> Result<(Stack, &'a [u8]), Unread> {
-        let (parts, rest) = <(StackName, (StackNo, (TravNo, (Act, (Status, Option<SharedPlan>)))))>::read(alloc, bytes)?;
+        let (parts, rest) = <(
+            StackName,
+            (StackNo, (TravNo, (Act, (Status, Option<SharedPlan>)))),
+        )>::read(alloc, bytes)?;
         let (name, (no, (trav, (act, (status, plan))))) = parts;
-        Ok((Stack { name, no, trav, act, status, plan }, rest))
+        Ok((
+            Stack {
+                name,
+                no,
+                trav,
+                act,
+                status,
+                plan,
+            },
+            rest,
+        ))
     }
 
     ghost unique = { stack_unique };
@@ -43,7 +56,14 @@ impl Readable for Past {
     fn read<'a>(alloc: Global, bytes: &'a [u8]) -> Result<(Past, &'a [u8]), Unread> {
         let (parts, rest) = <(StackName, (bool, Option<SharedPlan>))>::read(alloc, bytes)?;
         let (stack, (rollback, back)) = parts;
-        Ok((Past { stack, rollback, back }, rest))
+        Ok((
+            Past {
+                stack,
+                rollback,
+                back,
+            },
+            rest,
+        ))
     }
 
     ghost unique = { past_unique };

@@ -1,7 +1,12 @@
 //! Acts, statuses, stages, nodes and next numbers.
+ghost use Rattle.std.specs.Prelude.{◌↔◌, IsTrue};
+ghost use Rattle.row_codec.specs.Words.{IsNext};
+
 use core_state::Next;
-use plan_codec::{Act, Readable, ResName, RowNo, Sheet, Status, Unread, WORN, Writable, put_number};
 use mail_table::Stage;
+use plan_codec::{
+    Act, Readable, ResName, RowNo, Sheet, Status, Unread, WORN, Writable, put_number,
+};
 use std::alloc::Global;
 use traversal_graph::Node;
 
@@ -144,6 +149,13 @@ impl Writable for Node {
     }
 }
 
+// Whether it may be a next number: from 1 to 2^62.
+fn is_next(number: u64) -> bool
+    ensures { IsTrue result ↔ IsNext number }
+{
+    number >= 1 && number <= WORN
+}
+
 impl Readable for Next {
     ghost use Rattle.plan_codec.specs.Numbers.{spelled_number};
     ghost use Rattle.row_codec.specs.Words.{IsNext};
@@ -155,7 +167,7 @@ impl Readable for Next {
 
     fn read<'a>(alloc: Global, bytes: &'a [u8]) -> Result<(Next, &'a [u8]), Unread> {
         let (number, rest) = u64::read(alloc, bytes)?;
-        if number < 1 || number > WORN {
+        if !is_next(number) {
             return Err(Unread::Unspelled);
         }
         Ok((Next::first().after(number - 1), rest))

@@ -11,7 +11,7 @@ returns-then-not-are_named c = (
   λ met. absurd (not_all (λ (i : Item). All (Contains (names_of c.args.items.now)) i.needs) c.args.items.now
       c.loop-item.item-index c.item-item.result c.loop-item-test.true c.item-item.is
       (λ named. both_ways c.are_named.result c.if-not-are_named.true
-          (c.are_named.ensures.1 (rw c.as_slice.ensures.value named))) met),
+      (c.are_named.ensures.1 (rw c.as_slice.ensures.value named))) met),
 )
 
 pub loop-item-preserved : goal.loop-item-preserved
