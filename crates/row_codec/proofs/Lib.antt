@@ -1,4 +1,5 @@
-pub mod WordReadings
 pub mod Puts
+pub mod WordReadings
+pub mod NodeReadings
 pub mod ChangeReadings
 pub mod PayloadLemmas

@@ -3,7 +3,15 @@ ghost use Rattle.std.specs.Prelude.{◌≡◌, List};
 ghost use Rattle.plan_codec.specs.Sheets.{behind};
 ghost use Rattle.row_codec.specs.Changes.{spelled_change, the_tag, the_fields, IsProper, IsStorable};
 
+use crate::graphs::put_graph;
+use crate::jobs::put_job;
+use crate::letters::put_letter;
+use crate::numbers::put_numbers;
+use crate::pasts::put_past;
+use crate::points::put_point;
 use crate::row_puts::put_row;
+use crate::stacks::put_stack;
+use crate::tokens::put_token;
 use core_state::Change;
 use plan_codec::{Sheet, Writable};
 
@@ -47,23 +55,23 @@ fn put_fields(change: &Change, sheet: &mut Sheet)
     ensures proper { IsStorable change.now → IsProper change.now }
 {
     match change {
-        Change::PutStack(stack) => stack.put(sheet),
+        Change::PutStack(stack) => put_stack(stack, sheet),
         Change::DropStack(name) => name.put(sheet),
         Change::PutRow(row) => put_row(row, sheet),
         Change::DropRow(row) => row.put(sheet),
         Change::PutGraph(name, graph) => {
             name.put(sheet);
-            graph.put(sheet);
+            put_graph(graph, sheet);
         }
-        Change::PutPoint(point) => point.put(sheet),
-        Change::Send(letter) => letter.put(sheet),
+        Change::PutPoint(point) => put_point(point, sheet),
+        Change::Send(letter) => put_letter(letter, sheet),
         Change::Drop(letter) => letter.put(sheet),
-        Change::PutJob(job) => job.put(sheet),
+        Change::PutJob(job) => put_job(job, sheet),
         Change::EndJob(engine) => engine.put(sheet),
         Change::Enlist(engine) => engine.put(sheet),
         Change::Stop(engine) => engine.put(sheet),
-        Change::Numbers(numbers) => numbers.put(sheet),
-        Change::PutPast(past) => past.put(sheet),
-        Change::Release(token) => token.put(sheet),
+        Change::Numbers(numbers) => put_numbers(numbers, sheet),
+        Change::PutPast(past) => put_past(past, sheet),
+        Change::Release(token) => put_token(token, sheet),
     }
 }

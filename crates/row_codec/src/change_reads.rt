@@ -3,15 +3,21 @@ ghost use Rattle.std.specs.Prelude.{◌∷◌, IfOk, IfErr};
 ghost use Rattle.plan_codec.specs.Spellings.{Takes, Refuses};
 ghost use Rattle.row_codec.specs.Changes.{spelled_change, IsProper};
 
-use core_state::{Change, Numbers, Past, Stack};
-use mail_table::{Job, Letter};
-use plan_codec::{EngineNo, LetterNo, Readable, RowNo, StackName, Token, Unread};
-use row_table::Row;
+use crate::jobs::job_at;
+use crate::numbers::next_numbers_at;
+use crate::of::Of;
+use crate::pasts::past_at;
+use crate::points::point_at;
+use crate::row_reads::row_at;
+use crate::stacks::stack_at;
+use crate::tokens::token_at;
+use core_state::Change;
+use mail_table::Letter;
+use plan_codec::{EngineNo, LetterNo, Readable, RowNo, StackName, Unread};
 use std::alloc::Global;
-use sync_points::Point;
 use traversal_graph::TravGraph;
 
-impl Readable for Change {
+impl Readable for Of<Change> {
     ghost use Rattle.row_codec.specs.Changes.{spelled_change, IsProper};
     ghost use Rattle.row_codec.specs.ChangeLaws.{change_unique};
 
@@ -19,28 +25,37 @@ impl Readable for Change {
 
     ghost proper = { IsProper };
 
-    fn read<'a>(alloc: Global, bytes: &'a [u8]) -> Result<(Change, &'a [u8]), Unread> {
-        match bytes {
-            [1, rest @ ..] => put_stack_at(alloc, rest),
-            [2, rest @ ..] => drop_stack_at(alloc, rest),
-            [3, rest @ ..] => put_row_at(alloc, rest),
-            [4, rest @ ..] => drop_row_at(alloc, rest),
-            [5, rest @ ..] => put_graph_at(alloc, rest),
-            [6, rest @ ..] => put_point_at(alloc, rest),
-            [7, rest @ ..] => send_at(alloc, rest),
-            [8, rest @ ..] => drop_at(alloc, rest),
-            [9, rest @ ..] => put_job_at(alloc, rest),
-            [10, rest @ ..] => end_job_at(alloc, rest),
-            [11, rest @ ..] => enlist_at(alloc, rest),
-            [12, rest @ ..] => stop_at(alloc, rest),
-            [13, rest @ ..] => numbers_at(alloc, rest),
-            [14, rest @ ..] => put_past_at(alloc, rest),
-            [15, rest @ ..] => release_at(alloc, rest),
-            _ => Err(Unread::Unspelled),
-        }
+    fn read<'a>(alloc: Global, bytes: &'a [u8]) -> Result<(Of<Change>, &'a [u8]), Unread> {
+        let (change, rest) = change_at(alloc, bytes)?;
+        Ok((Of { thing: change }, rest))
     }
 
     ghost unique = { change_unique };
+}
+
+// The change at the front.
+fn change_at(alloc: Global, bytes: &[u8]) -> Result<(Change, &[u8]), Unread>
+    ensures ok { IfOk result (λ x. Takes spelled_change IsProper bytes.now x.0 x.1.now) }
+    ensures err { IfErr result (Refuses spelled_change IsProper bytes.now) }
+{
+    match bytes {
+        [1, rest @ ..] => put_stack_at(alloc, rest),
+        [2, rest @ ..] => drop_stack_at(alloc, rest),
+        [3, rest @ ..] => put_row_at(alloc, rest),
+        [4, rest @ ..] => drop_row_at(alloc, rest),
+        [5, rest @ ..] => put_graph_at(alloc, rest),
+        [6, rest @ ..] => put_point_at(alloc, rest),
+        [7, rest @ ..] => send_at(alloc, rest),
+        [8, rest @ ..] => drop_at(alloc, rest),
+        [9, rest @ ..] => put_job_at(alloc, rest),
+        [10, rest @ ..] => end_job_at(alloc, rest),
+        [11, rest @ ..] => enlist_at(alloc, rest),
+        [12, rest @ ..] => stop_at(alloc, rest),
+        [13, rest @ ..] => numbers_at(alloc, rest),
+        [14, rest @ ..] => put_past_at(alloc, rest),
+        [15, rest @ ..] => release_at(alloc, rest),
+        _ => Err(Unread::Unspelled),
+    }
 }
 
 // The PutStack behind its tag.
@@ -48,7 +63,7 @@ fn put_stack_at(alloc: Global, rest: &[u8]) -> Result<(Change, &[u8]), Unread>
     ensures ok { IfOk result (λ x. Takes spelled_change IsProper (1 ∷ rest.now) x.0 x.1.now) }
     ensures err { IfErr result (Refuses spelled_change IsProper (1 ∷ rest.now)) }
 {
-    let (stack, rest) = Stack::read(alloc, rest)?;
+    let (stack, rest) = stack_at(alloc, rest)?;
     Ok((Change::PutStack(stack), rest))
 }
 
@@ -57,7 +72,7 @@ fn drop_stack_at(alloc: Global, rest: &[u8]) -> Result<(Change, &[u8]), Unread>
     ensures ok { IfOk result (λ x. Takes spelled_change IsProper (2 ∷ rest.now) x.0 x.1.now) }
     ensures err { IfErr result (Refuses spelled_change IsProper (2 ∷ rest.now)) }
 {
-    let (name, rest) = StackName::read(alloc, rest)?;
+    let (name, rest) = <StackName as Readable>::read(alloc, rest)?;
     Ok((Change::DropStack(name), rest))
 }
 
@@ -66,7 +81,7 @@ fn put_row_at(alloc: Global, rest: &[u8]) -> Result<(Change, &[u8]), Unread>
     ensures ok { IfOk result (λ x. Takes spelled_change IsProper (3 ∷ rest.now) x.0 x.1.now) }
     ensures err { IfErr result (Refuses spelled_change IsProper (3 ∷ rest.now)) }
 {
-    let (row, rest) = Row::read(alloc, rest)?;
+    let (row, rest) = row_at(alloc, rest)?;
     Ok((Change::PutRow(row), rest))
 }
 
@@ -84,8 +99,9 @@ fn put_graph_at(alloc: Global, rest: &[u8]) -> Result<(Change, &[u8]), Unread>
     ensures ok { IfOk result (λ x. Takes spelled_change IsProper (5 ∷ rest.now) x.0 x.1.now) }
     ensures err { IfErr result (Refuses spelled_change IsProper (5 ∷ rest.now)) }
 {
-    let (graph, rest) = <(StackName, TravGraph)>::read(alloc, rest)?;
-    Ok((Change::PutGraph(graph.0, graph.1), rest))
+    let (parts, rest) = <(StackName, Of<TravGraph>)>::read(alloc, rest)?;
+    let (name, graph) = parts;
+    Ok((Change::PutGraph(name, graph.thing), rest))
 }
 
 // The PutPoint behind its tag.
@@ -93,7 +109,7 @@ fn put_point_at(alloc: Global, rest: &[u8]) -> Result<(Change, &[u8]), Unread>
     ensures ok { IfOk result (λ x. Takes spelled_change IsProper (6 ∷ rest.now) x.0 x.1.now) }
     ensures err { IfErr result (Refuses spelled_change IsProper (6 ∷ rest.now)) }
 {
-    let (point, rest) = Point::read(alloc, rest)?;
+    let (point, rest) = point_at(alloc, rest)?;
     Ok((Change::PutPoint(point), rest))
 }
 
@@ -102,8 +118,8 @@ fn send_at(alloc: Global, rest: &[u8]) -> Result<(Change, &[u8]), Unread>
     ensures ok { IfOk result (λ x. Takes spelled_change IsProper (7 ∷ rest.now) x.0 x.1.now) }
     ensures err { IfErr result (Refuses spelled_change IsProper (7 ∷ rest.now)) }
 {
-    let (letter, rest) = Letter::read(alloc, rest)?;
-    Ok((Change::Send(letter), rest))
+    let (letter, rest) = Of::<Letter>::read(alloc, rest)?;
+    Ok((Change::Send(letter.thing), rest))
 }
 
 // The Drop behind its tag.
@@ -120,7 +136,7 @@ fn put_job_at(alloc: Global, rest: &[u8]) -> Result<(Change, &[u8]), Unread>
     ensures ok { IfOk result (λ x. Takes spelled_change IsProper (9 ∷ rest.now) x.0 x.1.now) }
     ensures err { IfErr result (Refuses spelled_change IsProper (9 ∷ rest.now)) }
 {
-    let (job, rest) = Job::read(alloc, rest)?;
+    let (job, rest) = job_at(alloc, rest)?;
     Ok((Change::PutJob(job), rest))
 }
 
@@ -156,7 +172,7 @@ fn numbers_at(alloc: Global, rest: &[u8]) -> Result<(Change, &[u8]), Unread>
     ensures ok { IfOk result (λ x. Takes spelled_change IsProper (13 ∷ rest.now) x.0 x.1.now) }
     ensures err { IfErr result (Refuses spelled_change IsProper (13 ∷ rest.now)) }
 {
-    let (numbers, rest) = Numbers::read(alloc, rest)?;
+    let (numbers, rest) = next_numbers_at(alloc, rest)?;
     Ok((Change::Numbers(numbers), rest))
 }
 
@@ -165,7 +181,7 @@ fn put_past_at(alloc: Global, rest: &[u8]) -> Result<(Change, &[u8]), Unread>
     ensures ok { IfOk result (λ x. Takes spelled_change IsProper (14 ∷ rest.now) x.0 x.1.now) }
     ensures err { IfErr result (Refuses spelled_change IsProper (14 ∷ rest.now)) }
 {
-    let (past, rest) = Past::read(alloc, rest)?;
+    let (past, rest) = past_at(alloc, rest)?;
     Ok((Change::PutPast(past), rest))
 }
 
@@ -174,6 +190,6 @@ fn release_at(alloc: Global, rest: &[u8]) -> Result<(Change, &[u8]), Unread>
     ensures ok { IfOk result (λ x. Takes spelled_change IsProper (15 ∷ rest.now) x.0 x.1.now) }
     ensures err { IfErr result (Refuses spelled_change IsProper (15 ∷ rest.now)) }
 {
-    let (token, rest) = Token::read(alloc, rest)?;
+    let (token, rest) = token_at(alloc, rest)?;
     Ok((Change::Release(token), rest))
 }

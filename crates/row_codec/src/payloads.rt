@@ -5,6 +5,7 @@ ghost use Rattle.plan_codec.specs.Sheets.{behind};
 ghost use Rattle.row_codec.specs.Changes.{spelled, AreProper, IsSpelling, IsStorable};
 
 use crate::change_puts::put_change;
+use crate::of::{Of, all_of};
 use core_state::{Change, Ready};
 use plan_codec::{Sheet, Unread, items_at, put_number};
 use std::alloc::{AllocError, Global};
@@ -14,8 +15,8 @@ pub fn read(alloc: Global, bytes: &[u8]) -> Result<Option<Vec<Change>>, AllocErr
     ensures some { IfOk result (λ o. IfSome o (λ v. IsSpelling bytes.now v.items)) }
     ensures none { IfOk result (λ o. IsNone o → (cs : List change_type) → ¬ IsSpelling bytes.now cs) }
 {
-    match items_at::<Change>(alloc, bytes) {
-        Ok((changes, [])) => Ok(Some(changes)),
+    match items_at::<Of<Change>>(alloc, bytes) {
+        Ok((changes, [])) => Ok(Some(all_of(alloc, changes)?)),
         Ok((_, [_, ..])) => Ok(None),
         Err(Unread::Unspelled) => Ok(None),
         Err(Unread::Memory) => Err(AllocError),

@@ -1,74 +1,50 @@
 //! Points of graphs, with what they were given.
-use plan_codec::{Facts, Readable, ResName, RowNo, Seq, Sheet, StackName, Unread, Writable};
+ghost use Rattle.std.specs.Prelude.{◌≡◌, IfOk, IfErr};
+ghost use Rattle.plan_codec.specs.Sheets.{behind};
+ghost use Rattle.plan_codec.specs.Spellings.{Takes, Refuses};
+ghost use Rattle.row_codec.specs.Records.{spelled_point, IsProperPoint};
+ghost use Rattle.row_codec.specs.RecordLaws.{point_parts};
+
+use crate::input_lists::put_inputs;
+use crate::of::Of;
+use plan_codec::{Readable, Seq, Sheet, StackName, Unread, Writable};
 use std::alloc::Global;
-use sync_points::{Input, Point, SharedInput};
+use sync_points::{Point, SharedInput};
 
-impl Readable for Input {
-    ghost use Rattle.row_codec.specs.Records.{spelled_input, IsProperInput};
-    ghost use Rattle.row_codec.specs.RecordLaws.{input_unique};
+// The parts in their order.
+type Parts = (StackName, (u32, (Of<Seq<SharedInput>>, bool)));
 
-    ghost spelled = { spelled_input };
-
-    ghost proper = { IsProperInput };
-
-    fn read<'a>(alloc: Global, bytes: &'a [u8]) -> Result<(Input, &'a [u8]), Unread> {
-        let (parts, rest) = <(u32, (Option<ResName>, (RowNo, Option<Facts>)))>::read(alloc, bytes)?;
-        let (from, (name, (row, facts))) = parts;
-        Ok((
-            Input {
-                from,
-                name,
-                row,
-                facts,
-            },
-            rest,
-        ))
-    }
-
-    ghost unique = { input_unique };
+/// The point at the front.
+pub(crate) fn point_at(alloc: Global, bytes: &[u8]) -> Result<(Point, &[u8]), Unread>
+    ensures ok { IfOk result (λ x. Takes spelled_point IsProperPoint bytes.now x.0 x.1.now) }
+    ensures err { IfErr result (Refuses spelled_point IsProperPoint bytes.now) }
+{
+    let (parts, rest) = Parts::read(alloc, bytes)?;
+    Ok((point_of(parts), rest))
 }
 
-impl Writable for Input {
-    #[tactic(auto, using(crate::proofs::Puts::puts), unfolding(crate::specs::Records::spelled_input))]
-    fn put(&self, sheet: &mut Sheet) {
-        self.from.put(sheet);
-        self.name.put(sheet);
-        self.row.put(sheet);
-        self.facts.put(sheet);
+// The point of its parts.
+#[tactic(auto, unfolding(crate::specs::RecordLaws::point_parts))]
+fn point_of(parts: Parts) -> Point
+    ensures { result ≡ point_parts.to parts }
+{
+    let (stack, (node, (inputs, done))) = parts;
+    Point {
+        stack,
+        node,
+        inputs: inputs.thing,
+        done,
     }
 }
 
-impl Readable for Point {
-    ghost use Rattle.row_codec.specs.Records.{spelled_point, IsProperPoint};
-    ghost use Rattle.row_codec.specs.RecordLaws.{point_unique};
-
-    ghost spelled = { spelled_point };
-
-    ghost proper = { IsProperPoint };
-
-    fn read<'a>(alloc: Global, bytes: &'a [u8]) -> Result<(Point, &'a [u8]), Unread> {
-        let (parts, rest) = <(StackName, (u32, (Seq<SharedInput>, bool)))>::read(alloc, bytes)?;
-        let (stack, (node, (inputs, done))) = parts;
-        Ok((
-            Point {
-                stack,
-                node,
-                inputs,
-                done,
-            },
-            rest,
-        ))
-    }
-
-    ghost unique = { point_unique };
-}
-
-impl Writable for Point {
-    #[tactic(auto, using(crate::proofs::Puts::puts), unfolding(crate::specs::Records::spelled_point))]
-    fn put(&self, sheet: &mut Sheet) {
-        self.stack.put(sheet);
-        self.node.put(sheet);
-        self.inputs.put(sheet);
-        self.done.put(sheet);
-    }
+/// Puts a point.
+#[tactic(auto, using(crate::proofs::Puts::puts), unfolding(crate::specs::Records::spelled_point))]
+pub(crate) fn put_point(point: &Point, sheet: &mut Sheet)
+    ensures bytes { sheet.new ≡ behind sheet.old (spelled_point point.now) }
+    ensures proper { IsProperPoint point.now }
+{
+    point.stack.put(sheet);
+    point.node.put(sheet);
+    put_inputs(point.inputs.as_slice(), sheet);
+    point.done.put(sheet);
 }

@@ -5,6 +5,8 @@ ghost use Rattle.plan_codec.specs.Sheets.{behind};
 ghost use Rattle.row_codec.specs.Records.{spelled_row, spelled_row_head, spelled_row_contents, spelled_row_ties, IsProperRow};
 ghost use Rattle.row_codec.specs.RowParts.{IsRowHead, AreRowContents, AreRowTies};
 
+use crate::acts::put_act;
+use crate::statuses::put_status;
 use plan_codec::{Sheet, Writable, put_number};
 use row_table::Row;
 
@@ -29,8 +31,8 @@ fn put_head(row: &Row, sheet: &mut Sheet)
     row.stack.put(sheet);
     row.name.put(sheet);
     row.kind.put(sheet);
-    row.act.put(sheet);
-    row.status.put(sheet);
+    put_act(row.act, sheet);
+    put_status(row.status, sheet);
     row.trav.put(sheet);
 }
 

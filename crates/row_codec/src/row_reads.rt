@@ -2,9 +2,10 @@
 ghost use Rattle.std.specs.Prelude.{◌≡◌, ◌≢◌, ◌↔◌, ◌<◌, ◌^◌, IsTrue, IfOk, IfErr};
 ghost use Rattle.plan_codec.specs.Below.{Rollback};
 ghost use Rattle.plan_codec.specs.Spellings.{Takes, Refuses};
-ghost use Rattle.row_codec.specs.Records.{spelled_row};
+ghost use Rattle.row_codec.specs.Records.{spelled_row, IsProperRow};
 ghost use Rattle.row_codec.specs.RecordLaws.{IsAnyRow, row_parts};
 
+use crate::of::Of;
 use plan_codec::{
     Act, EngineNo, Facts, Kind, Policy, Properties, Readable, ResName, RowNo, Seq, StackName,
     Status, TravNo, Unread, WORN,
@@ -12,23 +13,16 @@ use plan_codec::{
 use row_table::Row;
 use std::alloc::Global;
 
-impl Readable for Row {
-    ghost use Rattle.row_codec.specs.Records.{spelled_row, IsProperRow};
-    ghost use Rattle.row_codec.specs.RecordLaws.{row_unique};
-
-    ghost spelled = { spelled_row };
-
-    ghost proper = { IsProperRow };
-
-    fn read<'a>(alloc: Global, bytes: &'a [u8]) -> Result<(Row, &'a [u8]), Unread> {
-        let (row, rest) = any_row_at(alloc, bytes)?;
-        if !is_storable(&row) {
-            return Err(Unread::Unspelled);
-        }
-        Ok((row, rest))
+/// The row at the front.
+pub(crate) fn row_at(alloc: Global, bytes: &[u8]) -> Result<(Row, &[u8]), Unread>
+    ensures ok { IfOk result (λ x. Takes spelled_row IsProperRow bytes.now x.0 x.1.now) }
+    ensures err { IfErr result (Refuses spelled_row IsProperRow bytes.now) }
+{
+    let (row, rest) = any_row_at(alloc, bytes)?;
+    if !is_storable(&row) {
+        return Err(Unread::Unspelled);
     }
-
-    ghost unique = { row_unique };
+    Ok((row, rest))
 }
 
 // Whether the row's key is below 2^62 and its act is no rollback.
@@ -41,7 +35,10 @@ fn is_storable(row: &Row) -> bool
 // Its number and names, what was last begun at it, and how far that is.
 type Head = (
     RowNo,
-    (StackName, (ResName, (Kind, (Act, (Status, TravNo))))),
+    (
+        StackName,
+        (ResName, (Kind, (Of<Act>, (Of<Status>, TravNo)))),
+    ),
 );
 
 // Its properties, those that it is to get, and its facts.
@@ -79,8 +76,8 @@ fn row_of(parts: (Head, (Contents, Ties))) -> Row
         stack,
         name,
         kind,
-        act,
-        status,
+        act: act.thing,
+        status: status.thing,
         trav,
         props,
         target,

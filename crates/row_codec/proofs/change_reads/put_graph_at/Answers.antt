@@ -2,7 +2,7 @@ use Rattle.std.proofs.lemmas.Result.{err_from_is_err_and}
 use Rattle.row_codec.proofs.ChangeReadings.{PutGraph_refused}
 use Rattle.row_codec.proofs.change_reads.put_graph_at.Goals as goal
 
-pub returns-in_err-graph-clause-err : goal.returns-in_err-graph-clause-err
-returns-in_err-graph-clause-err c =
+pub returns-in_err-parts-clause-err : goal.returns-in_err-parts-clause-err
+returns-in_err-parts-clause-err c =
     let p = err_from_is_err_and c.from_residual.result c.from_residual.ensures.1 in
-    rw (p.1, p.2) (PutGraph_refused c.args.rest.now c.in_err-graph.field-0.0 c.in_err-graph.ensures.err)
+    rw (p.1, p.2) (PutGraph_refused c.args.rest.now c.in_err-parts.field-0.0 c.in_err-parts.ensures.err)

@@ -9,5 +9,5 @@ returns-in_err-parts-clause-err c =
     rw (p.1, p.2) (refused_as row_parts c.args.bytes.now c.in_err-parts.field-0.0 c.in_err-parts.ensures.err)
 
 pub returns-clause-ok : goal.returns-clause-ok
-unfolding row_parts
-returns-clause-ok c = rw c.row_of.ensures (taken_as row_parts c.args.bytes.now c.in_ok-parts.rest.now c.in_ok-parts.parts c.in_ok-parts.ensures.ok)
+returns-clause-ok c = rw c.row_of.ensures
+    (taken_as row_parts c.args.bytes.now c.in_ok-parts.rest.now c.in_ok-parts.parts c.in_ok-parts.ensures.ok)
