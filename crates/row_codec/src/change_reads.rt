@@ -90,8 +90,10 @@ fn drop_row_at(alloc: Global, rest: &[u8]) -> Result<(Change, &[u8]), Unread>
     ensures ok { IfOk result (λ x. Takes spelled_change IsProper (4 ∷ rest.now) x.0 x.1.now) }
     ensures err { IfErr result (Refuses spelled_change IsProper (4 ∷ rest.now)) }
 {
-    let (row, rest) = RowNo::read(alloc, rest)?;
-    Ok((Change::DropRow(row), rest))
+    match <RowNo as Readable>::read(alloc, rest) {
+        Ok((row, rest)) => Ok((Change::DropRow(row), rest)),
+        Err(why) => Err(why),
+    }
 }
 
 // The PutGraph behind its tag.
@@ -127,8 +129,10 @@ fn drop_at(alloc: Global, rest: &[u8]) -> Result<(Change, &[u8]), Unread>
     ensures ok { IfOk result (λ x. Takes spelled_change IsProper (8 ∷ rest.now) x.0 x.1.now) }
     ensures err { IfErr result (Refuses spelled_change IsProper (8 ∷ rest.now)) }
 {
-    let (letter, rest) = LetterNo::read(alloc, rest)?;
-    Ok((Change::Drop(letter), rest))
+    match LetterNo::read(alloc, rest) {
+        Ok((letter, rest)) => Ok((Change::Drop(letter), rest)),
+        Err(why) => Err(why),
+    }
 }
 
 // The PutJob behind its tag.
@@ -145,8 +149,10 @@ fn end_job_at(alloc: Global, rest: &[u8]) -> Result<(Change, &[u8]), Unread>
     ensures ok { IfOk result (λ x. Takes spelled_change IsProper (10 ∷ rest.now) x.0 x.1.now) }
     ensures err { IfErr result (Refuses spelled_change IsProper (10 ∷ rest.now)) }
 {
-    let (engine, rest) = EngineNo::read(alloc, rest)?;
-    Ok((Change::EndJob(engine), rest))
+    match EngineNo::read(alloc, rest) {
+        Ok((engine, rest)) => Ok((Change::EndJob(engine), rest)),
+        Err(why) => Err(why),
+    }
 }
 
 // The Enlist behind its tag.
@@ -154,8 +160,10 @@ fn enlist_at(alloc: Global, rest: &[u8]) -> Result<(Change, &[u8]), Unread>
     ensures ok { IfOk result (λ x. Takes spelled_change IsProper (11 ∷ rest.now) x.0 x.1.now) }
     ensures err { IfErr result (Refuses spelled_change IsProper (11 ∷ rest.now)) }
 {
-    let (engine, rest) = EngineNo::read(alloc, rest)?;
-    Ok((Change::Enlist(engine), rest))
+    match EngineNo::read(alloc, rest) {
+        Ok((engine, rest)) => Ok((Change::Enlist(engine), rest)),
+        Err(why) => Err(why),
+    }
 }
 
 // The Stop behind its tag.
@@ -163,8 +171,10 @@ fn stop_at(alloc: Global, rest: &[u8]) -> Result<(Change, &[u8]), Unread>
     ensures ok { IfOk result (λ x. Takes spelled_change IsProper (12 ∷ rest.now) x.0 x.1.now) }
     ensures err { IfErr result (Refuses spelled_change IsProper (12 ∷ rest.now)) }
 {
-    let (engine, rest) = EngineNo::read(alloc, rest)?;
-    Ok((Change::Stop(engine), rest))
+    match EngineNo::read(alloc, rest) {
+        Ok((engine, rest)) => Ok((Change::Stop(engine), rest)),
+        Err(why) => Err(why),
+    }
 }
 
 // The Numbers behind its tag.
@@ -172,8 +182,10 @@ fn numbers_at(alloc: Global, rest: &[u8]) -> Result<(Change, &[u8]), Unread>
     ensures ok { IfOk result (λ x. Takes spelled_change IsProper (13 ∷ rest.now) x.0 x.1.now) }
     ensures err { IfErr result (Refuses spelled_change IsProper (13 ∷ rest.now)) }
 {
-    let (numbers, rest) = next_numbers_at(alloc, rest)?;
-    Ok((Change::Numbers(numbers), rest))
+    match next_numbers_at(alloc, rest) {
+        Ok((numbers, rest)) => Ok((Change::Numbers(numbers), rest)),
+        Err(why) => Err(why),
+    }
 }
 
 // The PutPast behind its tag.

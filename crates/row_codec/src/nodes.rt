@@ -48,13 +48,15 @@ fn clean_up_at(alloc: Global, rest: &[u8]) -> Result<(Of<Node>, &[u8]), Unread>
     ensures ok { IfOk result (λ x. Takes spelled_node IsProperNode (1 ∷ rest.now) x.0 x.1.now) }
     ensures err { IfErr result (Refuses spelled_node IsProperNode (1 ∷ rest.now)) }
 {
-    let (row, rest) = RowNo::read(alloc, rest)?;
-    Ok((
-        Of {
-            thing: Node::C(row),
-        },
-        rest,
-    ))
+    match <RowNo as Readable>::read(alloc, rest) {
+        Ok((row, rest)) => Ok((
+            Of {
+                thing: Node::C(row),
+            },
+            rest,
+        )),
+        Err(why) => Err(why),
+    }
 }
 
 /// Puts a node.

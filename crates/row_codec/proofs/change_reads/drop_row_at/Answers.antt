@@ -1,8 +1,5 @@
-use Rattle.std.proofs.lemmas.Result.{err_from_is_err_and}
 use Rattle.row_codec.proofs.ChangeReadings.{DropRow_refused}
 use Rattle.row_codec.proofs.change_reads.drop_row_at.Goals as goal
 
-pub returns-in_err-row-clause-err : goal.returns-in_err-row-clause-err
-returns-in_err-row-clause-err c =
-    let p = err_from_is_err_and c.from_residual.result c.from_residual.ensures.1 in
-    rw (p.1, p.2) (DropRow_refused c.args.rest.now c.in_err-row.field-0.0 c.in_err-row.ensures.err)
+pub returns-in-Err-clause-err : goal.returns-in-Err-clause-err
+returns-in-Err-clause-err c = DropRow_refused c.args.rest.now c.in-Err.why c.in-Err.ensures.err

@@ -1,8 +1,5 @@
-use Rattle.std.proofs.lemmas.Result.{err_from_is_err_and}
 use Rattle.row_codec.proofs.ChangeReadings.{Numbers_refused}
 use Rattle.row_codec.proofs.change_reads.numbers_at.Goals as goal
 
-pub returns-in_err-numbers-clause-err : goal.returns-in_err-numbers-clause-err
-returns-in_err-numbers-clause-err c =
-    let p = err_from_is_err_and c.from_residual.result c.from_residual.ensures.1 in
-    rw (p.1, p.2) (Numbers_refused c.args.rest.now c.in_err-numbers.field-0.0 c.in_err-numbers.ensures.err)
+pub returns-in-Err-clause-err : goal.returns-in-Err-clause-err
+returns-in-Err-clause-err c = Numbers_refused c.args.rest.now c.in-Err.why c.in-Err.ensures.err

@@ -6,7 +6,7 @@ use Rattle.plan_codec.specs.Laws.{number_unique}
 use Rattle.plan_codec.proofs.Readings.{refused_more, taken_more, not_taken}
 use Rattle.row_codec.specs.Words.{IsNext}
 use Rattle.row_codec.specs.WordLaws.{next_is_word}
-use Rattle.row_codec.proofs.nexts.OfReadable.read.Goals as goal
+use Rattle.row_codec.proofs.nexts.OfNextReadable.read.Goals as goal
 
 pub returns-in_err-number-clause-err : goal.returns-in_err-number-clause-err
 returns-in_err-number-clause-err c =

@@ -1,7 +1,7 @@
 use Rattle.std.proofs.lemmas.Result.{err_from_is_err_and}
 use Rattle.plan_codec.proofs.Readings.{taken_as, refused_as}
 use Rattle.row_codec.specs.RecordLaws.{graph_parts}
-use Rattle.row_codec.proofs.graphs.OfReadable.read.Goals as goal
+use Rattle.row_codec.proofs.graphs.OfTravGraphReadable.read.Goals as goal
 
 pub returns-in_err-parts-clause-err : goal.returns-in_err-parts-clause-err
 returns-in_err-parts-clause-err c =
