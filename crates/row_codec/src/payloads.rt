@@ -1,5 +1,5 @@
 //! Payloads: lists of changes and nothing more.
-ghost use Rattle.std.specs.Prelude.{◌≡◌, ◌≤◌, ◌-◌, ◌^◌, IfOk, IfSome, IsNone, List, ℕ, [], ◌++◌, All, length, min};
+ghost use Rattle.std.specs.Prelude.{◌≡◌, ◌<◌, ◌≤◌, ◌-◌, ◌^◌, IfOk, IfSome, IsNone, List, ℕ, All, length, min};
 ghost use Rattle.core_state.specs.declared.change.Change.{Change as change_type};
 ghost use Rattle.plan_codec.specs.Sheets.{behind};
 ghost use Rattle.row_codec.specs.Changes.{spelled, AreProper, IsSpelling, IsStorable};
@@ -16,10 +16,34 @@ pub fn read(alloc: Global, bytes: &[u8]) -> Result<Option<Vec<Change>>, AllocErr
     ensures none { IfOk result (λ o. IsNone o → (cs : List change_type) → ¬ IsSpelling bytes.now cs) }
 {
     match items_at::<Of<Change>>(alloc, bytes) {
-        Ok((changes, [])) => Ok(Some(all_of(alloc, changes)?)),
-        Ok((_, [_, ..])) => Ok(None),
-        Err(Unread::Unspelled) => Ok(None),
-        Err(Unread::Memory) => Err(AllocError),
+        Ok((changes, rest)) => whole(alloc, changes, rest),
+        Err(why) => nothing_read(why),
+    }
+}
+
+// The changes that were read, where nothing is left behind them.
+fn whole(
+    alloc: Global,
+    changes: Vec<Of<Change>>,
+    rest: &[u8],
+) -> Result<Option<Vec<Change>>, AllocError>
+    ensures some { IfOk result (λ o. IfSome o (λ v. (v.items ≡ changes.items) × (length rest.now ≡ 0))) }
+    ensures none { IfOk result (λ o. IsNone o → 0 < length rest.now) }
+{
+    if rest.len() > 0 {
+        return Ok(None);
+    }
+    let all = all_of(alloc, changes)?;
+    Ok(Some(all))
+}
+
+// What there is where no changes were read.
+fn nothing_read(why: Unread) -> Result<Option<Vec<Change>>, AllocError>
+    ensures { IfOk result (λ o. IsNone o × (why ≡ Unread.Unspelled)) }
+{
+    match why {
+        Unread::Memory => Err(AllocError),
+        Unread::Unspelled => Ok(None),
     }
 }
 
