@@ -2,8 +2,8 @@
 use Rattle.std.proofs.Common.{ℕ, List, [], ◌∷◌, ◌++◌}
 use Rattle.dep_graph.specs.Lists.{IsLeast}
 use Rattle.dep_graph.specs.Paths.{IsCycle, IsAcyclic, Against}
-use Rattle.dep_graph.specs.Orders.{IsReady, IsTaken, takes, IsLeft, GoesBack, IsWalkedCycle, Orders, FindsCycle}
-use Rattle.dep_graph.proofs.PathLemmas.{Leads-weaker, IsPath-weaker}
+use Rattle.dep_graph.specs.Orders.{IsReady, IsTaken, takes, IsLeft, GoesBack, Orders}
+use Rattle.dep_graph.proofs.PathLemmas.{Leads-weaker}
 
 module _ (E F : ℕ → ℕ → Type 0) (to : (x y : ℕ) → E x y → F x y) (from : (x y : ℕ) → F x y → E x y) where
   pub cycle_alike : (c : List ℕ) → IsCycle E c → IsCycle F c

@@ -1,5 +1,5 @@
 -- What the search for an order answers, said of items.
-use Rattle.std.proofs.Common.{◌≡◌, ◌↔◌, ℕ, List, All, Contains, length, true, false}
+use Rattle.std.proofs.Common.{ℕ, List, All, Contains, length}
 use Rattle.dep_graph.specs.Edges.{Links, HasEdge}
 use Rattle.dep_graph.specs.Orders.{Orders, FindsCycle}
 use Rattle.heat_plan.specs.Order.{Rising}

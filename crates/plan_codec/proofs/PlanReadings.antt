@@ -1,5 +1,5 @@
 -- What a reader of a plan's parts answers of the plan.
-use Rattle.std.proofs.Common.{◌≡◌, ℕ, List}
+use Rattle.std.proofs.Common.{ℕ, List}
 use Rattle.heat_plan.specs.Plans.{PlanData, IsPlan}
 use Rattle.plan_codec.specs.declared.unread.Unread.{Unread}
 use Rattle.plan_codec.specs.Spellings.{Takes, Lacks, Refuses}

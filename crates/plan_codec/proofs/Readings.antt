@@ -1,6 +1,6 @@
 -- What a reader of parts answers of the whole.
-use Rattle.std.proofs.Common.{◌≡◌, ℕ, zero, suc, ◌+◌, ◌<◌, ◌≤◌, ◌^◌, List, [], ◌∷◌, ◌++◌, length, All, Option, Some}
-use Rattle.std.proofs.Common.{None, ◌⊎◌, inl, inr, get_or, refl, sym, ap, subst, ◌∙◌, append_assoc, arith}
+use Rattle.std.proofs.Common.{◌≡◌, ℕ, ◌<◌, ◌≤◌, List, [], ◌∷◌, ◌++◌, length, All}
+use Rattle.std.proofs.Common.{◌⊎◌, inl, inr, get_or, refl, sym, ap, subst, ◌∙◌, append_assoc, arith}
 use Rattle.std.specs.List.{flat_map}
 use Rattle.std.proofs.lemmas.List.{length-append, flat_map_more}
 use Rattle.std.proofs.lemmas.List.Elements.{All-head, All-tail}
@@ -8,8 +8,8 @@ use Rattle.plan_codec.specs.declared.unread.Unread.{Unread}
 use Rattle.plan_codec.specs.declared.unread.Unread.TheVariants as unread
 use Rattle.plan_codec.specs.Spellings.{IsUnique, Takes, Lacks, Refuses, Regroups}
 use Rattle.plan_codec.specs.Numbers.{spelled_number, IsWord, spelled_bytes, IsShort}
-use Rattle.plan_codec.specs.Parts.{spelled_pair, AreBoth, spelled_option, IsIfSome, spelled_list, AreAll}
-use Rattle.plan_codec.specs.Laws.{number_unique, bytes_unique, list_unique}
+use Rattle.plan_codec.specs.Parts.{spelled_list, AreAll}
+use Rattle.plan_codec.specs.Laws.{number_unique}
 
 -- what was taken and isn't what is looked for
 pub not_taken : {A : Type 0} {spelled : A → List ℕ} {proper less : A → Type 0} (bytes rest : List ℕ) (x : A)

@@ -1,5 +1,5 @@
 -- What the loops over the parts of a value answer.
-use Rattle.std.proofs.Common.{◌≡◌, ◌∙◌, ℕ, ◌+◌, ◌-◌, ◌<◌, ◌≤◌, List, [], ◌∷◌, ◌++◌, All, length, map, refl, ap, sym, subst, arith, append_assoc}
+use Rattle.std.proofs.Common.{◌≡◌, ◌∙◌, ℕ, ◌+◌, ◌<◌, List, [], ◌∷◌, ◌++◌, All, length, map, refl, ap, sym, subst, arith, append_assoc}
 use Rattle.std.specs.List.{flat_map}
 use Rattle.std.proofs.lemmas.List.{length_push}
 use Rattle.std.proofs.lemmas.List.Elements.{All-push, All-nil}
@@ -14,7 +14,7 @@ use Rattle.plan_codec.specs.Parts.{spelled_list, AreAll}
 use Rattle.plan_codec.specs.Spellings.{Takes, Lacks, Refuses}
 use Rattle.plan_codec.specs.Values.{nodes_count, spelled_nodes, spelled_value, IsWithin, spelled_items, AreItems, spelled_fields, AreFields}
 use Rattle.plan_codec.specs.ValueLaws.{listed, listed-node_last, nodes_from-listed, within_unique, items_parts, pair_of, spelled_member, IsMember}
-use Rattle.plan_codec.specs.ValueLaws.{AreAnyFields, fields_parts, members_from, members_from-pairs, member_unique}
+use Rattle.plan_codec.specs.ValueLaws.{AreAnyFields, fields_parts, members_from-pairs, member_unique}
 use Rattle.plan_codec.proofs.Readings.{item_refused, items_taken, one_more, taken_as, refused_as}
 use Rattle.plan_codec.proofs.ValueReadings.{any_refused, rising_taken, falling_refused}
 

@@ -1,5 +1,5 @@
 -- What stands on a sheet once all values of a list, or all members of a map, were put.
-use Rattle.std.proofs.Common.{◌≡◌, ◌∙◌, ◌<◌, ◌^◌, ◌++◌, ℕ, List, ap, sym, arith, length}
+use Rattle.std.proofs.Common.{◌≡◌, ◌∙◌, ◌<◌, ◌^◌, ◌++◌, List, sym, arith, length}
 use Rattle.std.specs.List.{flat_map}
 use Rattle.heat_value.specs.Meaning.{nodes_of, members_of}
 use Rattle.heat_value.specs.declared.value.Value.{Value}

@@ -1,11 +1,11 @@
 -- What a reader of a value's parts answers of the value.
-use Rattle.std.proofs.Common.{◌≡◌, ◌≢◌, ℕ, zero, suc, ◌+◌, ◌<◌, ◌≤◌, ◌^◌, List, [], ◌∷◌, ◌++◌, length, All, true, false, refl, sym, ap, subst, ◌∙◌, append_assoc, arith}
-use Rattle.heat_value.specs.Data.{Data, null, flag, whole, words, items, fields, Nodes, Members, Rises, members_depth}
+use Rattle.std.proofs.Common.{◌≡◌, ℕ, ◌+◌, ◌≤◌, List, ◌∷◌, ◌++◌, true, false, arith}
+use Rattle.heat_value.specs.Data.{Data, null, flag, whole, words, items, fields, Members, Rises}
 use Rattle.plan_codec.specs.declared.unread.Unread.{Unread}
 use Rattle.plan_codec.specs.declared.unread.Unread.TheVariants as unread
-use Rattle.plan_codec.specs.Spellings.{IsUnique, Takes, Lacks, Refuses}
+use Rattle.plan_codec.specs.Spellings.{Takes, Lacks, Refuses}
 use Rattle.plan_codec.specs.Numbers.{spelled_bytes, IsText}
-use Rattle.plan_codec.specs.Values.{spelled_whole, IsWhole, spelled_value, IsValue, IsWithin, spelled_items, AreItems, spelled_fields, AreFields, IsWithinFields}
+use Rattle.plan_codec.specs.Values.{spelled_whole, IsWhole, spelled_value, IsWithin, spelled_items, AreItems, spelled_fields, AreFields, IsWithinFields}
 use Rattle.plan_codec.specs.ValueLaws.{AreAnyFields, any_fields_unique}
 use Rattle.plan_codec.proofs.Readings.{not_taken, refused_more}
 

@@ -1,6 +1,6 @@
 -- Numbers, flags and texts as bytes.
-use Rattle.std.specs.Prelude.{ℕ, ◌<◌, ◌≤◌, ◌^◌, ℤ, List, [], ◌∷◌, ◌++◌, length, Bool, true, false, IsUtf8}
-use Rattle.std.specs.Int.{w64, to_be_bytes, cast_unsigned}
+use Rattle.std.specs.Prelude.{ℕ, ◌<◌, ◌^◌, List, [], ◌∷◌, ◌++◌, length, Bool, true, false, IsUtf8}
+use Rattle.std.specs.Int.{w64, to_be_bytes}
 
 -- eight bytes, the highest first
 unfoldable pub spelled_number : ℕ → List ℕ

@@ -1,9 +1,7 @@
 -- That plans and what they are made of have one spelling each.
-use Rattle.std.specs.Prelude.{◌≡◌, ℕ, ◌≤◌, List, [], ◌∷◌, ◌++◌, refl}
-use Rattle.std.proofs.Common.{arith}
-use Rattle.heat_value.specs.Data.{Members, fields}
+use Rattle.std.specs.Prelude.{◌≡◌, ℕ, List, ◌++◌, refl}
 use Rattle.heat_plan.specs.Names.{IsResName}
-use Rattle.heat_plan.specs.Plans.{PlanData, IsPlan}
+use Rattle.heat_plan.specs.Plans.{PlanData}
 use Rattle.heat_plan.specs.declared.item.Policy.{Policy}
 use Rattle.heat_plan.specs.declared.item.Policy.TheVariants.{Delete, Retain}
 use Rattle.plan_codec.specs.Spellings.{IsUnique, Regroups}

@@ -1,6 +1,6 @@
 -- What plans are made of, as bytes: the parts of each thing in their order.
-use Rattle.std.specs.Prelude.{ℕ, ◌≤◌, List, [], ◌∷◌, ◌++◌}
-use Rattle.heat_value.specs.Data.{Members, fields, members_depth}
+use Rattle.std.specs.Prelude.{ℕ, List, [], ◌∷◌, ◌++◌}
+use Rattle.heat_value.specs.Data.{Members, fields}
 use Rattle.heat_plan.specs.Names.{IsResName}
 use Rattle.heat_plan.specs.Order.{Rising}
 use Rattle.heat_plan.specs.Plans.{PlanData, IsPlan}
@@ -14,7 +14,7 @@ use Rattle.heat_plan.specs.declared.kind.Kind.{Kind}
 use Rattle.heat_plan.specs.declared.plan.Output.{Output}
 use Rattle.plan_codec.specs.Numbers.{spelled_bytes, spelled_flag, IsText, IsAny}
 use Rattle.plan_codec.specs.Parts.{spelled_list, AreAll}
-use Rattle.plan_codec.specs.Values.{spelled_value, spelled_fields, IsValue, IsWithin, AreFields}
+use Rattle.plan_codec.specs.Values.{spelled_value, spelled_fields, IsWithin, AreFields}
 
 -- properties nest at most 64 deep as a map, each parameter does by itself
 abbrev pub IsProperties : Members → Type 0

@@ -1,20 +1,20 @@
 -- That values have one spelling each, and what lists and maps are as plain lists.
-use Rattle.std.specs.Prelude.{◌≡◌, ℕ, zero, suc, ◌+◌, ◌<◌, ◌≤◌, ◌^◌, max, ℤ, List, [], ◌∷◌, ◌++◌, length, map, All, Bool, true, false, refl}
-use Rattle.std.proofs.Common.{sym, ap, subst, ◌∙◌, append_assoc, arith}
+use Rattle.std.specs.Prelude.{◌≡◌, ℕ, suc, ◌+◌, ◌<◌, ◌≤◌, ◌^◌, ℤ, List, [], ◌∷◌, ◌++◌, length, map, true, false, refl}
+use Rattle.std.proofs.Common.{sym, ap, ◌∙◌, append_assoc, arith}
 use Rattle.std.specs.List.{flat_map, AllByRecursion}
 use Rattle.std.specs.Int.{w64, cast_unsigned, cast_signed}
 use Rattle.std.proofs.lemmas.Int.{to_z-of_z}
 use mir.ValLaws.{of_z_fits}
-use Rattle.std.proofs.lemmas.List.Elements.{All-head, All-tail, All-from_recursion, recursion_from_All}
+use Rattle.std.proofs.lemmas.List.Elements.{All-from_recursion, recursion_from_All}
 use Rattle.heat_value.specs.Data.{Data, null, flag, whole, words, items, fields, Nodes, no_nodes, node, node_last}
-use Rattle.heat_value.specs.Data.{Members, no_members, member, Rises, depth, nodes_depth, members_depth, keys_of}
+use Rattle.heat_value.specs.Data.{Members, no_members, member, nodes_depth, members_depth}
 use Rattle.heat_value.specs.Meaning.{data_of, nodes_of, members_of}
 use Rattle.heat_value.specs.declared.value.Value.{Value}
 use Rattle.heat_value.specs.declared.value.Member.{Member as member_type}
 use Rattle.plan_codec.specs.Spellings.{IsUnique, Regroups}
 use Rattle.plan_codec.specs.Numbers.{spelled_number, spelled_bytes, IsText}
 use Rattle.plan_codec.specs.Parts.{spelled_pair, AreBoth, spelled_list, AreAll}
-use Rattle.plan_codec.specs.Values.{nodes_count, members_count, spelled_whole, IsWhole, spelled_value, spelled_nodes, spelled_members, IsValue, AreValues, AreMembers, IsWithin, spelled_items, AreItems, spelled_fields, AreFields}
+use Rattle.plan_codec.specs.Values.{nodes_count, members_count, spelled_whole, IsWhole, spelled_value, spelled_nodes, spelled_members, IsValue, AreValues, AreMembers, IsWithin, spelled_items, AreItems, spelled_fields}
 use Rattle.plan_codec.specs.Laws.{narrowed, number_unique, text_unique, list_unique, pair_unique, regrouped_unique}
 
 pub whole_unique : IsUnique spelled_whole IsWhole

@@ -1,5 +1,5 @@
 -- Values as bytes: a tag, and what is behind it. A flag is its tag alone.
-use Rattle.std.specs.Prelude.{ℕ, suc, ◌<◌, ◌≤◌, ◌^◌, ℤ, List, [], ◌∷◌, ◌++◌, Bool, true, false, FitsSigned}
+use Rattle.std.specs.Prelude.{ℕ, suc, ◌<◌, ◌≤◌, ◌^◌, ℤ, List, [], ◌∷◌, ◌++◌, true, false, FitsSigned}
 use Rattle.std.specs.Int.{w64, cast_unsigned}
 use Rattle.heat_value.specs.Data.{Data, null, flag, whole, words, items, fields, Nodes, no_nodes, node}
 use Rattle.heat_value.specs.Data.{Members, no_members, member, Rises, depth, members_depth}

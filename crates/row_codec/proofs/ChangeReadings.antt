@@ -3,6 +3,7 @@ use Rattle.std.proofs.Common.{◌≡◌, ◌⊎◌, ℕ, List, ◌∷◌, ◌++�
 use Rattle.plan_codec.specs.Below.{IsStackName}
 use Rattle.plan_codec.specs.Below.{IsNumber}
 use Rattle.core_state.specs.declared.change.Change.{Change}
+use Rattle.traversal_graph.specs.declared.shape.TravGraph.{TravGraph}
 use Rattle.core_state.specs.declared.change.Change.TheVariants as change
 use Rattle.plan_codec.specs.declared.unread.Unread.{Unread}
 use Rattle.plan_codec.specs.declared.unread.Unread.TheVariants as unread
@@ -154,6 +155,69 @@ untagged bytes none (change.Release y) q p e = none 15 _ (omega arith) (omega ar
 
 pub no_change : (bytes : List ℕ) → ((t : ℕ) (rest : List ℕ) → 1 ≤ t → t ≤ 15 → bytes ≢ t ∷ rest) → Lacks spelled_change IsProper bytes
 no_change bytes none = record { none = untagged bytes none }
+
+-- ---- what was taken behind a tag
+
+pub PutStack_taken : (rest behind : List ℕ) (x : _) → Takes spelled_stack IsProperStack rest x behind
+    → Takes spelled_change IsProper (1 ∷ rest) (change.PutStack x) behind
+PutStack_taken rest behind x t = record { parts = ap (λ (b : List ℕ). 1 ∷ b) t.parts; fits = t.fits }
+
+pub DropStack_taken : (rest behind : List ℕ) (x : _) → Takes spelled_bytes IsStackName rest x behind
+    → Takes spelled_change IsProper (2 ∷ rest) (change.DropStack x) behind
+DropStack_taken rest behind x t = record { parts = ap (λ (b : List ℕ). 2 ∷ b) t.parts; fits = t.fits }
+
+pub PutRow_taken : (rest behind : List ℕ) (x : _) → Takes spelled_row IsProperRow rest x behind
+    → Takes spelled_change IsProper (3 ∷ rest) (change.PutRow x) behind
+PutRow_taken rest behind x t = record { parts = ap (λ (b : List ℕ). 3 ∷ b) t.parts; fits = t.fits }
+
+pub DropRow_taken : (rest behind : List ℕ) (x : _) → Takes spelled_number IsNumber rest x behind
+    → Takes spelled_change IsProper (4 ∷ rest) (change.DropRow x) behind
+DropRow_taken rest behind x t = record { parts = ap (λ (b : List ℕ). 4 ∷ b) t.parts; fits = t.fits }
+
+pub PutPoint_taken : (rest behind : List ℕ) (x : _) → Takes spelled_point IsProperPoint rest x behind
+    → Takes spelled_change IsProper (6 ∷ rest) (change.PutPoint x) behind
+PutPoint_taken rest behind x t = record { parts = ap (λ (b : List ℕ). 6 ∷ b) t.parts; fits = t.fits }
+
+pub Send_taken : (rest behind : List ℕ) (x : _) → Takes spelled_letter IsProperLetter rest x behind
+    → Takes spelled_change IsProper (7 ∷ rest) (change.Send x) behind
+Send_taken rest behind x t = record { parts = ap (λ (b : List ℕ). 7 ∷ b) t.parts; fits = t.fits }
+
+pub Drop_taken : (rest behind : List ℕ) (x : _) → Takes spelled_number IsNumber rest x behind
+    → Takes spelled_change IsProper (8 ∷ rest) (change.Drop x) behind
+Drop_taken rest behind x t = record { parts = ap (λ (b : List ℕ). 8 ∷ b) t.parts; fits = t.fits }
+
+pub PutJob_taken : (rest behind : List ℕ) (x : _) → Takes spelled_job IsProperJob rest x behind
+    → Takes spelled_change IsProper (9 ∷ rest) (change.PutJob x) behind
+PutJob_taken rest behind x t = record { parts = ap (λ (b : List ℕ). 9 ∷ b) t.parts; fits = t.fits }
+
+pub EndJob_taken : (rest behind : List ℕ) (x : _) → Takes spelled_number IsNumber rest x behind
+    → Takes spelled_change IsProper (10 ∷ rest) (change.EndJob x) behind
+EndJob_taken rest behind x t = record { parts = ap (λ (b : List ℕ). 10 ∷ b) t.parts; fits = t.fits }
+
+pub Enlist_taken : (rest behind : List ℕ) (x : _) → Takes spelled_number IsNumber rest x behind
+    → Takes spelled_change IsProper (11 ∷ rest) (change.Enlist x) behind
+Enlist_taken rest behind x t = record { parts = ap (λ (b : List ℕ). 11 ∷ b) t.parts; fits = t.fits }
+
+pub Stop_taken : (rest behind : List ℕ) (x : _) → Takes spelled_number IsNumber rest x behind
+    → Takes spelled_change IsProper (12 ∷ rest) (change.Stop x) behind
+Stop_taken rest behind x t = record { parts = ap (λ (b : List ℕ). 12 ∷ b) t.parts; fits = t.fits }
+
+pub Numbers_taken : (rest behind : List ℕ) (x : _) → Takes spelled_numbers IsProperNumbers rest x behind
+    → Takes spelled_change IsProper (13 ∷ rest) (change.Numbers x) behind
+Numbers_taken rest behind x t = record { parts = ap (λ (b : List ℕ). 13 ∷ b) t.parts; fits = t.fits }
+
+pub PutPast_taken : (rest behind : List ℕ) (x : _) → Takes spelled_past IsProperPast rest x behind
+    → Takes spelled_change IsProper (14 ∷ rest) (change.PutPast x) behind
+PutPast_taken rest behind x t = record { parts = ap (λ (b : List ℕ). 14 ∷ b) t.parts; fits = t.fits }
+
+pub Release_taken : (rest behind : List ℕ) (x : _) → Takes spelled_token IsProperToken rest x behind
+    → Takes spelled_change IsProper (15 ∷ rest) (change.Release x) behind
+Release_taken rest behind x t = record { parts = ap (λ (b : List ℕ). 15 ∷ b) t.parts; fits = t.fits }
+
+pub PutGraph_taken : (rest behind : List ℕ) (n : List ℕ) (g : TravGraph)
+    → Takes (spelled_pair spelled_bytes spelled_graph) (AreBoth IsStackName IsProperGraph) rest (n, g) behind
+    → Takes spelled_change IsProper (5 ∷ rest) (change.PutGraph n g) behind
+PutGraph_taken rest behind n g t = record { parts = ap (λ (b : List ℕ). 5 ∷ b) t.parts; fits = t.fits }
 
 -- tags go from 1 to 15
 tag_range : (c : Change) → (1 ≤ the_tag c) × (the_tag c ≤ 15)

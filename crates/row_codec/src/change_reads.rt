@@ -26,8 +26,10 @@ impl Readable for Of<Change> {
     ghost proper = { IsProper };
 
     fn read<'a>(alloc: Global, bytes: &'a [u8]) -> Result<(Of<Change>, &'a [u8]), Unread> {
-        let (change, rest) = change_at(alloc, bytes)?;
-        Ok((Of { thing: change }, rest))
+        match change_at(alloc, bytes) {
+            Ok((change, rest)) => Ok((Of { thing: change }, rest)),
+            Err(why) => Err(why),
+        }
     }
 
     ghost unique = { change_unique };

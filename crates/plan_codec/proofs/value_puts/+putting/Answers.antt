@@ -1,7 +1,6 @@
-use Rattle.std.proofs.Common.{◌≡◌, ◌∙◌, ap, sym, arith, length, All}
+use Rattle.std.proofs.Common.{arith, length}
 use Rattle.std.proofs.lemmas.List.Elements.{recursion_from_All}
 use Rattle.plan_codec.specs.Numbers.{spelled_number}
-use Rattle.plan_codec.specs.Sheets.{behind}
 use Rattle.plan_codec.specs.ValueLaws.{of_value, is_value, of_member, is_member}
 use Rattle.plan_codec.specs.ValueLaws.{are_values-nodes_of, are_members-members_of}
 use Rattle.plan_codec.proofs.Sheets.{one_further, none_yet, all_put, one_more_proper, all_proper}

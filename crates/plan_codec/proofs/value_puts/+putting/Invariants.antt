@@ -3,8 +3,7 @@ use Rattle.std.specs.List.{flat_map}
 use Rattle.heat_value.specs.Meaning.{data_of, nodes_of, members_of, weight, nodes_weight, members_weight}
 use Rattle.plan_codec.specs.Numbers.{spelled_number}
 use Rattle.plan_codec.specs.Sheets.{behind}
-use Rattle.plan_codec.specs.Values.{spelled_value, IsValue}
-use Rattle.plan_codec.specs.ValueLaws.{spelled_member, pair_of, of_value, is_value, of_member, is_member}
+use Rattle.plan_codec.specs.ValueLaws.{of_value, is_value, of_member, is_member}
 use Rattle.plan_codec.proofs.value_puts.+putting.Given as goal
 
 abbrev pub decreases-put_value : goal.decreases-put_value

@@ -1,6 +1,6 @@
 use Rattle.std.proofs.Common.{rules}
 use Rattle.std.proofs.lemmas.Grind.{common_steps}
-use Rattle.std.proofs.Common.{◌≡◌, ap, sym, ◌∙◌, subst, arith, inl, inr}
+use Rattle.std.proofs.Common.{arith, inl, inr}
 use Rattle.plan_codec.proofs.Readings.{tag_past}
 use Rattle.std.proofs.lemmas.Result.{err_from_is_err_and}
 use Rattle.heat_value.specs.Meaning.{data_of}
