@@ -17,6 +17,8 @@ pub mod Weights
 pub mod Kept
 pub mod Steps
 pub mod Gathers
+pub mod Noting
+pub mod Reading
 pub mod Made
 pub mod Calls
 pub mod Flags
