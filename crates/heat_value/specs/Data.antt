@@ -5,6 +5,7 @@ use Rattle.std.specs.Cmp.Lexicographic.{slice_cmp}
 use Rattle.std.specs.List.Sorted.{IsStrictlySortedBy}
 use Rattle.std.specs.Str.{bytes_eq}
 
+-- null, a flag, a whole number, a text, a list, or a map
 mutual
   pub data Data : Type 0 where
     null : Data
@@ -14,10 +15,12 @@ mutual
     items : Nodes → Data
     fields : Members → Data
 
+  -- the values of a list, in order
   pub data Nodes : Type 0 where
     no_nodes : Nodes
     node : Data → Nodes → Nodes
 
+  -- the members of a map, a key and a value each, in order
   pub data Members : Type 0 where
     no_members : Members
     member : List ℕ → Data → Members → Members
@@ -32,10 +35,12 @@ abbrev mutual
   depth (items ns) = suc (nodes_depth ns)
   depth (fields ms) = suc (members_depth ms)
 
+  -- that of the deepest of a list's values, and 0 for no values
   pub nodes_depth : Nodes → ℕ
   nodes_depth no_nodes = 0
   nodes_depth (node d ns) = max (depth d) (nodes_depth ns)
 
+  -- that of the deepest of a map's values, and 0 for no members
   pub members_depth : Members → ℕ
   members_depth no_members = 0
   members_depth (member k d ms) = max (depth d) (members_depth ms)

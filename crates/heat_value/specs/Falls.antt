@@ -8,6 +8,7 @@ use Rattle.heat_value.specs.declared.value.Value.TheVariants as value
 use Rattle.heat_value.specs.declared.value.Member.{Member}
 use Rattle.heat_value.specs.declared.value.Items.TheDeep.{deep-Value, deep-Member}
 
+-- a value nests no deeper than it weighs
 pub deep_le-weight : (v : Value) → deep-Value v ≤ weight (data_of v)
 deep_le-weight value.Null = omega arith
 deep_le-weight (value.Flag b) = omega arith
@@ -16,10 +17,12 @@ deep_le-weight (value.Words s) = omega arith
 deep_le-weight (value.Items ns) = omega arith
 deep_le-weight (value.Fields ms) = omega arith
 
+-- none of a list's values nests deeper than all of them weigh
 pub most_le-nodes : (vs : List Value) → max (most deep-Value vs) 0 ≤ nodes_weight (nodes_of vs)
 most_le-nodes [] = omega arith
 most_le-nodes (v ∷ vs) = omega (arith, most_le-nodes vs, deep_le-weight v)
 
+-- no value of a map's members nests deeper than all of them weigh
 pub most_le-members : (es : List Member) → max (most deep-Member es) 0 ≤ members_weight (members_of es)
 most_le-members [] = omega arith
 most_le-members (e ∷ es) = omega (arith, most_le-members es, deep_le-weight e.value)

@@ -17,6 +17,7 @@ kind (words s) = 3
 kind (items ns) = 4
 kind (fields ms) = 5
 
+-- how two values compare
 abbrev mutual
   pub value_cmp : Data → Data → Ordering
   value_cmp null null = Equal
@@ -27,12 +28,14 @@ abbrev mutual
   value_cmp (fields ms) (fields ns) = members_cmp ms ns
   value_cmp d e = nat_cmp (kind d) (kind e)
 
+  -- how the values of two lists compare
   pub nodes_cmp : Nodes → Nodes → Ordering
   nodes_cmp no_nodes no_nodes = Equal
   nodes_cmp no_nodes (node e ns) = Less
   nodes_cmp (node d ms) no_nodes = Greater
   nodes_cmp (node d ms) (node e ns) = ordering_then (value_cmp d e) (nodes_cmp ms ns)
 
+  -- how the members of two maps compare: by the key first, and then by the value
   pub members_cmp : Members → Members → Ordering
   members_cmp no_members no_members = Equal
   members_cmp no_members (member l e ns) = Less

@@ -12,25 +12,30 @@ use Rattle.heat_value.specs.Data.{no_nodes, node, Members, no_members, member}
 use Rattle.heat_value.specs.Code.{Token, tokens, nodes_tokens, members_tokens}
 use Rattle.heat_value.specs.Order.{value_cmp, nodes_cmp, members_cmp}
 
+-- how two tokens compare: by the kind, then the flag, the number and the text
 abbrev token_cmp : Token → Token → Ordering
 token_cmp =
     then_cmp (on (λ t. t.0) nat_cmp)
     (then_cmp (on (λ t. t.1.0) bool_cmp) (then_cmp (on (λ t. t.1.1.0) int_cmp) (on (λ t. t.1.1.1) (slice_cmp nat_cmp))))
 
+-- the order of tokens is total
 token_cmp_total : IsTotalOrder token_cmp
 token_cmp_total =
     then_total (on_total (λ t. t.0) nat_cmp_total)
     (then_total (on_total (λ t. t.1.0) bool_cmp_total)
     (then_total (on_total (λ t. t.1.1.0) int_cmp_total) (on_total (λ t. t.1.1.1) nat_list_cmp_total)))
 
+-- how two lists of tokens compare: by the first token that differs, the shorter first
 abbrev listed_cmp : List Token → List Token → Ordering
 listed_cmp = slice_cmp token_cmp
 
+-- a tie behind an order changes nothing of it
 then-Equal : (o : Ordering) → ordering_then o Equal ≡ o
 then-Equal Less = refl
 then-Equal Equal = refl
 then-Equal Greater = refl
 
+-- three orders one after the other, however they are bracketed
 then-then : (o p q : Ordering) → ordering_then (ordering_then o p) q ≡ ordering_then o (ordering_then p q)
 then-then Less p q = refl
 then-then Equal p q = refl
@@ -38,6 +43,7 @@ then-then Greater p q = refl
 
 -- ---- the tokens are ordered as what they stand for, whatever stands behind them
 
+-- the tokens of two values compare as the values, and behind the same value as what follows
 mutual
   tokens-cmp : (d e : Data) (r s : List Token) → listed_cmp (tokens d ++ r) (tokens e ++ s) ≡ ordering_then (value_cmp d e) (listed_cmp r s)
   tokens-cmp null null r s = refl
@@ -48,6 +54,7 @@ mutual
   tokens-cmp (fields ms) (fields ns) r s = members_tokens-cmp ms ns r s
   tokens-cmp _ _ r s = refl
 
+  -- the same of the values of two lists
   nodes_tokens-cmp : (ms ns : Nodes) (r s : List Token) → listed_cmp (nodes_tokens ms ++ r) (nodes_tokens ns ++ s) ≡ ordering_then (nodes_cmp ms ns) (listed_cmp r s)
   nodes_tokens-cmp no_nodes no_nodes r s = refl
   nodes_tokens-cmp no_nodes (node e ns) r s = refl
@@ -58,6 +65,7 @@ mutual
       ∙ ap (ordering_then (value_cmp d e)) (nodes_tokens-cmp ms ns r s)
       ∙ sym (then-then (value_cmp d e) (nodes_cmp ms ns) (listed_cmp r s)))
 
+  -- the same of the members of two maps
   members_tokens-cmp : (ms ns : Members) (r s : List Token) → listed_cmp (members_tokens ms ++ r) (members_tokens ns ++ s) ≡ ordering_then (members_cmp ms ns) (listed_cmp r s)
   members_tokens-cmp no_members no_members r s = refl
   members_tokens-cmp no_members (member l e ns) r s = refl
@@ -70,26 +78,31 @@ mutual
       ∙ sym (then-then (value_cmp d e) (members_cmp ms ns) (listed_cmp r s)))
       ∙ sym (then-then (slice_cmp nat_cmp k l) (ordering_then (value_cmp d e) (members_cmp ms ns)) (listed_cmp r s)))
 
+-- the order of values is that of their tokens
 by_tokens : (d e : Data) → on tokens listed_cmp d e ≡ value_cmp d e
 by_tokens d e =
     sym (λ i. listed_cmp (append-nil (tokens d) i) (append-nil (tokens e) i))
     ∙ tokens-cmp d e [] [] ∙ then-Equal (value_cmp d e)
 
+-- the order of values is total
 pub value_cmp_total : IsTotalOrder value_cmp
 value_cmp_total = subst IsTotalOrder (λ i d e. by_tokens d e i) (on_total tokens (lists_total token_cmp_total))
 
 -- ---- only what is the same isn't told apart
 
+-- where both together tie, the first ties
 then_first : (o p : Ordering) → ordering_then o p ≡ Equal → o ≡ Equal
 then_first Less p h = cc
 then_first Equal p h = refl
 then_first Greater p h = cc
 
+-- where both together tie, the second ties
 then_second : (o p : Ordering) → ordering_then o p ≡ Equal → p ≡ Equal
 then_second Less p h = cc
 then_second Equal p h = h
 then_second Greater p h = cc
 
+-- two values that tie are the same
 mutual
   pub value_cmp-same : (d e : Data) → value_cmp d e ≡ Equal → d ≡ e
   value_cmp-same null null h = refl
@@ -103,6 +116,7 @@ mutual
   value_cmp-same (fields ms) (fields ns) h = ap fields (members_cmp-same ms ns h)
   value_cmp-same _ _ h = cc
 
+  -- the values of two lists that tie are the same
   nodes_cmp-same : (ms ns : Nodes) → nodes_cmp ms ns ≡ Equal → ms ≡ ns
   nodes_cmp-same no_nodes no_nodes h = refl
   nodes_cmp-same no_nodes (node e ns) h = cc
@@ -112,6 +126,7 @@ mutual
       let rest : ms ≡ ns = nodes_cmp-same ms ns (then_second (value_cmp d e) (nodes_cmp ms ns) h) in
       cc
 
+  -- the members of two maps that tie are the same
   members_cmp-same : (ms ns : Members) → members_cmp ms ns ≡ Equal → ms ≡ ns
   members_cmp-same no_members no_members h = refl
   members_cmp-same no_members (member l e ns) h = cc

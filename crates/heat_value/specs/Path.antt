@@ -14,5 +14,6 @@ abbrev pub steps_text : Bool → List Step → List ℕ
 steps_text later [] = 93 ∷ []
 steps_text later (s ∷ ss) = (if later then 44 ∷ [] else []) ++ (step_text s ++ steps_text true ss)
 
+-- a path's text, its steps in brackets
 abbrev pub path_text : List Step → List ℕ
 path_text ss = 91 ∷ steps_text false ss

@@ -39,6 +39,7 @@ abbrev mutual
   items_bad i json.no_items = None
   items_bad i (json.item d ds) = option_or (under (Index i) (first_bad d)) (items_bad (i + 1) ds)
 
+  -- of a map's members, in order
   pub members_bad : json.Members → Option (List Step)
   members_bad json.no_members = None
   members_bad (json.member k d ms) = option_or (under (Key k) (first_bad d)) (members_bad ms)
