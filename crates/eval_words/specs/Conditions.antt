@@ -39,10 +39,12 @@ abbrev mutual
   names_read p (items ns) = names_read_among p 0 ns
   names_read p (fields ms) = names_read_under (member_place p (lone ms)) ms
 
+  -- those in a list's values, of which the first has this place
   pub names_read_among : Place → ℕ → Nodes → List (List ℕ)
   names_read_among p i no_nodes = []
   names_read_among p i (node d ns) = names_read (item_place p i) d ++ names_read_among p (i + 1) ns
 
+  -- those in an object's values, each of which stands at this place
   pub names_read_under : Place → Members → List (List ℕ)
   names_read_under p no_members = []
   names_read_under p (member k d ms) = names_read p d ++ names_read_under p ms
@@ -71,6 +73,7 @@ pub record IsLeastOnCycle (conds : Members) (name : List ℕ) : Type 0 where
 abbrev pub in_conditions : Members → List Condition → SceneData
 in_conditions params known = record { params = params; conds = known; files = []; facts = [] }
 
+-- the flag that an evaluation gave; none for a fault, or for any other value
 abbrev pub flag_made : Outcome Data → Option Bool
 flag_made (Gives d spent) = flag_in d
 flag_made (Faults c p) = None
@@ -90,6 +93,7 @@ abbrev pub valued_after : ℕ → Members → Members → List Condition
 valued_after zero params conds = []
 valued_after (suc rounds) params conds = valued params (valued_after rounds params conds) conds
 
+-- how many members there are
 abbrev pub count_of : Members → ℕ
 count_of no_members = 0
 count_of (member k d ms) = suc (count_of ms)
@@ -100,6 +104,7 @@ values_of params conds = valued_after (count_of conds) params conds
 
 -- ---- the first that has none
 
+-- this path where the condition has no value, else what is found behind it
 abbrev pub unless_valued : List Step → Option Bool → Option (List Step) → Option (List Step)
 unless_valued path None rest = Some path
 unless_valued path (Some b) rest = rest
@@ -115,6 +120,7 @@ abbrev pub unvalued_in : Members → List Condition → List Step → Option Dat
 unvalued_in params known path None = None
 unvalued_in params known path (Some d) = unless_valued path (flag_of params known d) None
 
+-- an entry's `condition` as it is written; none where the entry has none or is no object
 abbrev pub condition_in : Data → Option Data
 condition_in null = None
 condition_in (flag b) = None

@@ -42,10 +42,12 @@ abbrev mutual
   filled c (items ns) = option_map items (nodes_filled c ns)
   filled c (fields ms) = option_map fields (option_and_then map_of (members_filled c ms))
 
+  -- the same of a list's values
   pub nodes_filled : Choice → Nodes → Option Nodes
   nodes_filled c no_nodes = Some no_nodes
   nodes_filled c (node d ns) = option_and_then (λ e. option_map (node e) (nodes_filled c ns)) (filled c d)
 
+  -- the same of an object's members, in their order as written; two keys may become one here
   pub members_filled : Choice → Members → Option Members
   members_filled c no_members = Some no_members
   members_filled c (member k d ms) =
@@ -61,10 +63,12 @@ abbrev mutual
   filled_size c (items ns) = nodes_size c ns
   filled_size c (fields ms) = members_size c ms
 
+  -- those of a list's values
   pub nodes_size : Choice → Nodes → ℕ
   nodes_size c no_nodes = 0
   nodes_size c (node d ns) = filled_size c d + nodes_size c ns
 
+  -- those of an object's members, keys and values
   pub members_size : Choice → Members → ℕ
   members_size c no_members = 0
   members_size c (member k d ms) = size (words (text_filled c k)) + filled_size c d + members_size c ms
@@ -77,10 +81,12 @@ member_becoming c k no_members = None
 member_becoming c k (member l d ms) =
     if bytes_eq (text_filled c l) k then Some (Key l, d) else member_becoming c k ms
 
+-- into a list only a place leads, and the place stays the same
 abbrev pub step_in_list : Nodes → Step → Option (Step × Data)
 step_in_list ns (Key k) = None
 step_in_list ns (Index i) = option_map (λ d. (Index i, d)) (node_at ns i)
 
+-- into an object only a key leads, as it is after keys were replaced
 abbrev pub step_in_object : Choice → Members → Step → Option (Step × Data)
 step_in_object c ms (Key k) = member_becoming c k ms
 step_in_object c ms (Index i) = None

@@ -20,12 +20,15 @@ abbrev pub flags_in : Nodes → Option (List Bool)
 flags_in no_nodes = Some []
 flags_in (node d ns) = option_and_then (λ b. option_map (λ bs. b ∷ bs) (flags_in ns)) (flag_in d)
 
+-- the opposite of a condition's value; F01 where it has none
 abbrev pub negated : Data → Result Data FaultCode
 negated a = wanted (flag_in a) (λ b. Ok (flag (not b)))
 
+-- whether all conditions of the list are true; F01 where one of them has no value
 abbrev pub conjoined : Data → Result Data FaultCode
 conjoined a = wanted (flags_in (listed a)) (λ bs. Ok (flag (list_all (λ b. b) bs)))
 
+-- whether a condition of the list is true; F01 where one of them has no value
 abbrev pub disjoined : Data → Result Data FaultCode
 disjoined a = wanted (flags_in (listed a)) (λ bs. Ok (flag (list_any (λ b. b) bs)))
 

@@ -24,6 +24,7 @@ Looks = List (List ℕ)
 abbrev pub Reading : Type 0
 Reading = Data → ℕ → Looks
 
+-- the same at any number of levels that are left
 abbrev pub LeveledReading : Type 0
 LeveledReading = ℕ → Reading
 
@@ -37,6 +38,7 @@ abbrev pub reads_inside : ℕ → (ℕ → Looks) → Looks
 reads_inside zero next = []
 reads_inside (suc levels) next = next levels
 
+-- what a replaced template looks up, which takes a level itself
 abbrev pub replaced_reads : LeveledReading → ℕ → Reading
 replaced_reads reads levels r spent = reads_inside levels (λ inside. reads inside r spent)
 
@@ -50,6 +52,7 @@ choices_reads again reads template (c ∷ cs) spent =
     ++ reads_behind (choice_outcome again template c (filled c template) spent) (λ v sum.
     choices_reads again reads template cs sum)
 
+-- what the replaced templates of a repeat look up; nothing where it has a fault of its own
 abbrev pub repeated_reads : Evaluating → Reading → Result Repetition FaultCode → ℕ → Looks
 repeated_reads again reads (Ok (cs, template)) spent = choices_reads again reads template cs spent
 repeated_reads again reads (Err c) spent = []
@@ -89,6 +92,7 @@ pub record SoleReads : Type 0 where
   pub condition : ℕ → Looks
   pub conditions : ℕ → Looks
 
+-- what the argument looks up in the manner of its function
 abbrev pub argument_reads : Manner → SoleReads → ℕ → Looks
 argument_reads manner.Each r spent = r.each spent
 argument_reads manner.AllButTemplate r spent = r.all_but_template spent
@@ -105,15 +109,18 @@ call_reads again reads f formed m r spent =
     reads_behind (charged a (size a) sum) (answer_reads again reads f))
     else []
 
+-- what the call looks up where the member names a function, else what is looked up without one
 abbrev pub called_reads : Evaluating → Reading → Option Function → Bool → Sole → SoleReads → Looks → ℕ → Looks
 called_reads again reads None formed m r plain spent = plain
 called_reads again reads (Some f) formed m r plain spent = call_reads again reads f formed m r spent
 
+-- what an object looks up: as a call where its only key names a function of values, else by its parts
 abbrev pub object_reads : Evaluating → Reading → Option (Sole × SoleReads) → Looks → ℕ → Looks
 object_reads again reads None plain spent = plain
 object_reads again reads (Some (m, r)) plain spent =
     called_reads again reads (function_of m.key) (is_formed m.key m.given) m r plain spent
 
+-- and as a condition, where any object that isn't a call looks up nothing
 abbrev pub object_condition_reads : Evaluating → Reading → Option (Sole × SoleReads) → ℕ → Looks
 object_condition_reads again reads None spent = []
 object_condition_reads again reads (Some (m, r)) spent =

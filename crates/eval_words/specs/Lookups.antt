@@ -19,6 +19,7 @@ node_at no_nodes i = None
 node_at (node d ns) zero = Some d
 node_at (node d ns) (suc i) = node_at ns i
 
+-- the place of a whole number; none below 0
 abbrev pub place_at : ℤ → Option ℕ
 place_at (pos i) = Some i
 place_at (negsuc i) = None
@@ -32,6 +33,7 @@ place_in (words s) = None
 place_in (items ps) = None
 place_in (fields ms) = None
 
+-- an item of the list, at the place that the step names
 abbrev pub step_into_list : Nodes → Data → Option Data
 step_into_list ns s = option_and_then (node_at ns) (place_in s)
 
@@ -56,6 +58,7 @@ abbrev pub parameter_at : SceneData → Data × Nodes → Result Data FaultCode
 parameter_at scene (name, path) =
     wanted (option_and_then (λ s. lookup s scene.params) (text_in name)) (λ d. Ok (unwrap_or (walked path d) (words [])))
 
+-- what get_param gives: of a name and a path, or of a name alone
 abbrev pub parameter : SceneData → Data → Result Data FaultCode
 parameter scene a = wanted (first_and_rest (parts a)) (parameter_at scene)
 
@@ -85,11 +88,13 @@ abbrev pub attribute_of : SceneData → Data × Nodes → Result Data FaultCode
 attribute_of scene (name, rest) =
     wanted (text_in name) (λ s. Ok (unwrap_or (option_and_then (attributes_at rest) (facts_of scene s)) null))
 
+-- what get_attr gives, of a resource's name and a path; F01 where that isn't a list with a text first
 abbrev pub attribute : SceneData → Data → Result Data FaultCode
 attribute scene a = wanted (first_and_rest (listed a)) (attribute_of scene)
 
 -- ---- get_file
 
+-- the text of the file of that name
 abbrev pub file_named : SceneData → List ℕ → Option (List ℕ)
 file_named scene name = file_content scene.files name
 
@@ -99,6 +104,7 @@ file scene a = wanted (option_and_then (file_named scene) (text_in a)) (λ text.
 
 -- ---- names of conditions
 
+-- the value of the condition of that name; none where it has none
 abbrev pub condition_named : SceneData → List ℕ → Option Bool
 condition_named scene name = condition_value scene.conds name
 

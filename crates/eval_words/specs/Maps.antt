@@ -22,6 +22,7 @@ abbrev pub merged_onto : Members → Nodes → Option Members
 merged_onto base no_nodes = Some base
 merged_onto base (node d ns) = option_and_then (λ ms. merged_onto (put_all ms base) ns) (object_or_null d)
 
+-- the entries of all objects in one; F01 where one of these is neither an object nor null
 abbrev pub map_merge : Data → Result Data FaultCode
 map_merge a = wanted (merged_onto no_members (listed a)) (λ ms. Ok (fields ms))
 
@@ -32,6 +33,7 @@ abbrev pub mapped_onto : Members → Members → Option Members
 mapped_onto base no_members = Some base
 mapped_onto base (member k d ms) = if stands k base then None else mapped_onto (put k d base) ms
 
+-- the map of these entries; none where two keys are the same
 abbrev pub map_of : Members → Option Members
 map_of ms = mapped_onto no_members ms
 
@@ -74,6 +76,7 @@ value_for values (words s) = unwrap_or (lookup s values) (words s)
 value_for values (items ns) = items ns
 value_for values (fields ms) = fields ms
 
+-- the entries with keys and values replaced, in their order as before
 abbrev pub renamed : Members × Members → Members → Members
 renamed r no_members = no_members
 renamed r (member k d ms) = member (name_for r.0 k) (value_for r.1 d) (renamed r ms)
@@ -83,10 +86,12 @@ abbrev pub unless_same : Option Members → Result Data FaultCode
 unless_same None = Err F05
 unless_same (Some ms) = Ok (fields ms)
 
+-- a map renamed by an object; F01 where one of them is of the wrong sort
 abbrev pub rename_in : Data × Data → Result Data FaultCode
 rename_in (map, by) =
     wanted (object_in map) (λ ms. wanted (option_and_then renaming_in (object_in by)) (λ r.
     unless_same (map_of (renamed r ms))))
 
+-- what map_replace gives of its two parts; F01 where it hasn't two
 abbrev pub map_replace : Data → Result Data FaultCode
 map_replace a = wanted (two_of (listed a)) rename_in

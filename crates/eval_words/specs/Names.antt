@@ -47,6 +47,7 @@ condition_function_of k =
     if bytes_eq k (codes "or") then Some function.Or else (
     if bytes_eq k (codes "contains") then Some function.Contains else None)))))
 
+-- the argument has this form; never where there is none
 abbrev pub has_form_of : Option Form → Data → Bool
 has_form_of None d = false
 has_form_of (Some f) d = has_form f d

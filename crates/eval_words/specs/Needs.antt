@@ -18,6 +18,7 @@ referred (k, d) =
     if bytes_eq k (codes "get_resource") then text_in d else (
     if bytes_eq k (codes "get_attr") then first_text d else None)
 
+-- the name that an object refers to as a get_resource or get_attr itself, if it does
 abbrev pub own_reference : Members → List (List ℕ)
 own_reference ms = option_to_list (option_and_then referred (lone ms))
 
@@ -31,6 +32,7 @@ abbrev mutual
   references_in (items ns) = references_among ns
   references_in (fields ms) = own_reference ms ++ references_under ms
 
+  -- the same in a list's values
   pub references_among : Nodes → List (List ℕ)
   references_among no_nodes = []
   references_among (node d ns) = references_in d ++ references_among ns

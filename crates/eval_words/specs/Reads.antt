@@ -16,6 +16,7 @@ use Rattle.eval_words.specs.Sorts.{flag_in}
 
 -- ---- values and conditions, part by part as they are evaluated
 
+-- a value: nothing as a scalar, a list and an object by their parts, or the call that an object is
 abbrev mutual
   pub value_reads : Leveled → LeveledReading → SceneData → ℕ → Data → ℕ → Looks
   value_reads again reads scene levels null spent = []
@@ -28,18 +29,21 @@ abbrev mutual
       reads_inside levels (λ inside. object_reads (replaced again inside) (replaced_reads reads inside)
       (sole_reads again reads scene inside ms) (members_reads again reads scene inside ms spent) spent)
 
+  -- the values of a list, one behind the other
   pub values_reads : Leveled → LeveledReading → SceneData → ℕ → Nodes → ℕ → Looks
   values_reads again reads scene levels no_nodes spent = []
   values_reads again reads scene levels (node d ns) spent =
       value_reads again reads scene levels d spent
       ++ reads_behind (value_outcome again scene levels d spent) (λ v sum. values_reads again reads scene levels ns sum)
 
+  -- the values of an object's members, one behind the other
   pub members_reads : Leveled → LeveledReading → SceneData → ℕ → Members → ℕ → Looks
   members_reads again reads scene levels no_members spent = []
   members_reads again reads scene levels (member k d ms) spent =
       value_reads again reads scene levels d spent
       ++ reads_behind (value_outcome again scene levels d spent) (λ v sum. members_reads again reads scene levels ms sum)
 
+  -- the only member of an object, with what it looks up in each manner; none of an object that isn't of one
   pub sole_reads : Leveled → LeveledReading → SceneData → ℕ → Members → Option (Sole × SoleReads)
   sole_reads again reads scene levels no_members = None
   sole_reads again reads scene levels (member k d no_members) = Some (
@@ -54,6 +58,7 @@ abbrev mutual
   )
   sole_reads again reads scene levels (member k d (member l e ms)) = None
 
+  -- the parts of a list or of an object
   pub parts_reads : Leveled → LeveledReading → SceneData → ℕ → Data → ℕ → Looks
   parts_reads again reads scene levels null spent = []
   parts_reads again reads scene levels (flag b) spent = []
@@ -72,6 +77,7 @@ abbrev mutual
   repeat_reads again reads scene levels (fields ms) spent =
       all_but_reads again reads scene levels (codes "template") ms spent
 
+  -- the values of an object's members, but for the one under this key
   pub all_but_reads : Leveled → LeveledReading → SceneData → ℕ → List ℕ → Members → ℕ → Looks
   all_but_reads again reads scene levels but no_members spent = []
   all_but_reads again reads scene levels but (member k d ms) spent =
@@ -90,6 +96,7 @@ abbrev mutual
   if_reads again reads scene levels (items ns) spent = chosen_reads again reads scene levels ns spent
   if_reads again reads scene levels (fields ms) spent = []
 
+  -- the condition, and then the branch that it chooses
   pub chosen_reads : Leveled → LeveledReading → SceneData → ℕ → Nodes → ℕ → Looks
   chosen_reads again reads scene levels no_nodes spent = []
   chosen_reads again reads scene levels (node c ns) spent =
@@ -107,6 +114,7 @@ abbrev mutual
   branch_reads again reads scene levels (Some false) (node d (node e ns)) spent =
       value_reads again reads scene levels e spent
 
+  -- a condition: only one that is a call looks anything up
   pub condition_reads : Leveled → LeveledReading → SceneData → ℕ → Data → ℕ → Looks
   condition_reads again reads scene levels null spent = []
   condition_reads again reads scene levels (flag b) spent = []
@@ -126,6 +134,7 @@ abbrev mutual
   condition_parts_reads again reads scene levels (items ns) spent = conditions_reads again reads scene levels ns spent
   condition_parts_reads again reads scene levels (fields ms) spent = []
 
+  -- conditions, one behind the other
   pub conditions_reads : Leveled → LeveledReading → SceneData → ℕ → Nodes → ℕ → Looks
   conditions_reads again reads scene levels no_nodes spent = []
   conditions_reads again reads scene levels (node d ns) spent =
@@ -135,11 +144,13 @@ abbrev mutual
 
 -- ---- the whole
 
+-- what is looked up where at most so many repeats stand in one another
 abbrev pub reads_within : ℕ → SceneData → LeveledReading
 reads_within zero scene levels d spent = []
 reads_within (suc repeats) scene levels d spent =
     value_reads (evaluation_within repeats scene) (reads_within repeats scene) scene levels d spent
 
+-- what an evaluation in this scene looks up
 unfoldable pub all_reads : SceneData → LeveledReading
 all_reads scene = reads_within max_levels scene
 

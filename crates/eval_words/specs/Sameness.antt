@@ -6,6 +6,7 @@ use Rattle.heat_value.specs.Data.{Data, null, flag, whole, words, items, fields,
 use Rattle.heat_value.specs.Data.{Members, no_members, member}
 use Rattle.hot_forms.specs.Shapes.{is_null}
 
+-- the value is this flag
 abbrev pub is_the_flag : Bool → Data → Bool
 is_the_flag a null = false
 is_the_flag a (flag b) = beq a b
@@ -14,6 +15,7 @@ is_the_flag a (words s) = false
 is_the_flag a (items ns) = false
 is_the_flag a (fields ms) = false
 
+-- the value is this whole number
 abbrev pub is_the_whole : ℤ → Data → Bool
 is_the_whole y null = false
 is_the_whole y (flag b) = false
@@ -22,6 +24,7 @@ is_the_whole y (words s) = false
 is_the_whole y (items ns) = false
 is_the_whole y (fields ms) = false
 
+-- the value is this text
 abbrev pub is_the_text : List ℕ → Data → Bool
 is_the_text t null = false
 is_the_text t (flag b) = false
@@ -50,12 +53,14 @@ abbrev mutual
   is_same (fields ms) (items ns) = false
   is_same (fields ms) (fields ls) = hold_same ms ls
 
+  -- the values of two lists are the same, in the same order
   pub are_same : Nodes → Nodes → Bool
   are_same no_nodes no_nodes = true
   are_same no_nodes (node e ps) = false
   are_same (node d ns) no_nodes = false
   are_same (node d ns) (node e ps) = is_same d e && are_same ns ps
 
+  -- the members of two objects are the same, keys and values, in the same order
   pub hold_same : Members → Members → Bool
   hold_same no_members no_members = true
   hold_same no_members (member l e ls) = false

@@ -3,6 +3,7 @@ use Rattle.std.specs.Prelude.{ℕ, List, [], ◌∷◌, Bool, Option, Some, None
 use Rattle.heat_plan.specs.declared.conditions.Condition.{Condition}
 use Rattle.heat_value.specs.Data.{Members, no_members, member}
 
+-- the condition with its value, before these; or these alone where it has none
 abbrev pub with_value : List ℕ → Option Bool → List Condition → List Condition
 with_value name None rest = rest
 with_value name (Some b) rest = record { name = name; value = b } ∷ rest

@@ -29,6 +29,7 @@ text_taken (words s) = Some s
 text_taken (items ns) = None
 text_taken (fields ms) = None
 
+-- a flag, where nothing else counts as one
 abbrev pub flag_in : Data → Option Bool
 flag_in null = None
 flag_in (flag b) = Some b
@@ -37,6 +38,7 @@ flag_in (words s) = None
 flag_in (items ns) = None
 flag_in (fields ms) = None
 
+-- a list's values, where nothing else counts as a list
 abbrev pub list_in : Data → Option Nodes
 list_in null = None
 list_in (flag b) = None
@@ -45,6 +47,7 @@ list_in (words s) = None
 list_in (items ns) = Some ns
 list_in (fields ms) = None
 
+-- an object's members, where nothing else counts as an object
 abbrev pub object_in : Data → Option Members
 object_in null = None
 object_in (flag b) = None
