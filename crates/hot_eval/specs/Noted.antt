@@ -73,27 +73,35 @@ reads_again set = reads_within (max_levels - set.depth.repeats) (scene_data set.
 abbrev pub reads_inside_again : Setting → Reading
 reads_inside_again set = replaced_reads (reads_again set) (levels set)
 
+-- by a value
 abbrev pub value_looks : Setting → Reading
 value_looks set = value_reads (again set) (reads_again set) (scene_data set.scene) (levels set)
 
+-- by the values of a list
 abbrev pub values_looks : Setting → Nodes → ℕ → Looks
 values_looks set = values_reads (again set) (reads_again set) (scene_data set.scene) (levels set)
 
+-- by the values of an object's members
 abbrev pub members_looks : Setting → Members → ℕ → Looks
 members_looks set = members_reads (again set) (reads_again set) (scene_data set.scene) (levels set)
 
+-- by the same, but for the one under this key
 abbrev pub all_but_looks : Setting → List ℕ → Members → ℕ → Looks
 all_but_looks set = all_but_reads (again set) (reads_again set) (scene_data set.scene) (levels set)
 
+-- by a condition and the branch that it chooses
 abbrev pub chosen_looks : Setting → Nodes → ℕ → Looks
 chosen_looks set = chosen_reads (again set) (reads_again set) (scene_data set.scene) (levels set)
 
+-- by the branch of a chosen flag; by none where the condition has no value
 abbrev pub branch_looks : Setting → Option Bool → Nodes → ℕ → Looks
 branch_looks set = branch_reads (again set) (reads_again set) (scene_data set.scene) (levels set)
 
+-- by a condition
 abbrev pub condition_looks : Setting → Reading
 condition_looks set = condition_reads (again set) (reads_again set) (scene_data set.scene) (levels set)
 
+-- by conditions, one behind the other
 abbrev pub conditions_looks : Setting → Nodes → ℕ → Looks
 conditions_looks set = conditions_reads (again set) (reads_again set) (scene_data set.scene) (levels set)
 
@@ -111,6 +119,7 @@ sole_reads_of again reads scene levels d = record {
   conditions = condition_parts_reads again reads scene levels d;
 }
 
+-- the same in a setting
 abbrev pub sole_looks : Setting → Data → SoleReads
 sole_looks set = sole_reads_of (again set) (reads_again set) (scene_data set.scene) (levels set)
 

@@ -51,6 +51,7 @@ with_items [] vs = []
 with_items (p ∷ ps) [] = []
 with_items (p ∷ ps) (v ∷ vs) = (p.0, data_of v.now) ∷ with_items ps vs
 
+-- what the program's choice shows: each key with the item that was picked
 abbrev pub choice_of : Picked → Choice
 choice_of c = with_items c.texts.items c.items.items
 
@@ -64,6 +65,7 @@ pub record IsChoice (c : Picked) : Type 0 where
 
 -- ---- from choice to choice
 
+-- how many items a list has
 abbrev pub count_of : Nodes → ℕ
 count_of no_nodes = 0
 count_of (node d ns) = suc (count_of ns)
