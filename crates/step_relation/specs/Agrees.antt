@@ -54,6 +54,7 @@ pub record PollFits (r : Row) (state : TokenState) : Type 0 where
   pub asked : r.act ≢ Delete → IsAliveAs r (unwrap_or r.target r.props) state
   pub going : r.act ≡ Delete → IsGoing state
 
+-- what may be alive is named by stored rows, and fits them, their jobs, and what is leaving
 pub record Agrees (o : Opening) (h : List Entry) (s : StateData) : Type 0 where
   pub named : IsNamed o h
   pub rows : (n : ℕ) (r : Row) (state : TokenState) → row_at s.rows n ≡ Some r

@@ -61,6 +61,7 @@ pub data Falls (s : StateData) (j : Job) : List Letter → Option Stack → Type
   marked : (k : IsFresh s j.letter j.row) → k.stack.status ≢ InProgress → Falls s j [] None
   marks : (k : IsFresh s j.letter j.row) → k.stack.status ≡ InProgress → Falls s j [] (Some k.stack)
 
+-- the row failed, for this reason
 abbrev pub cause_at : Row → Why → Cause
 cause_at r reason = record { name = r.name; row = r.no; why = reason }
 
@@ -73,6 +74,7 @@ abbrev pub failed_changes : StateData → ℕ → Row → List Letter → Option
 failed_changes s e r letters failed =
     draw_letters s.next letters (PutRow (failed_row r) ∷ EndJob e ∷ (map Send letters ++ mark_failed failed))
 
+-- what is told of it: the row, then the job and the letters, then the stack's mark with its cause
 abbrev pub failed_entries : ℕ → Row → List Letter → Option Stack → Why → List Entry
 failed_entries e r letters failed reason =
     rows_entry (Engine e) (Set (failed_row r) ∷ [])

@@ -73,6 +73,7 @@ pub data MustGo (r : Row) (item : Item) (trav : ℕ) (props : Members) (effect :
 abbrev pub begun_changes : Job → Stage → Row → List Change
 begun_changes j stage r = PutRow r ∷ PutJob (with_stage stage j) ∷ []
 
+-- what is told of it: the row, and then the job
 abbrev pub begun_entries : ℕ → Job → Stage → Row → List Entry
 begun_entries e j stage r =
     rows_entry (Engine e) (Set r ∷ []) ++ mail_entry (Engine e) (Held (with_stage stage j) ∷ [])
@@ -81,6 +82,7 @@ begun_entries e j stage r =
 abbrev pub onward_changes : Job → Stage → List Change
 onward_changes j stage = PutJob (with_stage stage j) ∷ []
 
+-- what is told of it: the job alone
 abbrev pub onward_entries : ℕ → Job → Stage → List Entry
 onward_entries e j stage = mail_entry (Engine e) (Held (with_stage stage j) ∷ [])
 
@@ -88,6 +90,7 @@ onward_entries e j stage = mail_entry (Engine e) (Held (with_stage stage j) ∷ 
 abbrev pub left_changes : ℕ → Row → List Change
 left_changes e r = PutRow (unlocked r) ∷ EndJob e ∷ []
 
+-- what is told of it: the row, and then the job's end
 abbrev pub left_entries : ℕ → Row → List Entry
 left_entries e r = rows_entry (Engine e) (Set (unlocked r) ∷ []) ++ mail_entry (Engine e) (Ended e ∷ [])
 
@@ -95,17 +98,21 @@ left_entries e r = rows_entry (Engine e) (Set (unlocked r) ∷ []) ++ mail_entry
 abbrev pub next_row : (s : StateData) (e : ℕ) → Begins s e → Members → Row
 next_row s e k props = replacement s.next.row e k.stack.trav k.stack.name k.item props k.required k.row
 
+-- the job at the new row, for which it asks next
 abbrev pub moved_job : StateData → Job → Job
 moved_job s j = record j { row = s.next.row; stage = Asking }
 
+-- the next numbers behind one row
 abbrev pub past_row : Numbers → Numbers
 past_row next = record next { row = next.row + 1 }
 
+-- the number is drawn, the new row and the one that it replaces are written, and the job goes on with the new
 abbrev pub replaced_changes : (s : StateData) (e : ℕ) → Begins s e → Members → List Change
 replaced_changes s e k props =
     change_to.Numbers (past_row s.next) ∷ PutRow (next_row s e k props) ∷ PutRow (replaced s.next.row k.row)
     ∷ PutJob (moved_job s k.job) ∷ []
 
+-- what is told of it: both rows, and then the job
 abbrev pub replaced_entries : (s : StateData) (e : ℕ) → Begins s e → Members → List Entry
 replaced_entries s e k props =
     rows_entry (Engine e) (Set (next_row s e k props) ∷ Set (replaced s.next.row k.row) ∷ [])

@@ -47,6 +47,7 @@ pub record IsStuck (r : Row) (trav : ℕ) : Type 0 where
 abbrev pub purged_changes : Job → Row → List Change
 purged_changes j r = DropRow r.no ∷ PutJob (with_stage Ending j) ∷ []
 
+-- what is told of it: that the row is gone, and then the job
 abbrev pub purged_entries : ℕ → Job → Row → List Entry
 purged_entries e j r =
     rows_entry (Engine e) (Purge r.no ∷ []) ++ mail_entry (Engine e) (Held (with_stage Ending j) ∷ [])
@@ -55,5 +56,6 @@ purged_entries e j r =
 abbrev pub retained_changes : Job → Row → List Change
 retained_changes j r = Release (token_of r) ∷ purged_changes j r
 
+-- what is told of it: the token that is given up, and then as of any row that goes
 abbrev pub retained_entries : ℕ → Job → Row → List Entry
 retained_entries e j r = entry_of (Engine e) (what.Release (token_of r)) ∷ purged_entries e j r

@@ -96,6 +96,7 @@ past_command next stacks rows letters = record {
   letter = next.letter + letters;
 }
 
+-- a letter to each node that waits for no other
 abbrev pub first_letters : (s : StateData) (name : List ℕ) (items : List Item) (it : Sets) → Lays s name items
     → List Letter
 first_letters s name items it k = letters_to (stack_set s name it InProgress) s.next.letter k.leaves
@@ -105,6 +106,7 @@ abbrev pub settles_at_once : List Node → StateData → List ℕ → Sets → L
 settles_at_once [] s name it = mark_complete (stack_set s name it InProgress)
 settles_at_once (node ∷ nodes) s name it = []
 
+-- what is told of it: the mark of a stack that is complete
 abbrev pub settled_mark : List Node → StateData → List ℕ → Sets → List Entry
 settled_mark [] s name it = complete_mark it.actor (stack_set s name it InProgress) ∷ []
 settled_mark (node ∷ nodes) s name it = []
@@ -120,6 +122,7 @@ laid_changes s name items it k =
     ++ (PutGraph name k.graph
     ∷ (map Send (first_letters s name items it k) ++ settles_at_once k.graph.nodes s name it)))
 
+-- what is told of it: the command, the new rows, the first letters, the mark where there is nothing to do
 abbrev pub laid_entries : (s : StateData) (name : List ℕ) (items : List Item) (it : Sets) → Lays s name items
     → List Entry
 laid_entries s name items it k =

@@ -30,6 +30,7 @@ could_by t states what.Closed = states
 abbrev pub could : (Token → TokenState) → List Entry → Token → List TokenState
 could first h t = fold (λ (states : List TokenState) (e : Entry). could_by t states e.what) (first t ∷ []) h
 
+-- from the state that the opening tells of the token
 abbrev pub could_of : Opening → List Entry → Token → List TokenState
 could_of o h t = could (first_of o) h t
 

@@ -40,6 +40,7 @@ given_input s e k = input_of k.job.letter.node k.fresh.node k.job.row k.fresh.ro
 abbrev pub graph_then : (s : StateData) (e : ℕ) → Finishes s e → Graph
 graph_then s e k = passed k.fresh.graph k.job.letter.node (given_input s e k) k.succs
 
+-- a letter to each node that is ready then
 abbrev pub ready_letters : (s : StateData) (e : ℕ) → Finishes s e → List Letter
 ready_letters s e k = letters_to k.fresh.stack s.next.letter k.ready
 
@@ -50,6 +51,7 @@ finished_changes s e k mark =
     ∷ (map PutPoint (passed_points k.fresh.graph k.job.letter.node (given_input s e k) k.succs)
     ++ (map Send (ready_letters s e k) ++ mark))))
 
+-- what is told of it: the row, then the job's end and the letters, then the mark
 abbrev pub finished_entries : (s : StateData) (e : ℕ) → Finishes s e → List Entry → List Entry
 finished_entries s e k mark =
     rows_entry (Engine e) (unlock_writes k.fresh.row)

@@ -24,6 +24,7 @@ abbrev pub graph_or : List ℕ → Option Graph → Graph
 graph_or name (Some g) = g
 graph_or name None = record { stack = name; graph = record { nodes = []; edges = [] }; points = [] }
 
+-- the graph of the stack of this name in the state
 abbrev pub graph_of : StateData → List ℕ → Graph
 graph_of s name = graph_or name (graph_at s.graphs name)
 
@@ -112,6 +113,7 @@ pub record InputsFit (s : StateData) (st : Stack) (g : Graph) : Type 0 where
   pub once : (i : ℕ) (p : Point) → slice_get g.points i ≡ Some p
       → AllPairs (λ (x y : Input). x.from ≢ y.from) p.inputs
 
+-- the graph's nodes, edges, targets and inputs fit the state
 pub record GraphFits (s : StateData) (st : Stack) (g : Graph) : Type 0 where
   pub nodes : NodesFit st g
   pub edges : EdgesFit s st g

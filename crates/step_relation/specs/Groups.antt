@@ -64,6 +64,7 @@ ToldByMoves P = (judges : Judges) (o : Opening) (h : List Entry) (s : StateData)
     (cs : List Change) (es : List Entry) → Sound o h s → Move s e given failed cs es → IsTied judges s e given
     → IsPossible o (h ++ es) → P o (h ++ es) (applied cs s)
 
+-- and each command
 abbrev pub ToldByCommands : (Opening → List Entry → StateData → Type 0) → Type 0
 ToldByCommands P = (o : Opening) (h : List Entry) (s : StateData) (name : List ℕ) (items : List Item) (it : Sets)
     (k : Lays s name items)

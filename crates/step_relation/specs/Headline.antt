@@ -132,6 +132,7 @@ pub data IsSettledAs (o : Opening) (h : List Entry) (st : Stack) : Type 0 where
       → e.what ≡ what.Mark st.name st.trav act (Some cause) → IsCaused o before e.by st.name cause → IsSettledAs o h st
   failed_before : st.status ≡ Failed → mark_of o h st.name ≡ Some (FailedFor None) → IsSettledAs o h st
 
+-- the main theorem of a history: what holds at each prefix, at each entry, and in the state at its end
 pub record Headline (registries : List Judges) (o : Opening) (h : List Entry) (s : StateData) : Type 0 where
   pub prefixes : (n : ℕ) → n ≤ length h → AtPrefix o (take n h)
   pub entries : (n : ℕ) (e : Entry) → slice_get h n ≡ Some e → FitsIn o (take n h) e

@@ -76,6 +76,7 @@ point_after g i x succs k = record {
 abbrev pub passed_points : Graph → ℕ → Input → List ℕ → List Point
 passed_points g i x succs = map (point_after g i x succs) (i ∷ succs)
 
+-- the graph with each of these points at its node
 abbrev pub with_points : List Point → Graph → Graph
 with_points [] g = g
 with_points (p ∷ ps) g = with_points ps (with_point p g)

@@ -49,6 +49,7 @@ pub data IsOf (rows : List Row) (graphs : List Graph) (jobs : List Job) (n : ℕ
 pub record Owned (rows : List Row) (graphs : List Graph) (jobs : List Job) : Type 0 where
   pub one : (n : ℕ) (a b : List ℕ) → IsOf rows graphs jobs n a → IsOf rows graphs jobs n b → a ≡ b
 
+-- numbers below the next, one current row of a name, chains of rows, locks, and whose a row is
 pub record Links (s : StateData) : Type 0 where
   pub numbered : Numbered s
   pub current : OneCurrent s.rows

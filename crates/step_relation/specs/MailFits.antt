@@ -71,6 +71,7 @@ pub record JobStands (s : StateData) (j : Job) (st : Stack) : Type 0 where
   pub names : Names s j.letter st graph node
   pub fits : JobFits s j st graph node
 
+-- each job under way has its row so, and each job of a newest traversal stands at a node of its graph
 pub record JobsFit (s : StateData) : Type 0 where
   pub under_way : (e : ℕ) (j : Job) → job_at s.jobs e ≡ Some j → IsUnderWay j.stage → HasUnderWay s j
   pub newest : (e : ℕ) (j : Job) (st : Stack) → job_at s.jobs e ≡ Some j → IsNewest s j.letter st → JobStands s j st
@@ -82,6 +83,7 @@ pub record LetterStands (s : StateData) (l : Letter) (st : Stack) : Type 0 where
   pub names : Names s l st graph node
   pub ready : IsReady graph l.node
 
+-- each letter to a newest traversal names a ready node of its graph
 pub record LettersFit (s : StateData) : Type 0 where
   pub newest : (n : ℕ) (l : Letter) (st : Stack) → letter_at s.letters n ≡ Some l → IsNewest s l st
       → LetterStands s l st

@@ -25,11 +25,13 @@ pub data IsFailed (s : StateData) (st : Stack) (g : Graph) (i : ℕ) : Type 0 wh
   by_plan : (name : List ℕ) (n : ℕ) (code : List ℕ) (path : List Step) → IsNode g i (U name n)
       → Resolves st g i name (Fault code path) → IsFailed s st g i
 
+-- a node that is ready and not done, on which the traversal failed
 pub record HasFailure (s : StateData) (st : Stack) (g : Graph) : Type 0 where
   pub i : ℕ
   pub open_ : IsOpen g i
   pub failed : IsFailed s st g i
 
+-- a stack's mark, act and plan fit its rows and its graph
 pub record MarkFits (s : StateData) (st : Stack) (g : Graph) : Type 0 where
   pub complete : (st.status ≡ Complete) ↔ AllDone g
   pub failing : (n : ℕ) (r : Row) → row_at s.rows n ≡ Some r → r.stack ≡ st.name → r.status ≡ Failed
@@ -39,6 +41,7 @@ pub record MarkFits (s : StateData) (st : Stack) (g : Graph) : Type 0 where
   pub deletes : (st.act ≡ Delete) ↔ (st.plan ≡ None)
   pub proper : IsPlan (plan_of st.plan).items (plan_of st.plan).absent
 
+-- the mark of every stack in the table fits
 pub record MarksFit (s : StateData) : Type 0 where
   pub each : (name : List ℕ) (st : Stack) → stack_at s.stacks name ≡ Some st → MarkFits s st (graph_of s name)
 

@@ -21,15 +21,18 @@ pub record Marked : Type 0 where
   pub trav : ℕ
   pub mark : Mark
 
+-- a mark without a cause is that of a traversal that is complete
 abbrev pub mark_by_cause : Option Cause → Mark
 mark_by_cause None = Completed
 mark_by_cause (Some cause) = FailedFor (Some cause)
 
+-- the mark that a stack's status tells in the opening
 abbrev pub mark_by_status : Status → Mark
 mark_by_status Complete = Completed
 mark_by_status InProgress = Unmarked
 mark_by_status Failed = FailedFor None
 
+-- a stack's newest traversal with its mark, as its status tells
 abbrev pub marked_stack : Stack → Marked
 marked_stack st = record { trav = st.trav; mark = mark_by_status st.status }
 
@@ -37,6 +40,7 @@ marked_stack st = record { trav = st.trav; mark = mark_by_status st.status }
 abbrev pub marked_again : ℕ → Option Cause → Marked → Marked
 marked_again trav cause it = if it.trav == trav then record { trav = trav; mark = mark_by_cause cause } else it
 
+-- a command begins a traversal without a mark, and a mark of the newest one counts
 abbrev pub marked_by : List ℕ → Option Marked → What → Option Marked
 marked_by s before (what.Command stack trav act plan rollback) = if bytes_eq stack s
     then Some (record { trav = trav; mark = Unmarked }) else before
@@ -54,6 +58,7 @@ marked_by s before (what.Turned engine lost) = before
 marked_by s before (what.Preview stack forecast) = before
 marked_by s before what.Closed = before
 
+-- the newest traversal with its mark, by the opening and each entry in its turn; None where there is none
 abbrev pub marked_of : Opening → List Entry → List ℕ → Option Marked
 marked_of o h s = fold (λ (before : Option Marked) (e : Entry). marked_by s before e.what)
     (option_map marked_stack (stack_at o.state.stacks s)) h

@@ -16,6 +16,7 @@ pub record Latest : Type 0 where
   pub act : Act
   pub plan : Option PlanData
 
+-- a stack's newest traversal
 abbrev pub latest_of : Stack → Latest
 latest_of st = record { trav = st.trav; act = st.act; plan = st.plan }
 
@@ -57,5 +58,6 @@ rollback_by s before (what.Turned engine lost) = before
 rollback_by s before (what.Preview stack forecast) = before
 rollback_by s before what.Closed = before
 
+-- by the stack's last command; without one, by the opening
 abbrev pub rollback_of : Opening → List Entry → List ℕ → Bool
 rollback_of o h s = fold (λ (before : Bool) (e : Entry). rollback_by s before e.what) (past_of o.state s).rollback h

@@ -21,6 +21,7 @@ abbrev pub past_or : List ℕ → Option Past → Past
 past_or name (Some past) = past
 past_or name None = record { stack = name; rollback = false; back = None }
 
+-- the past of the stack of this name in the state
 abbrev pub past_of : StateData → List ℕ → Past
 past_of s name = past_or name (past_at s.pasts name)
 
@@ -36,6 +37,7 @@ back_after st past = by_status st.status st.act where
   by_status InProgress act = past.back
   by_status Failed act = past.back
 
+-- a new stack with this plan, and nothing to go back to
 abbrev pub create_sets : StateData → List ℕ → PlanData → Bool → Sets
 create_sets s name plan rollback = record {
   actor = Main;
@@ -46,6 +48,7 @@ create_sets s name plan rollback = record {
   stacks = 1;
 }
 
+-- the stack with another plan; it may go back to the plan that it had last when complete
 abbrev pub update_sets : StateData → Stack → PlanData → Bool → Sets
 update_sets s st plan rollback = record {
   actor = Main;
@@ -56,6 +59,7 @@ update_sets s st plan rollback = record {
   stacks = 0;
 }
 
+-- the stack without a plan, and no rollback of a failure
 abbrev pub delete_sets : StateData → Stack → Sets
 delete_sets s st = record {
   actor = Main;
@@ -70,6 +74,7 @@ delete_sets s st = record {
 abbrev pub plan_back : StateData → Stack → PlanData
 plan_back s st = plan_of (back_after st (past_of s st.name))
 
+-- the stack with the plan that it goes back to, and no rollback of a failure
 abbrev pub rollback_sets : StateData → Stack → Actor → Sets
 rollback_sets s st actor = record {
   actor = actor;
@@ -84,9 +89,11 @@ rollback_sets s st actor = record {
 abbrev pub stack_limit : ℕ
 stack_limit = 256
 
+-- how many rows there may be, those of every stack together
 abbrev pub row_limit : ℕ
 row_limit = 4000
 
+-- with a row more for each item the table stays within the limit
 abbrev pub HasRoomFor : StateData → List Item → Type 0
 HasRoomFor s items = length s.rows + length items ≤ row_limit
 

@@ -15,6 +15,7 @@ use Rattle.step_relation.specs.Orders.{stack_limit, update_sets}
 use Rattle.step_relation.specs.Steps.{engine_limit}
 use Rattle.step_relation.specs.Turns.{IsWorn}
 
+-- why a create is refused: the stack stands, there are too many stacks or rows, or a number is worn
 pub data RefusesCreate (s : StateData) (name : List ℕ) (plan : PlanData) (rollback : Bool) : Refusal → Type 0 where
   exists : (st : Stack) → stack_at s.stacks name ≡ Some st → RefusesCreate s name plan rollback StackExists
   too_many_stacks : stack_at s.stacks name ≡ None → stack_limit ≤ length s.stacks
@@ -26,6 +27,7 @@ pub data RefusesCreate (s : StateData) (name : List ℕ) (plan : PlanData) (roll
       → IsWorn (laid_changes s name plan.items (create_sets s name plan rollback) k)
       → RefusesCreate s name plan rollback Worn
 
+-- why an update is refused: no stack, one that is deleted, too many rows, or a number that is worn
 pub data RefusesUpdate (s : StateData) (name : List ℕ) (plan : PlanData) (rollback : Bool) : Refusal → Type 0 where
   absent : stack_at s.stacks name ≡ None → RefusesUpdate s name plan rollback NoStack
   deleting : (st : Stack) → stack_at s.stacks name ≡ Some st → st.act ≡ Delete
@@ -37,6 +39,7 @@ pub data RefusesUpdate (s : StateData) (name : List ℕ) (plan : PlanData) (roll
       → IsWorn (laid_changes s st.name plan.items (update_sets s st plan rollback) k)
       → RefusesUpdate s name plan rollback Worn
 
+-- why a delete is refused: no stack, or a number that is worn
 pub data RefusesDelete (s : StateData) (name : List ℕ) : Refusal → Type 0 where
   absent : stack_at s.stacks name ≡ None → RefusesDelete s name NoStack
   worn : (st : Stack) (k : Lays s st.name []) → stack_at s.stacks name ≡ Some st
@@ -47,6 +50,7 @@ pub data IsSettled (st : Stack) : Type 0 where
   other_act : ¬ IsForward st.act → IsSettled st
   marked : st.status ≢ InProgress → IsSettled st
 
+-- why a cancel is refused: no stack, one that is deleted or isn't running, too many rows, a number worn
 pub data RefusesCancel (s : StateData) (name : List ℕ) : Refusal → Type 0 where
   absent : stack_at s.stacks name ≡ None → RefusesCancel s name NoStack
   deleting : (st : Stack) → stack_at s.stacks name ≡ Some st → st.act ≡ Delete → RefusesCancel s name Deleting

@@ -16,6 +16,7 @@ token_of r = record { stack = r.stack; name = r.name; row = r.no }
 abbrev pub locked : ℕ → Row → Row
 locked e r = record r { engine = Some e; key = r.key + 1 }
 
+-- the row with no engine, and its key raised
 abbrev pub unlocked : Row → Row
 unlocked r = record r { engine = None; key = r.key + 1 }
 

@@ -55,6 +55,7 @@ pub record IsWanted (st : Stack) (r : Row) : Type 0 where
   pub current : IsCurrent r
   pub planned : Contains (names_of (plan_of st.plan).items) r.name
 
+-- the rows that a stack's graph names fit its nodes: those begun, those made, those cleaned up
 pub record RowsFit (s : StateData) (st : Stack) (g : Graph) : Type 0 where
   pub begun : (i : ℕ) (name : List ℕ) (r : Row) → Aims s st g i name r → r.trav ≡ st.trav → r.act ≢ Init
       → IsBegun st g i name r

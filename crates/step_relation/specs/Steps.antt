@@ -26,6 +26,7 @@ pub data IsNote : What → Type 0 where
   turned : (e : ℕ) (lost : _) → IsNote (what.Turned e lost)
   previews : (stack : List ℕ) (forecast : _) → IsNote (what.Preview stack forecast)
 
+-- how many engines may be live
 abbrev pub engine_limit : ℕ
 engine_limit = 64
 
@@ -34,6 +35,7 @@ abbrev pub engines_from : ℕ → ℕ → List ℕ
 engines_from first zero = []
 engines_from first (suc count) = first ∷ engines_from (first + 1) count
 
+-- the next numbers behind so many engines
 abbrev pub past_engines : Numbers → ℕ → Numbers
 past_engines next count = record next { engine = next.engine + count }
 

@@ -15,6 +15,7 @@ abbrev pub written : List Row → RowWrite → List Row
 written rows (Set row) = put_row row rows
 written rows (Purge number) = cut_row number rows
 
+-- what an entry writes to rows, each write in its turn
 abbrev pub stored_by : List Row → What → List Row
 stored_by rows (what.Rows writes) = fold written rows writes
 stored_by rows (what.Command stack trav act plan rollback) = rows
@@ -34,6 +35,7 @@ stored_by rows what.Closed = rows
 abbrev pub stored : Opening → List Entry → List Row
 stored o h = fold (λ (rows : List Row) (e : Entry). stored_by rows e.what) o.state.rows h
 
+-- a token that an entry gives up goes behind those before
 abbrev pub released_by : List Token → What → List Token
 released_by tokens (what.Release token) = tokens ++ token ∷ []
 released_by tokens (what.Rows writes) = tokens

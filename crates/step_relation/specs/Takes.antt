@@ -49,6 +49,7 @@ pub data IsIdleLetter (s : StateData) (l : Letter) : Type 0 where
 abbrev pub released_changes : StateData → ℕ → Option Row → List Letter → List Change
 released_changes s f row letters = draw_letters s.next letters (unlock row (EndJob f ∷ map Send letters))
 
+-- what is told of it by the engine e: the row, and then the job's end and the letters
 abbrev pub released_entries : ℕ → ℕ → Option Row → List Letter → List Entry
 released_entries e f row letters =
     rows_entry (Engine e) (unlock_writes row) ++ mail_entry (Engine e) (Ended f ∷ map Sent letters)
@@ -67,5 +68,6 @@ pub record Relays (s : StateData) (e f : ℕ) : Type 0 where
   pub next : TakesOver s e f job
   pub fresh : IsFresh s job.letter job.row
 
+-- the letter for the job's node
 abbrev pub relayed_letter : (s : StateData) (e f : ℕ) → Relays s e f → Letter
 relayed_letter s e f k = letter_to k.fresh.stack s.next.letter k.job.letter.node

@@ -55,6 +55,7 @@ pub record IsCalling (s : StateData) (e : ℕ) : Type 0 where
   pub its : job_at s.jobs e ≡ Some job
   pub stage : IsUnderWay job.stage
 
+-- the history tells the rows, the tokens given up, and each name's stack or its lack; a last call is under way
 pub record Tells (o : Opening) (h : List Entry) (s : StateData) : Type 0 where
   pub rows : stored o h ≡ s.rows
   pub tokens : released o h ≡ s.released

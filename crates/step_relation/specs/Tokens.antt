@@ -11,6 +11,7 @@ use Rattle.step_relation.specs.Could.{could_of}
 use Rattle.step_relation.specs.Opening.{Opening}
 use Rattle.step_relation.specs.Stored.{released, stored}
 
+-- the token of a row's stack, name and number
 abbrev pub token_at : List ℕ → List ℕ → ℕ → Token
 token_at stack name row = record { stack = stack; name = name; row = row }
 

@@ -36,6 +36,7 @@ pub record FollowsFailure (s : StateData) (e : ℕ) (st : Stack) (cs : List Chan
   pub changes : cs ≡ laid_changes s failed.name (plan_back s failed).items (rollback_sets s failed (Engine e)) lays
   pub entries : es ≡ laid_entries s failed.name (plan_back s failed).items (rollback_sets s failed (Engine e)) lays
 
+-- an engine's turn: a move, and behind it the rollback of the failure that it marked, where one is due
 pub data Turn (s : StateData) (e : ℕ) (given : Given) (cs : List Change) (es : List Entry) : Type 0 where
   plain : (failed : Option Stack) → Move s e given failed cs es → IsPlain (applied cs s) failed → Turn s e given cs es
   rolls : (st : Stack) (first last : List Change) (firsts lasts : List Entry) → Move s e given (Some st) first firsts
@@ -51,6 +52,7 @@ pub data Overflows : Change → Type 0 where
   letter : (next : Numbers) → 2 ^ 62 < next.letter → Overflows (change_to.Numbers next)
   key : (r : Row) → 2 ^ 62 ≤ r.key → Overflows (PutRow r)
 
+-- one of the changes passes the limit
 pub record IsWorn (cs : List Change) : Type 0 where
   pub change : Change
   pub among : Contains cs change

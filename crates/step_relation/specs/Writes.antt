@@ -25,6 +25,7 @@ use Rattle.step_relation.specs.Rows.{locked, token_of, unlocked}
 use Rattle.core_state.specs.declared.change.Change.TheVariants as change_to
 use Rattle.core_state.specs.declared.entry.What.TheVariants as what
 
+-- what is told, and by whom
 abbrev pub entry_of : Actor → What → Entry
 entry_of actor it = record { by = actor; what = it }
 
@@ -33,6 +34,7 @@ abbrev pub rows_entry : Actor → List RowWrite → List Entry
 rows_entry actor [] = []
 rows_entry actor (w ∷ ws) = entry_of actor (what.Rows (w ∷ ws)) ∷ []
 
+-- what was written to letters and jobs
 abbrev pub mail_entry : Actor → List MailWrite → List Entry
 mail_entry actor [] = []
 mail_entry actor (w ∷ ws) = entry_of actor (what.Mail (w ∷ ws)) ∷ []
@@ -42,6 +44,7 @@ abbrev pub lock : Option Row → ℕ → List Change → List Change
 lock None e rest = rest
 lock (Some r) e rest = PutRow (locked e r) ∷ rest
 
+-- what is told of it, if the row stands
 abbrev pub lock_writes : Option Row → ℕ → List RowWrite
 lock_writes None e = []
 lock_writes (Some r) e = Set (locked e r) ∷ []
@@ -51,13 +54,16 @@ abbrev pub unlock : Option Row → List Change → List Change
 unlock None rest = rest
 unlock (Some r) rest = PutRow (unlocked r) ∷ rest
 
+-- what is told of it, if the row stands
 abbrev pub unlock_writes : Option Row → List RowWrite
 unlock_writes None = []
 unlock_writes (Some r) = Set (unlocked r) ∷ []
 
+-- the engine's job of a letter, at a row and a stage
 abbrev pub job_of : ℕ → Letter → ℕ → Stage → Job
 job_of e l n stage = record { engine = e; letter = l; row = n; stage = stage }
 
+-- the same job at another stage
 abbrev pub with_stage : Stage → Job → Job
 with_stage stage j = record j { stage = stage }
 
@@ -88,6 +94,7 @@ abbrev pub mark_failed : Option Stack → List Change
 mark_failed None = []
 mark_failed (Some st) = PutStack (record st { status = Failed }) ∷ []
 
+-- what is told of it: the mark of the stack's traversal, with its cause
 abbrev pub failed_mark : Actor → Option Stack → Cause → List Entry
 failed_mark actor None cause = []
 failed_mark actor (Some st) cause = entry_of actor (what.Mark st.name st.trav st.act (Some cause)) ∷ []
@@ -102,5 +109,6 @@ mark_complete st = by_act st.act where
   by_act Update = PutStack (record st { status = Complete }) ∷ []
   by_act Rollback = PutStack (record st { status = Complete }) ∷ []
 
+-- what is told of it: the mark of the stack's traversal, without a cause
 abbrev pub complete_mark : Actor → Stack → Entry
 complete_mark actor st = entry_of actor (what.Mark st.name st.trav st.act None)
