@@ -30,12 +30,14 @@ cancelled = record (asked false) {
   next = record { stack = 2; trav = 3; row = 2; engine = 3; letter = 3 };
 }
 
+-- what the cancel tells: the rollback, and a letter to its clean-up node
 abbrev pub cancel_tells : List Entry
 cancel_tells =
     says Main (what.Command stack_name 2 Rollback (Some (plan_of None)) false)
     ∷ says Main (what.Mail (Sent (letter 2 2 0) ∷ []))
     ∷ []
 
+-- the history up to the cancel
 abbrev pub history : List Entry
 history = until_asked false ++ cancel_tells
 

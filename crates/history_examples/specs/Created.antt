@@ -43,18 +43,23 @@ stack_under policy status = record {
   plan = Some (plan_under policy 1);
 }
 
+-- with the policy of all examples but one
 abbrev pub stack : Status → Stack
 stack = stack_under Delete
 
+-- an update node alone, which has the first row
 abbrev pub one_node : TravGraph
 one_node = record { nodes = U item_name 1 ∷ []; edges = [] }
 
+-- that node's point, done or not
 abbrev pub point : Bool → Point
 point done = record { stack = stack_name; node = 0; inputs = []; done = done }
 
+-- the graph with that point
 abbrev pub graph : Bool → Graph
 graph done = record { stack = stack_name; graph = one_node; points = point done ∷ [] }
 
+-- nothing to go back to; whether a failure is rolled back
 abbrev pub past : Bool → Past
 past rollback = record { stack = stack_name; rollback = rollback; back = None }
 
@@ -72,6 +77,7 @@ commanded_under policy rollback = record {
   next = record { stack = 2; trav = 2; row = 2; engine = 3; letter = 2 };
 }
 
+-- the letter is taken, and the row locked
 abbrev pub taken_under : Policy → Bool → StateData
 taken_under policy rollback = record (commanded_under policy rollback) {
   rows = row_taken_under policy ∷ [];
@@ -79,24 +85,30 @@ taken_under policy rollback = record (commanded_under policy rollback) {
   jobs = job 1 (letter 1 1 0) 1 Taken ∷ [];
 }
 
+-- the row is to be created
 abbrev pub begun_under : Policy → Bool → StateData
 begun_under policy rollback = record (taken_under policy rollback) {
   rows = row_begun_under policy ∷ [];
   jobs = job 1 (letter 1 1 0) 1 Asking ∷ [];
 }
 
+-- behind the command, with the policy of all examples but one
 abbrev pub commanded : Bool → StateData
 commanded = commanded_under Delete
 
+-- behind the begin, with the same
 abbrev pub begun : Bool → StateData
 begun = begun_under Delete
 
+-- the cloud was asked for the resource
 abbrev pub asked : Bool → StateData
 asked rollback = record (begun rollback) { jobs = job 1 (letter 1 1 0) 1 Polling ∷ [] }
 
+-- the cloud said that it is ready
 abbrev pub ready : Bool → StateData
 ready rollback = record (asked rollback) { rows = row_ready ∷ []; jobs = job 1 (letter 1 1 0) 1 Ending ∷ [] }
 
+-- the node is done, and the create has its mark
 abbrev pub created : Bool → StateData
 created rollback =
     record (ready rollback) { stacks = stack Complete ∷ []; graphs = graph true ∷ []; rows = row_done ∷ []; jobs = [] }
@@ -109,22 +121,26 @@ command_tells policy rollback =
     ∷ says Main (what.Mail (Sent (letter 1 1 0) ∷ []))
     ∷ []
 
+-- the take: the row is locked, and the letter becomes a job
 abbrev pub take_tells : Policy → List Entry
 take_tells policy =
     row_writes 1 (Set (row_taken_under policy) ∷ [])
     ∷ mail_writes 1 (Dropped 1 ∷ Held (job 1 (letter 1 1 0) 1 Taken) ∷ [])
     ∷ []
 
+-- the begin: the row is to be created
 abbrev pub begin_tells : Policy → List Entry
 begin_tells policy =
     row_writes 1 (Set (row_begun_under policy) ∷ []) ∷ mail_writes 1 (Held (job 1 (letter 1 1 0) 1 Asking) ∷ []) ∷ []
 
+-- the ask: the cloud is to create the resource
 abbrev pub ask_tells : List Entry
 ask_tells =
     says (Engine 1) (what.Call (token 1) (request.Create (codes "Box") (sized 1)) answer.Begun)
     ∷ mail_writes 1 (Held (job 1 (letter 1 1 0) 1 Polling) ∷ [])
     ∷ []
 
+-- the poll: it is ready
 abbrev pub poll_tells : List Entry
 poll_tells =
     says (Engine 1) (what.Call (token 1) request.Poll (answer.Ready facts))
@@ -132,6 +148,7 @@ poll_tells =
     ∷ mail_writes 1 (Held (job 1 (letter 1 1 0) 1 Ending) ∷ [])
     ∷ []
 
+-- the finish, and the mark behind it
 abbrev pub finish_tells : List Entry
 finish_tells =
     row_writes 1 (Set row_done ∷ [])
@@ -143,15 +160,19 @@ finish_tells =
 abbrev pub until_taken : Policy → Bool → List Entry
 until_taken policy rollback = command_tells policy rollback ++ take_tells policy
 
+-- up to the begin
 abbrev pub until_begun_under : Policy → Bool → List Entry
 until_begun_under policy rollback = until_taken policy rollback ++ begin_tells policy
 
+-- the same, with the policy of all examples but one
 abbrev pub until_begun : Bool → List Entry
 until_begun = until_begun_under Delete
 
+-- up to the ask
 abbrev pub until_asked : Bool → List Entry
 until_asked rollback = until_begun rollback ++ ask_tells
 
+-- up to the mark, where a failure isn't rolled back
 abbrev pub history : List Entry
 history = (until_asked false ++ poll_tells) ++ finish_tells
 

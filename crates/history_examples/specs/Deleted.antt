@@ -38,12 +38,15 @@ use Rattle.history_examples.specs.DeletedHalfway as before
 abbrev pub second_held : Row
 second_held = record row_made { engine = Some 1; key = 3 }
 
+-- the second row, to be deleted for the third traversal
 abbrev pub second_leaves : Row
 second_leaves = record second_held { act = Delete; status = InProgress; trav = 3 }
 
+-- the first row, locked by the engine
 abbrev pub first_held : Row
 first_held = record row_old { engine = Some 1; key = 5 }
 
+-- to be deleted for the third traversal
 abbrev pub first_leaves : Row
 first_leaves = record first_held { act = Delete; status = InProgress; trav = 3 }
 
@@ -51,15 +54,19 @@ first_leaves = record first_held { act = Delete; status = InProgress; trav = 3 }
 abbrev pub given : Input
 given = record { from = 1; name = None; row = 2; facts = None }
 
+-- that of the second row's node, which is done
 abbrev pub second_done : Point
 second_done = record (open_point 1) { done = true }
 
+-- that of the first row's node, which has its input
 abbrev pub first_ready : Point
 first_ready = record (open_point 0) { inputs = given ∷ [] }
 
+-- and which is done
 abbrev pub first_done : Point
 first_done = record first_ready { done = true }
 
+-- the graph with the second row's node done, by the point of the first one's
 abbrev pub graph : Point → Graph
 graph first = record { stack = stack_name; graph = two_rows; points = first ∷ second_done ∷ [] }
 
@@ -67,9 +74,11 @@ graph first = record { stack = stack_name; graph = two_rows; points = first ∷ 
 abbrev pub late : Stage → Job
 late stage = job 1 (letter 2 2 0) 2 stage
 
+-- that at the second row
 abbrev pub second : Stage → Job
 second stage = job 1 (letter 3 3 1) 2 stage
 
+-- that at the first row
 abbrev pub first : Stage → Job
 first stage = job 1 (letter 5 3 0) 1 stage
 
@@ -77,9 +86,11 @@ first stage = job 1 (letter 5 3 0) 1 stage
 abbrev pub asked : StateData
 asked = record deleting { jobs = late Polling ∷ [] }
 
+-- the cloud said that the second resource is ready
 abbrev pub ready : StateData
 ready = record asked { rows = row_old ∷ row_ready ∷ []; jobs = late Ending ∷ [] }
 
+-- the job is released, and the second row's clean-up node is told again
 abbrev pub freed : StateData
 freed = record ready {
   rows = row_old ∷ row_made ∷ [];
@@ -96,12 +107,15 @@ second_cleaning = record freed {
   jobs = second Taken ∷ [];
 }
 
+-- the second row is to be deleted
 abbrev pub second_leaving : StateData
 second_leaving = record second_cleaning { rows = row_old ∷ second_leaves ∷ []; jobs = second Asking ∷ [] }
 
+-- the cloud was asked to delete its resource
 abbrev pub second_going : StateData
 second_going = record second_leaving { jobs = second Polling ∷ [] }
 
+-- the cloud said that it is gone, and so is the row
 abbrev pub second_gone : StateData
 second_gone = record second_going { rows = row_old ∷ []; jobs = second Ending ∷ [] }
 
@@ -114,6 +128,7 @@ between = record second_gone {
   next = record { stack = 2; trav = 4; row = 3; engine = 3; letter = 6 };
 }
 
+-- that letter is gone
 abbrev pub dropped : StateData
 dropped = record between { letters = letter 5 3 0 ∷ [] }
 
@@ -121,12 +136,15 @@ dropped = record between { letters = letter 5 3 0 ∷ [] }
 abbrev pub first_cleaning : StateData
 first_cleaning = record dropped { rows = first_held ∷ []; letters = []; jobs = first Taken ∷ [] }
 
+-- the first row is to be deleted
 abbrev pub first_leaving : StateData
 first_leaving = record first_cleaning { rows = first_leaves ∷ []; jobs = first Asking ∷ [] }
 
+-- the cloud was asked to delete its resource
 abbrev pub first_going : StateData
 first_going = record first_leaving { jobs = first Polling ∷ [] }
 
+-- the cloud said that it is gone, and so is the row
 abbrev pub first_gone : StateData
 first_gone = record first_going { rows = []; jobs = first Ending ∷ [] }
 
@@ -141,6 +159,7 @@ ask_tells =
     ∷ mail_writes 1 (Held (late Polling) ∷ [])
     ∷ []
 
+-- the poll of the overtaken job: the second resource is ready
 abbrev pub ready_tells : List Entry
 ready_tells =
     says (Engine 1) (what.Call (token 2) request.Poll (answer.Ready facts_two))
@@ -148,19 +167,24 @@ ready_tells =
     ∷ mail_writes 1 (Held (late Ending) ∷ [])
     ∷ []
 
+-- the release of that job: the row is unlocked, and its clean-up node gets another letter
 abbrev pub release_tells : List Entry
 release_tells = row_writes 1 (Set row_made ∷ []) ∷ mail_writes 1 (Ended 1 ∷ Sent (letter 4 3 1) ∷ []) ∷ []
 
+-- the take of the second row's letter
 abbrev pub second_takes : List Entry
 second_takes = row_writes 1 (Set second_held ∷ []) ∷ mail_writes 1 (Dropped 3 ∷ Held (second Taken) ∷ []) ∷ []
 
+-- the begin there: the row is to go
 abbrev pub second_begins : List Entry
 second_begins = row_writes 1 (Set second_leaves ∷ []) ∷ mail_writes 1 (Held (second Asking) ∷ []) ∷ []
 
+-- the ask: the cloud is to delete its resource
 abbrev pub second_asks : List Entry
 second_asks =
     says (Engine 1) (what.Call (token 2) request.Delete answer.Begun) ∷ mail_writes 1 (Held (second Polling) ∷ []) ∷ []
 
+-- the poll: it is gone, and its row with it
 abbrev pub second_goes : List Entry
 second_goes =
     says (Engine 1) (what.Call (token 2) request.Gone answer.Gone)
@@ -168,22 +192,28 @@ second_goes =
     ∷ mail_writes 1 (Held (second Ending) ∷ [])
     ∷ []
 
+-- the finish there: the first row's node gets a letter
 abbrev pub second_ends : List Entry
 second_ends = mail_writes 1 (Ended 1 ∷ Sent (letter 5 3 0) ∷ []) ∷ []
 
+-- the letter that nobody has to work for is dropped
 abbrev pub drop_tells : List Entry
 drop_tells = mail_writes 1 (Dropped 4 ∷ []) ∷ []
 
+-- the take of the first row's letter
 abbrev pub first_takes : List Entry
 first_takes = row_writes 1 (Set first_held ∷ []) ∷ mail_writes 1 (Dropped 5 ∷ Held (first Taken) ∷ []) ∷ []
 
+-- the begin there: the row is to go
 abbrev pub first_begins : List Entry
 first_begins = row_writes 1 (Set first_leaves ∷ []) ∷ mail_writes 1 (Held (first Asking) ∷ []) ∷ []
 
+-- the ask: the cloud is to delete its resource
 abbrev pub first_asks : List Entry
 first_asks =
     says (Engine 1) (what.Call (token 1) request.Delete answer.Begun) ∷ mail_writes 1 (Held (first Polling) ∷ []) ∷ []
 
+-- the poll: it is gone, and its row with it
 abbrev pub first_goes : List Entry
 first_goes =
     says (Engine 1) (what.Call (token 1) request.Gone answer.Gone)
@@ -191,6 +221,7 @@ first_goes =
     ∷ mail_writes 1 (Held (first Ending) ∷ [])
     ∷ []
 
+-- the finish, and the mark behind it
 abbrev pub complete_tells : List Entry
 complete_tells = mail_writes 1 (Ended 1 ∷ []) ∷ says (Engine 1) (what.Mark stack_name 3 Delete None) ∷ []
 
@@ -198,21 +229,27 @@ complete_tells = mail_writes 1 (Ended 1 ∷ []) ∷ says (Engine 1) (what.Mark s
 abbrev pub until_asked : List Entry
 until_asked = before.history ++ ask_tells
 
+-- up to the poll that hears that the second resource is ready
 abbrev pub until_ready : List Entry
 until_ready = until_asked ++ ready_tells
 
+-- up to the release of the overtaken job
 abbrev pub until_freed : List Entry
 until_freed = until_ready ++ release_tells
 
+-- up to the poll that hears that the second resource is gone
 abbrev pub until_second_gone : List Entry
 until_second_gone = (((until_freed ++ second_takes) ++ second_begins) ++ second_asks) ++ second_goes
 
+-- up to the letter that is dropped
 abbrev pub until_dropped : List Entry
 until_dropped = (until_second_gone ++ second_ends) ++ drop_tells
 
+-- up to the poll that hears that the first resource is gone
 abbrev pub until_first_gone : List Entry
 until_first_gone = (((until_dropped ++ first_takes) ++ first_begins) ++ first_asks) ++ first_goes
 
+-- up to the mark
 abbrev pub history : List Entry
 history = until_first_gone ++ complete_tells
 

@@ -29,15 +29,19 @@ use Rattle.history_examples.specs.Created as create
 abbrev pub stack_three : Stack
 stack_three = record { name = stack_name; no = 1; trav = 3; act = Delete; status = InProgress; plan = None }
 
+-- both nodes, the first row's behind the second's
 abbrev pub two_rows : TravGraph
 two_rows = record { nodes = C 1 ∷ C 2 ∷ []; edges = (1, 0) ∷ [] }
 
+-- the graph with no node done
 abbrev pub graph_three : Graph
 graph_three = record { stack = stack_name; graph = two_rows; points = open_point 0 ∷ open_point 1 ∷ [] }
 
+-- an update's replacement is begun, and the cloud wasn't asked for it yet
 abbrev pub halfway : StateData
 halfway = replaced 2 (Some (plan 1)) row_done
 
+-- behind the delete: a letter waits for the second row's node
 abbrev pub deleting : StateData
 deleting = record halfway {
   stacks = stack_three ∷ [];
@@ -46,21 +50,26 @@ deleting = record halfway {
   next = record { stack = 2; trav = 4; row = 3; engine = 3; letter = 4 };
 }
 
+-- what the delete tells: the command, and that letter
 abbrev pub delete_tells : List Entry
 delete_tells =
     says Main (what.Command stack_name 3 Delete None false)
     ∷ says Main (what.Mail (Sent (letter 3 3 1) ∷ []))
     ∷ []
 
+-- the histories so far: a create, and the update's command
 abbrev pub until_updated : List Entry
 until_updated = create.history ++ update_tells 2
 
+-- up to the take of the update's letter
 abbrev pub until_retaken : List Entry
 until_retaken = until_updated ++ retake_tells row_done
 
+-- up to the replacement
 abbrev pub until_halfway : List Entry
 until_halfway = until_retaken ++ replace_tells 2 row_done
 
+-- up to the delete
 abbrev pub history : List Entry
 history = until_halfway ++ delete_tells
 

@@ -32,15 +32,19 @@ use Rattle.core_state.specs.declared.entry.Why.TheVariants as why
 abbrev pub row_failed_under : Policy → Row
 row_failed_under policy = record (row_begun_under policy) { status = Failed; engine = None; key = 2 }
 
+-- with the policy of all examples but one
 abbrev pub row_failed : Row
 row_failed = row_failed_under Delete
 
+-- why the create failed: the cloud failed it at this row
 abbrev pub cause : Cause
 cause = record { name = item_name; row = 1; why = why.Failed Create }
 
+-- the row, the job and the stack behind that failure
 abbrev pub failed : StateData
 failed = record (begun false) { stacks = stack Failed ∷ []; rows = row_failed ∷ []; jobs = [] }
 
+-- what the ask that failed tells: the call, the row, the job's end, and the mark with its cause
 abbrev pub fail_tells_under : Policy → List Entry
 fail_tells_under policy =
     says (Engine 1) (what.Call (token 1) (request.Create (codes "Box") (sized 1)) answer.Failed)
@@ -49,18 +53,23 @@ fail_tells_under policy =
     ∷ says (Engine 1) (what.Mark stack_name 1 Create (Some cause))
     ∷ []
 
+-- the same, with the policy of all examples but one
 abbrev pub fail_tells : List Entry
 fail_tells = fail_tells_under Delete
 
+-- the histories so far: up to the failure, which isn't rolled back
 abbrev pub until_failed : List Entry
 until_failed = until_begun false ++ fail_tells
 
+-- up to the update's command
 abbrev pub until_updated : List Entry
 until_updated = until_failed ++ update_tells 1
 
+-- up to the take of its letter
 abbrev pub until_retaken : List Entry
 until_retaken = until_updated ++ retake_tells row_failed
 
+-- up to the replacement of the failed row
 abbrev pub history : List Entry
 history = until_retaken ++ replace_tells 1 row_failed
 

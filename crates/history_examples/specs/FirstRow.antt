@@ -41,6 +41,7 @@ row_begun_under policy = record (row_taken_under policy) { act = Create; status 
 abbrev pub row_made : Row
 row_made = row_made_under Delete
 
+-- to be created, with the same
 abbrev pub row_begun : Row
 row_begun = row_begun_under Delete
 

@@ -34,6 +34,7 @@ use Rattle.history_examples.specs.Created as create
 abbrev pub judged : Judges
 judged name = Some (codes "size" ∷ [])
 
+-- two registries: one without a judge, and one with this judge
 abbrev pub two_registries : List Judges
 two_registries = unjudged ∷ judged ∷ []
 
@@ -45,6 +46,7 @@ facts_now = record { id = codes "sim-1"; attrs = no_members }
 abbrev pub row_updating : Row
 row_updating = record (again row_done) { act = Update; status = InProgress; target = Some (sized 2); trav = 2 }
 
+-- the row with the new size, and what the cloud tells of it
 abbrev pub row_updated : Row
 row_updated = record row_updating { status = Complete; props = sized 2; target = None; facts = Some facts_now }
 
@@ -52,24 +54,30 @@ row_updated = record row_updating { status = Complete; props = sized 2; target =
 abbrev pub works : Stage → Job
 works stage = job 1 (letter 2 2 0) 1 stage
 
+-- the states: the row is to be updated
 abbrev pub begun : StateData
 begun = record (retaken 2 (Some (plan 1)) row_done) { rows = row_updating ∷ []; jobs = works Asking ∷ [] }
 
+-- the cloud was asked to update the resource
 abbrev pub asked : StateData
 asked = record begun { jobs = works Polling ∷ [] }
 
+-- the cloud said that it is ready
 abbrev pub ready : StateData
 ready = record asked { rows = row_updated ∷ []; jobs = works Ending ∷ [] }
 
+-- what each step tells: the begin, by which the row is to be updated
 abbrev pub begin_tells : List Entry
 begin_tells = row_writes 1 (Set row_updating ∷ []) ∷ mail_writes 1 (Held (works Asking) ∷ []) ∷ []
 
+-- the ask: the cloud is to update the resource
 abbrev pub ask_tells : List Entry
 ask_tells =
     says (Engine 1) (what.Call (token 1) (request.Update (sized 2)) answer.Begun)
     ∷ mail_writes 1 (Held (works Polling) ∷ [])
     ∷ []
 
+-- the poll: it is ready
 abbrev pub poll_tells : List Entry
 poll_tells =
     says (Engine 1) (what.Call (token 1) request.Poll (answer.Ready facts_now))
@@ -77,15 +85,19 @@ poll_tells =
     ∷ mail_writes 1 (Held (works Ending) ∷ [])
     ∷ []
 
+-- the histories so far: a create, the update's command, and the take of its letter
 abbrev pub until_retaken : List Entry
 until_retaken = (create.history ++ update_tells 2) ++ retake_tells row_done
 
+-- up to the begin
 abbrev pub until_begun : List Entry
 until_begun = until_retaken ++ begin_tells
 
+-- up to the ask
 abbrev pub until_asked : List Entry
 until_asked = until_begun ++ ask_tells
 
+-- up to the poll that hears that it is ready
 abbrev pub history : List Entry
 history = until_asked ++ poll_tells
 

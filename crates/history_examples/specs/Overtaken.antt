@@ -28,9 +28,11 @@ use Rattle.core_state.specs.declared.entry.What.TheVariants as what
 abbrev pub overtaken : StateData
 overtaken = updated 2 None row_begun (job 1 (letter 1 1 0) 1 Polling ∷ [])
 
+-- the old job has come to its end
 abbrev pub late : StateData
 late = updated 2 None row_ready (job 1 (letter 1 1 0) 1 Ending ∷ [])
 
+-- it is released, and the update node has a second letter
 abbrev pub freed : StateData
 freed = record (updated 2 None row_done []) {
   letters = letter 2 2 0 ∷ letter 3 2 0 ∷ [];
@@ -41,9 +43,11 @@ freed = record (updated 2 None row_done []) {
 abbrev pub release_tells : List Entry
 release_tells = row_writes 1 (Set row_done ∷ []) ∷ mail_writes 1 (Ended 1 ∷ Sent (letter 3 2 0) ∷ []) ∷ []
 
+-- the histories so far: up to the poll of the old job that hears that the resource is ready
 abbrev pub until_late : List Entry
 until_late = (until_asked false ++ update_tells 2) ++ poll_tells
 
+-- up to the release
 abbrev pub history : List Entry
 history = until_late ++ release_tells
 

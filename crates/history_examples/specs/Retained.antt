@@ -25,9 +25,11 @@ use Rattle.core_state.specs.declared.entry.What.TheVariants as what
 abbrev pub given : StateData
 given = record gone { released = token 1 ∷ [] }
 
+-- the rollback is complete
 abbrev pub retained : StateData
 retained = record undone { released = token 1 ∷ [] }
 
+-- what the begin at the clean-up node tells: the token is given up, and the row goes
 abbrev pub give_tells : List Entry
 give_tells =
     says (Engine 1) (what.Release (token 1))
@@ -35,9 +37,11 @@ give_tells =
     ∷ mail_writes 1 (Held (cleans Ending) ∷ [])
     ∷ []
 
+-- the histories so far: up to that begin
 abbrev pub until_given : List Entry
 until_given = until_cleaning_under Retain ++ give_tells
 
+-- up to the mark
 abbrev pub history : List Entry
 history = until_given ++ complete_tells
 

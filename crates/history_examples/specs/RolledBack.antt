@@ -39,12 +39,15 @@ stack_back = record {
   plan = Some (plan_of None);
 }
 
+-- the clean-up node of the first row alone
 abbrev pub one_row : TravGraph
 one_row = record { nodes = C 1 ∷ []; edges = [] }
 
+-- the graph with that node not done
 abbrev pub graph_back : Graph
 graph_back = record { stack = stack_name; graph = one_row; points = open_point 0 ∷ [] }
 
+-- behind the failure and the rollback's command: a letter waits for that node
 abbrev pub going_back_under : Policy → StateData
 going_back_under policy = record (begun_under policy false) {
   stacks = stack_back ∷ [];
@@ -55,9 +58,11 @@ going_back_under policy = record (begun_under policy false) {
   next = record { stack = 2; trav = 3; row = 2; engine = 3; letter = 3 };
 }
 
+-- with the policy of all examples but one
 abbrev pub going_back : StateData
 going_back = going_back_under Delete
 
+-- what the rollback tells: the command, and that letter
 abbrev pub rollback_tells : List Entry
 rollback_tells =
     says (Engine 1) (what.Command stack_name 2 Rollback (Some (plan_of None)) false)
@@ -68,6 +73,7 @@ rollback_tells =
 abbrev pub history_under : Policy → List Entry
 history_under policy = until_begun_under policy true ++ (fail_tells_under policy ++ rollback_tells)
 
+-- with the policy of all examples but one
 abbrev pub history : List Entry
 history = history_under Delete
 

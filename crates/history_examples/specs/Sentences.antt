@@ -29,6 +29,7 @@ use Rattle.step_relation.specs.Headline.{AtPrefix, EndsFailed, FitsIn, IsOfNewes
 use Rattle.step_relation.specs.Policies.{MayBeReleased}
 use Rattle.core_state.specs.declared.entry.What.TheVariants as what
 
+-- the sentences, first those of an entry and then those of the moment behind it
 pub data Sentence : Type 0 where
   -- of an entry
   Marks : Sentence

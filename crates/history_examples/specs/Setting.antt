@@ -27,6 +27,7 @@ use Rattle.core_state.specs.declared.entry.What.TheVariants as what
 abbrev pub stack_name : List ℕ
 stack_name = codes "s"
 
+-- the name of the resource
 abbrev pub item_name : List ℕ
 item_name = codes "a"
 
@@ -34,6 +35,7 @@ item_name = codes "a"
 abbrev pub box : Kind
 box = record { name = codes "Box"; attrs = []; soft = [] }
 
+-- properties that are a size alone
 abbrev pub sized : ℕ → Members
 sized size = member (codes "size") (whole (pos size)) no_members
 
@@ -41,6 +43,7 @@ sized size = member (codes "size") (whole (pos size)) no_members
 abbrev pub item_under : Policy → ℕ → Item
 item_under policy size = record { name = item_name; kind = box; props = sized size; needs = []; policy = policy }
 
+-- the plan of that resource alone
 abbrev pub plan_under : Policy → ℕ → PlanData
 plan_under policy size = record {
   items = item_under policy size ∷ [];
@@ -55,6 +58,7 @@ plan_under policy size = record {
 abbrev pub item : ℕ → Item
 item = item_under Delete
 
+-- the plan of that resource
 abbrev pub plan : ℕ → PlanData
 plan = plan_under Delete
 
@@ -62,6 +66,7 @@ plan = plan_under Delete
 abbrev pub facts : Facts
 facts = record { id = codes "sim-1"; attrs = no_members }
 
+-- the token of the row of this number
 abbrev pub token : ℕ → Token
 token row = record { stack = stack_name; name = item_name; row = row }
 
@@ -81,6 +86,7 @@ registries = unjudged ∷ []
 abbrev pub letter : ℕ → ℕ → ℕ → Letter
 letter number trav node = record { no = number; stack = stack_name; trav = trav; node = node }
 
+-- an engine's job of a letter, at a row and a stage
 abbrev pub job : ℕ → Letter → ℕ → Stage → Job
 job e l row stage = record { engine = e; letter = l; row = row; stage = stage }
 
@@ -88,8 +94,10 @@ job e l row stage = record { engine = e; letter = l; row = row; stage = stage }
 abbrev pub says : Actor → What → Entry
 says actor it = record { by = actor; what = it }
 
+-- what an engine tells of rows
 abbrev pub row_writes : ℕ → List RowWrite → Entry
 row_writes e writes = says (Engine e) (what.Rows writes)
 
+-- what an engine tells of letters and jobs
 abbrev pub mail_writes : ℕ → List MailWrite → Entry
 mail_writes e writes = says (Engine e) (what.Mail writes)

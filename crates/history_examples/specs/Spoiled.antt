@@ -27,6 +27,7 @@ pub record Spoiled : Type 0 where
   pub entry : Entry
   pub broken : List Sentence
 
+-- the history with that entry behind it
 abbrev pub all_of : Spoiled → List Entry
 all_of x = x.before ++ x.entry ∷ []
 

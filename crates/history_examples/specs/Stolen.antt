@@ -34,18 +34,22 @@ row_stolen = record row_begun { engine = Some 2; key = 2 }
 abbrev pub left : StateData
 left = record overtaken { live = 2 ∷ [] }
 
+-- the second engine has the letter's job, and the row with it
 abbrev pub stolen : StateData
 stolen = record left { rows = row_stolen ∷ []; letters = []; jobs = job 2 (letter 2 2 0) 1 Taken ∷ [] }
 
+-- what the steal tells: the row, the letter, the end of the first engine's job, the second one's job
 abbrev pub steal_tells : List Entry
 steal_tells =
     row_writes 2 (Set row_stolen ∷ [])
     ∷ mail_writes 2 (Dropped 2 ∷ Ended 1 ∷ Held (job 2 (letter 2 2 0) 1 Taken) ∷ [])
     ∷ []
 
+-- the histories so far: up to the stop of the first engine
 abbrev pub until_left : List Entry
 until_left = (until_asked false ++ update_tells 2) ++ stop_tells
 
+-- up to the steal
 abbrev pub history : List Entry
 history = until_left ++ steal_tells
 

@@ -25,6 +25,7 @@ use Rattle.core_state.specs.declared.entry.What.TheVariants as what
 abbrev pub row_free : Row
 row_free = record row_begun { engine = None; key = 2 }
 
+-- the row that the second engine has locked again
 abbrev pub row_kept : Row
 row_kept = record row_begun { engine = Some 2; key = 3 }
 
@@ -32,6 +33,7 @@ row_kept = record row_begun { engine = Some 2; key = 3 }
 abbrev pub stopped : StateData
 stopped = record (asked false) { live = 2 ∷ [] }
 
+-- the first engine's job has ended, and a letter for its node waits
 abbrev pub relayed : StateData
 relayed = record stopped {
   rows = row_free ∷ [];
@@ -40,36 +42,46 @@ relayed = record stopped {
   next = record { stack = 2; trav = 2; row = 2; engine = 3; letter = 3 };
 }
 
+-- the second engine has taken that letter
 abbrev pub kept : StateData
 kept = record relayed { rows = row_kept ∷ []; letters = []; jobs = job 2 (letter 2 1 0) 1 Taken ∷ [] }
 
+-- it goes on with the row, and is to ask again
 abbrev pub resumed : StateData
 resumed = record kept { jobs = job 2 (letter 2 1 0) 1 Asking ∷ [] }
 
+-- what each step tells: the stop of the first engine
 abbrev pub stop_tells : List Entry
 stop_tells = says Main (what.Engine (engine.Stop 1)) ∷ []
 
+-- the second engine ends the first one's job, and sends the letter
 abbrev pub relay_tells : List Entry
 relay_tells = row_writes 2 (Set row_free ∷ []) ∷ mail_writes 2 (Ended 1 ∷ Sent (letter 2 1 0) ∷ []) ∷ []
 
+-- the take of that letter
 abbrev pub keep_tells : List Entry
 keep_tells =
     row_writes 2 (Set row_kept ∷ [])
     ∷ mail_writes 2 (Dropped 2 ∷ Held (job 2 (letter 2 1 0) 1 Taken) ∷ [])
     ∷ []
 
+-- the begin, which goes on with the row as it is
 abbrev pub resume_tells : List Entry
 resume_tells = mail_writes 2 (Held (job 2 (letter 2 1 0) 1 Asking) ∷ []) ∷ []
 
+-- the histories so far: up to the stop
 abbrev pub until_stopped : List Entry
 until_stopped = until_asked false ++ stop_tells
 
+-- up to the end of the first engine's job
 abbrev pub until_relayed : List Entry
 until_relayed = until_stopped ++ relay_tells
 
+-- up to the take
 abbrev pub until_kept : List Entry
 until_kept = until_relayed ++ keep_tells
 
+-- up to the begin
 abbrev pub history : List Entry
 history = until_kept ++ resume_tells
 

@@ -39,9 +39,11 @@ use Rattle.history_examples.specs.RolledBack as before
 abbrev pub row_held_under : Policy → Row
 row_held_under policy = record (row_failed_under policy) { engine = Some 1; key = 3 }
 
+-- with the policy of all examples but one
 abbrev pub row_held : Row
 row_held = row_held_under policies.Delete
 
+-- the failed row, to be deleted for the second traversal
 abbrev pub row_leaving : Row
 row_leaving = record row_held { act = Delete; status = InProgress; trav = 2 }
 
@@ -49,12 +51,15 @@ row_leaving = record row_held { act = Delete; status = InProgress; trav = 2 }
 abbrev pub cleans : Stage → Job
 cleans stage = job 1 (letter 2 2 0) 1 stage
 
+-- that node's point, once it is done
 abbrev pub done : Point
 done = record (open_point 0) { done = true }
 
+-- the graph with that point
 abbrev pub graph_done : Graph
 graph_done = record { stack = stack_name; graph = one_row; points = done ∷ [] }
 
+-- the stack, whose rollback is complete
 abbrev pub stack_undone : Stack
 stack_undone = record stack_back { status = Complete }
 
@@ -66,18 +71,23 @@ cleaning_under policy = record (going_back_under policy) {
   jobs = cleans Taken ∷ [];
 }
 
+-- with the policy of all examples but one
 abbrev pub cleaning : StateData
 cleaning = cleaning_under policies.Delete
 
+-- the row is to be deleted
 abbrev pub leaving : StateData
 leaving = record cleaning { rows = row_leaving ∷ []; jobs = cleans Asking ∷ [] }
 
+-- the cloud was asked to delete its resource
 abbrev pub going : StateData
 going = record leaving { jobs = cleans Polling ∷ [] }
 
+-- the cloud said that it is gone, and so is the row
 abbrev pub gone : StateData
 gone = record going { rows = []; jobs = cleans Ending ∷ [] }
 
+-- the node is done, and the rollback has its mark
 abbrev pub undone : StateData
 undone = record gone { stacks = stack_undone ∷ []; graphs = graph_done ∷ []; jobs = [] }
 
@@ -86,13 +96,16 @@ abbrev pub clean_tells : Policy → List Entry
 clean_tells policy =
     row_writes 1 (Set (row_held_under policy) ∷ []) ∷ mail_writes 1 (Dropped 2 ∷ Held (cleans Taken) ∷ []) ∷ []
 
+-- the begin at the clean-up node: the row is to go
 abbrev pub leave_tells : List Entry
 leave_tells = row_writes 1 (Set row_leaving ∷ []) ∷ mail_writes 1 (Held (cleans Asking) ∷ []) ∷ []
 
+-- the ask: the cloud is to delete the resource
 abbrev pub going_tells : List Entry
 going_tells =
     says (Engine 1) (what.Call (token 1) request.Delete answer.Begun) ∷ mail_writes 1 (Held (cleans Polling) ∷ []) ∷ []
 
+-- the poll: it is gone, and its row with it
 abbrev pub gone_tells : List Entry
 gone_tells =
     says (Engine 1) (what.Call (token 1) request.Gone answer.Gone)
@@ -100,6 +113,7 @@ gone_tells =
     ∷ mail_writes 1 (Held (cleans Ending) ∷ [])
     ∷ []
 
+-- the finish, and the mark behind it
 abbrev pub complete_tells : List Entry
 complete_tells = mail_writes 1 (Ended 1 ∷ []) ∷ says (Engine 1) (what.Mark stack_name 2 Rollback None) ∷ []
 
@@ -107,18 +121,23 @@ complete_tells = mail_writes 1 (Ended 1 ∷ []) ∷ says (Engine 1) (what.Mark s
 abbrev pub until_cleaning_under : Policy → List Entry
 until_cleaning_under policy = before.history_under policy ++ clean_tells policy
 
+-- the same, with the policy of all examples but one
 abbrev pub until_cleaning : List Entry
 until_cleaning = until_cleaning_under policies.Delete
 
+-- up to the begin at the clean-up node
 abbrev pub until_leaving : List Entry
 until_leaving = until_cleaning ++ leave_tells
 
+-- up to the ask for the resource's delete
 abbrev pub until_going : List Entry
 until_going = until_leaving ++ going_tells
 
+-- up to the poll that hears that it is gone
 abbrev pub until_gone : List Entry
 until_gone = until_going ++ gone_tells
 
+-- up to the mark
 abbrev pub history : List Entry
 history = until_gone ++ complete_tells
 

@@ -27,12 +27,15 @@ abbrev pub stack_two : ℕ → Status → Stack
 stack_two size status =
     record { name = stack_name; no = 1; trav = 2; act = Update; status = status; plan = Some (plan size) }
 
+-- both nodes, the clean-up node behind the other
 abbrev pub two_nodes : TravGraph
 two_nodes = record { nodes = U item_name 1 ∷ C 1 ∷ []; edges = (0, 1) ∷ [] }
 
+-- the point of a node that isn't done and has no input
 abbrev pub open_point : ℕ → Point
 open_point node = record { stack = stack_name; node = node; inputs = []; done = false }
 
+-- the graph with neither node done
 abbrev pub graph_two : Graph
 graph_two = record { stack = stack_name; graph = two_nodes; points = open_point 0 ∷ open_point 1 ∷ [] }
 
@@ -50,6 +53,7 @@ updated size back r jobs = record {
   next = record { stack = 2; trav = 3; row = 2; engine = 3; letter = 3 };
 }
 
+-- what the update tells: the command, and that letter
 abbrev pub update_tells : ℕ → List Entry
 update_tells size =
     says Main (what.Command stack_name 2 Update (Some (plan size)) false)
@@ -60,10 +64,12 @@ update_tells size =
 abbrev pub again : Row → Row
 again r = record r { engine = Some 1; key = r.key + 1 }
 
+-- the letter is taken, and the row locked
 abbrev pub retaken : ℕ → Option PlanData → Row → StateData
 retaken size back r =
     record (updated size back r []) { rows = again r ∷ []; letters = []; jobs = job 1 (letter 2 2 0) 1 Taken ∷ [] }
 
+-- what the take tells: the row, and the job in the letter's place
 abbrev pub retake_tells : Row → List Entry
 retake_tells r =
     row_writes 1 (Set (again r) ∷ [])
@@ -87,6 +93,7 @@ row_two size = record row_made {
 abbrev pub left : Row → Row
 left r = record r { replaced_by = Some 2; engine = None; key = r.key + 1 + 1 }
 
+-- behind the replacement: the second row stands, and the job goes on with it
 abbrev pub replaced : ℕ → Option PlanData → Row → StateData
 replaced size back r = record (retaken size back r) {
   rows = left r ∷ row_two size ∷ [];
@@ -94,6 +101,7 @@ replaced size back r = record (retaken size back r) {
   next = record { stack = 2; trav = 3; row = 3; engine = 3; letter = 3 };
 }
 
+-- what the replacement tells: both rows, and then the job
 abbrev pub replace_tells : ℕ → Row → List Entry
 replace_tells size r =
     row_writes 1 (Set (row_two size) ∷ Set (left r) ∷ [])
