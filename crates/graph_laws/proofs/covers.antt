@@ -1,3 +1,4 @@
+-- No open node is forgotten after any step: `covers_moved`, `covers_laid`, `covers_kept`.
 pub mod Below
 pub mod Carried
 pub mod Steps

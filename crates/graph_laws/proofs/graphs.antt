@@ -1,3 +1,4 @@
+-- Each stack's graph is that of its plan and rows after any step: `graphs_moved`, `graphs_laid`, `graphs_kept`.
 pub mod Below
 pub mod Carried
 pub mod Restated

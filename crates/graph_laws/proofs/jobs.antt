@@ -1,3 +1,4 @@
+-- Jobs fit their rows and nodes after any step: `jobs_moved`, `jobs_laid`, `jobs_kept`.
 pub mod Below
 pub mod Onward
 pub mod Steps

@@ -1,3 +1,4 @@
+-- Marks and pasts of all stacks fit after any step: `marks_by_moves`, `marks_by_commands`, `marks_by_engines`.
 pub mod Below
 pub mod Rows
 pub mod Own
