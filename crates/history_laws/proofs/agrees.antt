@@ -1,3 +1,4 @@
+-- What a history tells, and what may be alive, after moves, commands and all else: `moves_tell`, `moves_agree`.
 pub mod Going
 pub mod Goes
 pub mod Called

@@ -1,3 +1,4 @@
+-- Which candidates for edges of a plan are kept: `edges_fit`.
 pub mod Keeping
 pub mod ItemNames
 pub mod Members

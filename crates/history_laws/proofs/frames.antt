@@ -1,3 +1,4 @@
+-- A step on one stack leaves all others as they stood: `others_stand`; and each is on one: `moves_on_one`.
 pub mod Same
 pub mod Graphs
 pub mod Mails

@@ -1,3 +1,4 @@
+-- From sound states to the main theorem of every run: `steps_keep_runs`, `standing_has_headline`.
 pub mod Below
 pub mod Once
 pub mod Items

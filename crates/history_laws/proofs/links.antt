@@ -1,3 +1,4 @@
+-- Numbers, current rows, chains, locks and owners after any step: `links_by_moves`, `links_by_commands`.
 pub mod Chains
 pub mod Replaced
 pub mod Locks

@@ -1,3 +1,4 @@
+-- What each table has after a write, and the one target of a node: `target_once`.
 pub mod Tables
 pub mod Rows
 pub mod Alike

@@ -1,3 +1,4 @@
+-- What a history says behind further entries, reading by reading, and behind a mark: `stacks_told`.
 pub mod Appends
 pub mod Silence
 pub mod Lasts
