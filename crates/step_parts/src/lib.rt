@@ -6,7 +6,6 @@
 
 mod begun_rows;
 mod entries;
-mod gone;
 mod jobs;
 mod joining;
 mod letters;
@@ -15,6 +14,7 @@ mod locks;
 mod marks;
 mod moves;
 mod new_rows;
+mod purges;
 mod releases;
 mod rooms;
 mod rows;
@@ -22,7 +22,6 @@ mod wear;
 
 pub use begun_rows::{created_row, deleted_row, final_props, ready_row, same_row, updated_row};
 pub use entries::{call_entry, mail_entry, rows_entry};
-pub use gone::{purged_changes, purged_entries};
 pub use jobs::{job_of, moved_job, with_stage};
 pub use joining::joined;
 pub use letters::{draw_letters, letter_to, letters_to, past_letters, sends, sent_all};
@@ -33,6 +32,7 @@ pub use moves::{
     begun_changes, begun_entries, left_changes, left_entries, onward_changes, onward_entries,
 };
 pub use new_rows::{new_row, replacement};
+pub use purges::{purged_changes, purged_entries};
 pub use releases::{ended_and_sent, released_changes, released_entries};
 pub use rooms::{has_room, may_all_rise, may_rise};
 pub use rows::{failed_row, locked, replaced, token_of, unlocked};
