@@ -27,7 +27,7 @@ use Rattle.check_steps.specs.Founds.{IsFound, begin_of}
 use Rattle.check_steps.specs.Marks.{marked_changes, marked_entries}
 use Rattle.check_steps.proofs.Turned.{wears_out}
 use Rattle.check_steps.proofs.Worn.{worn_right}
-use Rattle.check_steps.specs.declared.found.Found.{Found}
+use Rattle.check_steps.specs.declared.begin_found.Found.{Found}
 
 -- another status than under way
 abbrev is_running : Status → Bool

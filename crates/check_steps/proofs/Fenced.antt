@@ -13,7 +13,7 @@ use Rattle.check_steps.specs.Parts.{HasParts, IsParts, parts_read}
 use Rattle.check_steps.specs.declared.looks.BeginWork.{BeginWork}
 use Rattle.check_steps.specs.declared.looks.Work.TheVariants as work
 use Rattle.check_steps.specs.declared.looks.Work.{Work}
-use Rattle.check_steps.specs.declared.parts.Parts.{Parts}
+use Rattle.check_steps.specs.declared.begin_parts.Parts.{Parts}
 use Rattle.check_steps.proofs.Seeing.{at_job, begin_one, begin_read, plain_works, takes_no_begin, takes_over_no_begin}
 
 pub OnTrue_not : (b : Bool) (P : Type 0) → (b ≡ false → P) → OnTrue (not b) P

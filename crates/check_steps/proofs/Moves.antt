@@ -12,7 +12,7 @@ use Rattle.step_relation.specs.Begins.{left_entries, onward_changes, onward_entr
 use Rattle.step_relation.specs.Given.{Prepared}
 use Rattle.step_relation.specs.Moves.{Move, begin_failed, begin_in_place, begin_init, begin_replaced, begin_resumed}
 use Rattle.step_relation.specs.Moves.{begin_same}
-use Rattle.check_steps.specs.declared.found.Found.{Found}
+use Rattle.check_steps.specs.declared.begin_found.Found.{Found}
 use Rattle.check_steps.specs.Founds.{IsFound, begin_of}
 use Rattle.check_steps.specs.Writes.{kept, started, succeeded_changes, succeeded_entries, updated}
 

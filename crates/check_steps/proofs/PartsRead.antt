@@ -18,7 +18,7 @@ use Rattle.step_relation.specs.Freshness.{plan_of}
 use Rattle.history_laws.proofs.tables.Rows.{same_some}
 use Rattle.check_steps.specs.AtUpdate.{AtUpdate}
 use Rattle.check_steps.specs.Parts.{IsParts}
-use Rattle.check_steps.specs.declared.parts.Parts.{Parts}
+use Rattle.check_steps.specs.declared.begin_parts.Parts.{Parts}
 
 -- a plan with an item is one
 pub has_plan : (plan : Option PlanData) (name : List ℕ) (item : Item) → item_at (plan_of plan).items name ≡ Some item

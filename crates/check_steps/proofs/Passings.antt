@@ -13,7 +13,7 @@ use Rattle.step_relation.specs.Inputs.{passed_points}
 use Rattle.step_relation.specs.Moves.{Move, finish, finish_last}
 use Rattle.step_relation.specs.Writes.{complete_mark, draw_letters, mark_complete, unlock}
 use Rattle.check_steps.specs.Passes.{IsPassed, finish_of, passed_changes, passed_entries, passed_letters}
-use Rattle.check_steps.specs.declared.passed.Passed.{Passed}
+use Rattle.check_steps.specs.declared.finish_found.Passed.{Passed}
 
 module _ (s : StateData) (e : ℕ) (it : Passed) (passed : IsPassed s e it) where
   -- the changes by the input that is given

@@ -23,7 +23,7 @@ use Rattle.check_steps.specs.AtUpdate.{AtUpdate}
 use Rattle.check_steps.specs.Looks.{HasNext, IsBegin, IsPlain}
 use Rattle.check_steps.specs.Parts.{HasParts, IsParts, parts_read, read_of}
 use Rattle.check_steps.specs.declared.looks.BeginWork.{BeginWork}
-use Rattle.check_steps.specs.declared.parts.Parts.{Parts}
+use Rattle.check_steps.specs.declared.begin_parts.Parts.{Parts}
 use Rattle.check_steps.proofs.PartsRead.{has_plan}
 
 same_name : (a b : List ℕ) (n m : ℕ) → U a n ≡ U b m → a ≡ b

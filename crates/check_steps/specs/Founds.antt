@@ -12,7 +12,7 @@ use Rattle.step_relation.specs.Begins.{Begins}
 use Rattle.step_relation.specs.Freshness.{Names, plan_of}
 use Rattle.step_relation.specs.Inputs.{IsRequired}
 use Rattle.step_relation.specs.Nexts.{Works}
-use Rattle.check_steps.specs.declared.found.Found.{Found}
+use Rattle.check_steps.specs.declared.begin_found.Found.{Found}
 
 -- these are the parts of the begin of an update node
 pub record IsFound (s : StateData) (e : ℕ) (it : Found) : Type 0 where

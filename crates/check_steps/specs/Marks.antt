@@ -7,7 +7,7 @@ use Rattle.core_state.specs.declared.entry.Entry.{Entry}
 use Rattle.step_relation.specs.Asks.{fault_of}
 use Rattle.step_relation.specs.Begins.{left_changes, left_entries}
 use Rattle.step_relation.specs.Writes.{failed_mark, mark_failed}
-use Rattle.check_steps.specs.declared.found.Found.{Found}
+use Rattle.check_steps.specs.declared.begin_found.Found.{Found}
 
 -- the row is unlocked, the job ends, and the stack is marked
 abbrev pub marked_changes : ℕ → Found → List Change

@@ -16,7 +16,7 @@ use Rattle.step_relation.specs.Freshness.{Names, plan_of}
 use Rattle.step_relation.specs.Nexts.{Works}
 use Rattle.check_steps.specs.AtUpdate.{AtUpdate}
 use Rattle.check_steps.specs.declared.looks.BeginWork.{BeginWork}
-use Rattle.check_steps.specs.declared.parts.Parts.{Parts}
+use Rattle.check_steps.specs.declared.begin_parts.Parts.{Parts}
 
 -- these are the parts that the begin of the engine's job reads
 pub record IsParts (s : StateData) (e : ℕ) (job : Job) (it : Parts) : Type 0 where

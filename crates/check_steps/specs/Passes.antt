@@ -19,7 +19,7 @@ use Rattle.step_relation.specs.Writes.{draw_letters, letters_to, mail_entry, row
 use Rattle.step_reads.specs.Waiting.{IsReadyThen}
 use Rattle.step_reads.specs.Work.{IsFreshOf, fresh_of}
 use Rattle.step_reads.specs.declared.work.Fresh.{Fresh}
-use Rattle.check_steps.specs.declared.passed.Passed.{Passed}
+use Rattle.check_steps.specs.declared.finish_found.Passed.{Passed}
 
 -- the input that the job's node gives
 abbrev pub its_input : Passed → Input

@@ -12,7 +12,7 @@ use Rattle.core_state.specs.declared.entry.RowWrite.TheVariants.{Set}
 use Rattle.step_relation.specs.Begins.{moved_job, past_row}
 use Rattle.step_relation.specs.Rows.{created_row, replaced, replacement, same_row, updated_row}
 use Rattle.step_relation.specs.Writes.{mail_entry, rows_entry}
-use Rattle.check_steps.specs.declared.found.Found.{Found}
+use Rattle.check_steps.specs.declared.begin_found.Found.{Found}
 use Rattle.core_state.specs.declared.change.Change.TheVariants as change_to
 
 -- to be created with these properties

@@ -4,8 +4,8 @@ ghost use Rattle.check_steps.specs.AtUpdate.{AtUpdate};
 ghost use Rattle.check_steps.specs.Gives.{given_of};
 ghost use Rattle.step_parts.specs.Turns.{IsTurn, IsTurnRefusal};
 
+use crate::begin_finding::find;
 use crate::faulting::fault;
-use crate::finding::find;
 use crate::prepared::Prepared;
 use crate::with_props::begin_with;
 use core_state::{Job, Made, State};

@@ -10,7 +10,7 @@ ghost use Rattle.check_steps.specs.Founds.{IsFound};
 ghost use Rattle.check_steps.specs.Makes.{Makes, MakesNone};
 ghost use Rattle.check_steps.specs.Marks.{marked_changes, marked_entries};
 
-use crate::found::Found;
+use crate::begin_found::Found;
 use crate::leaving::leave;
 use crate::making::make;
 use core_state::{Actor, Batch, Cause, Entry, Made, State, Why};

@@ -6,8 +6,8 @@ ghost use Rattle.check_steps.specs.AtUpdate.{HasPoint};
 ghost use Rattle.check_steps.specs.Looks.{HasNext, IsOther, IsWork};
 ghost use Rattle.check_steps.specs.Parts.{parts_read};
 
+use crate::begin_parts::{Parts, begun_parts};
 use crate::looks::{BeginWork, Work};
-use crate::parts::{Parts, begun_parts};
 use core_state::{Job, State};
 use heat_plan::EngineNo;
 use heat_value::Equals;

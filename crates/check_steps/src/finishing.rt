@@ -8,7 +8,7 @@ ghost use Rattle.step_relation.specs.Nexts.{Works};
 ghost use Rattle.step_parts.specs.Turns.{IsTurn, IsTurnRefusal};
 ghost use Rattle.check_steps.specs.Passes.{IsAtWork, IsPassed, finish_of};
 
-use crate::passed::Passed;
+use crate::finish_found::Passed;
 use crate::passing::pass_on;
 use core_state::{Actor, Batch, Job, Made, SharedInput, State};
 use heat_plan::{EngineNo, Refusal, Status};

@@ -4,19 +4,19 @@
 //! or writes.
 #![tactic(auto)]
 
+mod begin_finding;
+mod begin_found;
+mod begin_parts;
 mod beginning;
 mod faulting;
 mod fence;
-mod finding;
+mod finish_found;
 mod finishing;
-mod found;
-mod going_on;
 mod leaving;
 mod looking;
 mod looks;
 mod making;
-mod parts;
-mod passed;
+mod onward_jobs;
 mod passing;
 mod prepared;
 mod preparing;

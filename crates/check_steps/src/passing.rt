@@ -8,8 +8,8 @@ ghost use Rattle.check_steps.specs.Makes.{Makes, MakesNone};
 ghost use Rattle.check_steps.specs.Passes.{passed_changes, passed_entries};
 ghost use Rattle.check_steps.specs.Passes.{sent_changes, sent_entries};
 
+use crate::finish_found::Passed;
 use crate::making::make;
-use crate::passed::Passed;
 use core_state::{Actor, Batch, Change, Entry, Letter, Made, Next, Point, State};
 use heat_plan::{EngineNo, Refusal};
 use std::alloc::{AllocError, Global};

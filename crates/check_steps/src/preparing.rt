@@ -3,8 +3,8 @@ ghost use Rattle.std.specs.Prelude.{IfOk};
 ghost use Rattle.check_steps.specs.AtUpdate.{AtUpdate};
 ghost use Rattle.check_steps.specs.Prepares.{HasPrepared, IsGivenFor, IsPrepared};
 
+use crate::begin_parts::parts_of;
 use crate::looks::Work;
-use crate::parts::parts_of;
 use crate::prepared::Prepared;
 use core_state::{Job, SharedInput, State};
 use heat_plan::{EngineNo, Item, Plan, Properties};

@@ -5,7 +5,7 @@ ghost use Rattle.step_parts.specs.Rooms.{MayRise};
 ghost use Rattle.check_steps.specs.Makes.{Makes, MakesNone};
 ghost use Rattle.check_steps.specs.Writes.{succeeded_changes, succeeded_entries};
 
-use crate::found::Found;
+use crate::begin_found::Found;
 use crate::making::make;
 use core_state::{Actor, Batch, Change, Entry, Made, MailWrite, Numbers, RowWrite, State};
 use heat_plan::{EngineNo, Properties, Refusal, RowNo};

@@ -6,9 +6,9 @@ ghost use Rattle.step_relation.specs.Given.{Prepared};
 ghost use Rattle.step_parts.specs.Turns.{IsTurn, IsTurnRefusal};
 ghost use Rattle.check_steps.specs.Founds.{IsFound};
 
-use crate::found::Found;
-use crate::going_on::{go_on, keep, start, update};
+use crate::begin_found::Found;
 use crate::leaving::leave;
+use crate::onward_jobs::{go_on, keep, start, update};
 use crate::replacing::replace;
 use core_state::{Made, State};
 use heat_plan::{Act, EngineNo, Properties, Refusal, Status};

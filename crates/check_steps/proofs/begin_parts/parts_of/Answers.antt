@@ -5,7 +5,7 @@ use Rattle.core_state.specs.declared.stack.Stack.{Stack}
 use Rattle.step_relation.specs.Freshness.{plan_of}
 use Rattle.history_laws.proofs.tables.Rows.{same_some}
 use Rattle.check_steps.proofs.PartsRead.{has_plan, has_point, parts_at}
-use Rattle.check_steps.proofs.parts.parts_of.Goals as goal
+use Rattle.check_steps.proofs.begin_parts.parts_of.Goals as goal
 
 pub plan_in-plan-requires : goal.plan_in-plan-requires
 plan_in-plan-requires c =

@@ -1,6 +1,6 @@
 use Rattle.std.proofs.Common.{refl}
 use Rattle.check_steps.proofs.Updates.{at_update, clean_no_update, update_fresh}
-use Rattle.check_steps.proofs.parts.update_parts.Goals as goal
+use Rattle.check_steps.proofs.begin_parts.update_parts.Goals as goal
 
 pub parts_of-requires : goal.parts_of-requires
 parts_of-requires c = (

@@ -3,8 +3,8 @@ ghost use Rattle.std.specs.Prelude.{ℕ, IfOk};
 ghost use Rattle.check_steps.specs.AtUpdate.{AtUpdate};
 ghost use Rattle.check_steps.specs.Founds.{IsFound};
 
-use crate::found::Found;
-use crate::parts::parts_of;
+use crate::begin_found::Found;
+use crate::begin_parts::parts_of;
 use core_state::{Job, State};
 use std::alloc::{AllocError, Global};
 use step_reads::required;

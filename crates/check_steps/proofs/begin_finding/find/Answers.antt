@@ -4,7 +4,7 @@ use Rattle.dep_graph.specs.Lists.{ListsAll}
 use Rattle.heat_plan.specs.Plans.{PlanData}
 use Rattle.sync_points.specs.declared.point.Input.{Input}
 use Rattle.step_relation.specs.Inputs.{IsRequired}
-use Rattle.check_steps.proofs.finding.find.Goals as goal
+use Rattle.check_steps.proofs.begin_finding.find.Goals as goal
 
 pub returns : goal.returns
 returns c = λ e at.

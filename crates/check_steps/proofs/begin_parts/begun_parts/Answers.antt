@@ -1,6 +1,6 @@
 use Rattle.std.proofs.Common.{sym, ◌∙◌}
 use Rattle.check_steps.proofs.Fenced.{other_stage}
-use Rattle.check_steps.proofs.parts.begun_parts.Goals as goal
+use Rattle.check_steps.proofs.begin_parts.begun_parts.Goals as goal
 
 pub returns-in-Asking-clause-none : goal.returns-in-Asking-clause-none
 returns-in-Asking-clause-none c = λ none. other_stage _ c.args.e _ (λ is. let other = sym c.in-Asking.is ∙ is in cc)

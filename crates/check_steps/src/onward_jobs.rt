@@ -6,7 +6,7 @@ ghost use Rattle.step_relation.specs.Begins.{onward_changes, onward_entries};
 ghost use Rattle.check_steps.specs.Makes.{Makes, MakesNone};
 ghost use Rattle.check_steps.specs.Writes.{kept, started, updated};
 
-use crate::found::Found;
+use crate::begin_found::Found;
 use crate::making::make;
 use core_state::{Job, Made, Row, Stage};
 use heat_plan::{EngineNo, Properties, Refusal};
