@@ -1,11 +1,15 @@
-//! Runs the engine and what it reads for the clock outside: its steps, templates, and text functions. The
-//! first word is what is measured, the other words are its own; `all` runs each at its least size. Each
-//! prints a line, which is the same at each run.
+//! Runs the engine and what it reads for the clock outside: its steps, templates, lines of many parts,
+//! functions of values and of texts. The first word is what is measured, the other words are its own; `all`
+//! runs each at its least size. Each prints a line, which is the same at each run.
 #![tactic(auto)]
 
+mod lines;
+mod reading;
+mod resolved;
 mod steps;
 mod strings;
 mod templates;
+mod values;
 
 use anyhow::{Result, bail};
 use std::env;
@@ -17,7 +21,7 @@ fn main(rt: HostRuntime) -> Result<()> {
         words.push(word.as_str())?;
     }
     let [what, words @ ..] = words.as_slice() else {
-        bail!("steps, templates, strings or all");
+        bail!("steps, templates, lines, values, strings or all");
     };
     run(&rt, what, words)
 }
@@ -27,9 +31,11 @@ fn run(rt: &HostRuntime, what: &str, words: &[&str]) -> Result<()> {
     match what {
         "steps" => steps::run(rt, words),
         "templates" => templates::run(rt, words),
+        "lines" => lines::run(rt, words),
+        "values" => values::run(rt, words),
         "strings" => strings::run(rt, words),
         "all" => run_all(rt),
-        _ => bail!("steps, templates, strings or all"),
+        _ => bail!("steps, templates, lines, values, strings or all"),
     }
 }
 
@@ -37,5 +43,7 @@ fn run(rt: &HostRuntime, what: &str, words: &[&str]) -> Result<()> {
 fn run_all(rt: &HostRuntime) -> Result<()> {
     steps::run(rt, &["chain", "delete", "12"])?;
     templates::run(rt, &["admit", "12"])?;
+    lines::run(rt, &["facts", "12"])?;
+    values::run(rt, &["property", "strict", "12"])?;
     strings::run(rt, &["replace", "1000"])
 }

@@ -1,19 +1,15 @@
 //! How far a template is taken.
-ghost use Rattle.std.specs.Prelude.{◌≡◌, ◌≤◌, IfOk};
-ghost use Rattle.heat_value.specs.Data.{depth, members_depth};
-ghost use Rattle.heat_value.specs.Meaning.{data_of};
+ghost use Rattle.std.specs.Prelude.{◌≡◌, ◌≤◌};
+ghost use Rattle.heat_value.specs.Data.{members_depth};
 ghost use Rattle.type_catalog.specs.Names.{is_listed};
 ghost use Rattle.type_catalog.specs.Shipped.{flavor_test as the_flavor_test};
 
+use crate::reading::{admitted, bound, read, taken};
 use crate::templates::conditions::{push_chain, push_conditions, push_made_chain};
 use crate::templates::parameters::{given, push_parameters};
 use crate::templates::resources::{KINDS, push_resources};
 use anyhow::{Result, bail};
-use heat_plan::{Plan, StackName, StackNo};
-use heat_value::{Props, Seq, Text, Value};
-use hot_admit::admit;
-use hot_catalog::Catalog;
-use hot_params::{Bound, Ids, bind};
+use heat_value::{Seq, Text, Value};
 use hot_tree::Template;
 use std::alloc::Global;
 use type_catalog::{Ask, Custom, Registry, flavor_test, is_flavor};
@@ -87,25 +83,6 @@ fn chain_of(alloc: Global, work: Work, size: u32) -> Result<String> {
     Ok(text)
 }
 
-fn read(alloc: Global, text: &str) -> Result<Value>
-    ensures { IfOk result (λ v. depth (data_of v) ≤ 64) }
-{
-    match Value::read(alloc, text.as_bytes()) {
-        Ok(value) => Ok(value),
-        Err(_) => bail!("no value"),
-    }
-}
-
-fn taken(alloc: Global, value: &Value) -> Result<Template>
-    requires { depth (data_of value.now) ≤ 64 }
-    ensures { IfOk result (λ t. members_depth t ≤ 64) }
-{
-    match Template::from_value(alloc, value) {
-        Ok(template) => Ok(template),
-        Err(fault) => bail!("{}", fault.code().unwrap_or("no memory")),
-    }
-}
-
 // How many parameters, items or conditions came out, where the test nova.flavor is registered, and no kind.
 fn bound_on(alloc: Global, work: Work, template: &Template) -> Result<usize>
     requires { members_depth template.now ≤ 64 }
@@ -121,48 +98,24 @@ fn bound_on(alloc: Global, work: Work, template: &Template) -> Result<usize>
     let Some(registry) = Registry::new(Seq::new(alloc), customs) else {
         bail!("no registry");
     };
-    let bound = bound(alloc, template, &registry)?;
-    if work == Work::Bind {
-        return Ok(bound.params.as_props().as_slice().len());
-    }
-    let plan = admitted(alloc, template, &bound, &registry)?;
-    if work == Work::Chain || work == Work::Made {
-        return Ok(plan.conds().as_slice().len());
-    }
-    Ok(plan.items().len())
+    counted(alloc, work, template, &registry)
 }
 
-// What the parameters are bound to.
-fn bound(alloc: Global, template: &Template, registry: &Registry) -> Result<Bound>
+// The same, over a registry.
+fn counted(alloc: Global, work: Work, template: &Template, registry: &Registry) -> Result<usize>
     requires { members_depth template.now ≤ 64 }
 {
-    let Some(stack) = StackName::read(alloc, b"s")? else {
-        bail!("a name");
-    };
-    let Some(no) = StackNo::new(1) else {
-        bail!("a number");
-    };
     let given = read(alloc, given(alloc)?.as_str())?;
     let Value::Fields(given) = &given else {
         bail!("an object");
     };
-    match bind(alloc, template, given, &Ids { stack, no }, registry) {
-        Ok(bound) => Ok(bound),
-        Err(fault) => bail!("{}", fault.code().unwrap_or("no memory")),
+    let bound = bound(alloc, template, given, registry)?;
+    if work == Work::Bind {
+        return Ok(bound.params.as_props().as_slice().len());
     }
-}
-
-// The plan, where no file stands beside the template.
-fn admitted(alloc: Global, template: &Template, bound: &Bound, registry: &Registry) -> Result<Plan>
-    requires { members_depth template.now ≤ 64 }
-{
-    let mut catalog = Catalog::new(alloc, registry)?;
-    match catalog.read(alloc, &read(alloc, KINDS)?) {
-        Ok(()) => {}
-        Err(_) => bail!("no catalogue"),
+    let plan = admitted(alloc, template, &bound, KINDS, registry)?;
+    if work == Work::Chain || work == Work::Made {
+        return Ok(plan.conds().as_slice().len());
     }
-    match admit(alloc, template, bound, &Props::new(alloc), &catalog) {
-        Ok(plan) => Ok(plan),
-        Err(fault) => bail!("{}", fault.code().unwrap_or("no memory")),
-    }
+    Ok(plan.items().len())
 }
