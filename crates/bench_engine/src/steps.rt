@@ -1,18 +1,19 @@
 //! Runs the life of one stack by the engine's steps alone. Prints how many turns were made and how many
 //! rows stand.
 
-mod life;
-mod plans;
+pub mod course;
+pub mod life;
+pub mod plans;
 
 use anyhow::{Result, bail};
 use life::{Work, lived};
 use plans::Shape;
 
-/// The words are the shape (`chain`, or `fan`, where one needs all others), how far it goes (`create`,
+/// The words are the shape (`chain`, `tree`, or `fan`, where one needs all others), how far it goes (`create`,
 /// `same`, `change` or `delete`) and how many resources.
 pub fn run(rt: &HostRuntime, words: &[&str]) -> Result<()> {
     let [shape, until, count, ..] = words else {
-        bail!("chain or fan, how far it goes, and how many");
+        bail!("chain, fan or tree, how far it goes, and how many");
     };
     let (shape, until) = (shape_of(shape)?, work_of(until)?);
     let (turns, rows) = lived(rt.alloc(), until, shape, count.parse::<u32>()?)?;
@@ -20,11 +21,13 @@ pub fn run(rt: &HostRuntime, words: &[&str]) -> Result<()> {
     Ok(())
 }
 
-fn shape_of(word: &str) -> Result<Shape> {
+/// The shape that a word means.
+pub fn shape_of(word: &str) -> Result<Shape> {
     match word {
         "chain" => Ok(Shape::Chain),
         "fan" => Ok(Shape::Fan),
-        _ => bail!("chain or fan"),
+        "tree" => Ok(Shape::Tree),
+        _ => bail!("chain, fan or tree"),
     }
 }
 

@@ -1,11 +1,13 @@
 //! The life of one stack: its commands, each with turns of one engine until that is idle.
 
+use crate::steps::course::Course;
 use crate::steps::plans::{Shape, planned};
 use anyhow::{Result, bail};
 use command_steps::{create, delete, update};
 use core_state::{Made, State};
 use heat_plan::{EngineNo, Plan, Refusal, StackName};
-use sample_turns::{Reply, apply, turn};
+use row_codec::Sheet;
+use sample_turns::{Reply, turn};
 use std::alloc::Global;
 use takeover_steps::enlist;
 
@@ -27,15 +29,33 @@ pub enum Work {
 
 /// How many turns a stack's life takes up to this work, and how many rows stand then.
 pub fn lived(alloc: Global, until: Work, shape: Shape, count: u32) -> Result<(u32, usize)> {
-    let mut s = State::new(alloc);
-    let turns = live(alloc, &mut s, until, shape, count)?;
-    Ok((turns, s.rows().len()))
+    let mut course = Course::unkept(alloc);
+    let turns = live(alloc, &mut course, until, shape, count)?;
+    Ok((turns, course.state.rows().len()))
 }
 
-fn live(alloc: Global, s: &mut State, until: Work, shape: Shape, count: u32) -> Result<u32> {
+/// The state that a stack's life leaves up to this work.
+pub fn left(alloc: Global, until: Work, shape: Shape, count: u32) -> Result<State> {
+    let mut course = Course::unkept(alloc);
+    live(alloc, &mut course, until, shape, count)?;
+    Ok(course.state)
+}
+
+/// The bytes of each list of changes that a stack's whole life makes.
+pub fn recorded(alloc: Global, shape: Shape, count: u32) -> Result<Vec<Sheet>> {
+    let mut course = Course::kept(alloc);
+    live(alloc, &mut course, Work::Delete, shape, count)?;
+    let kept = course.kept;
+    match kept {
+        Some(records) => Ok(records),
+        None => bail!("no records"),
+    }
+}
+
+fn live(alloc: Global, course: &mut Course, until: Work, shape: Shape, count: u32) -> Result<u32> {
     let mut turns = 0u32;
     for work in [Work::Create, Work::Same, Work::Change, Work::Delete] {
-        turns = turns.saturating_add(done(alloc, s, work, shape, count)?);
+        turns = turns.saturating_add(done(alloc, course, work, shape, count)?);
         if work == until {
             return Ok(turns);
         }
@@ -44,9 +64,9 @@ fn live(alloc: Global, s: &mut State, until: Work, shape: Shape, count: u32) -> 
 }
 
 // How many turns one work takes.
-fn done(alloc: Global, s: &mut State, work: Work, shape: Shape, count: u32) -> Result<u32> {
+fn done(alloc: Global, course: &mut Course, work: Work, shape: Shape, count: u32) -> Result<u32> {
     let (name, plan) = planned(alloc, shape, count, work == Work::Change)?;
-    match drive(alloc, s, work, &name, plan) {
+    match drive(alloc, course, work, &name, plan) {
         Ok(turns) => Ok(turns),
         Err(refusal) => bail!("{}", refusal.code().unwrap_or("no memory")),
     }
@@ -55,18 +75,18 @@ fn done(alloc: Global, s: &mut State, work: Work, shape: Shape, count: u32) -> R
 // Makes the command's step, and turns until nothing is left to do.
 fn drive(
     alloc: Global,
-    s: &mut State,
+    course: &mut Course,
     work: Work,
     name: &StackName,
     plan: Plan,
 ) -> Result<u32, Refusal> {
-    if s.live().is_empty() {
-        let made = enlist(alloc, s)?;
-        apply(s, made)?;
+    if course.state.live().is_empty() {
+        let made = enlist(alloc, &course.state)?;
+        course.make(alloc, made)?;
     }
-    let made = ordered(alloc, s, work, name, plan)?;
-    apply(s, made)?;
-    run(alloc, s)
+    let made = ordered(alloc, &course.state, work, name, plan)?;
+    course.make(alloc, made)?;
+    run(alloc, course)
 }
 
 // The step of the command.
@@ -86,13 +106,13 @@ fn ordered(
 }
 
 // How many turns the engine 1 has to make.
-fn run(alloc: Global, s: &mut State) -> Result<u32, Refusal> {
+fn run(alloc: Global, course: &mut Course) -> Result<u32, Refusal> {
     let Some(e) = EngineNo::new(1) else {
         return Ok(0);
     };
     for turns in 0..MOST_TURNS {
-        match turn(alloc, s, e, Reply::Works)? {
-            Some(made) => apply(s, made)?,
+        match turn(alloc, &course.state, e, Reply::Works)? {
+            Some(made) => course.make(alloc, made)?,
             None => return Ok(turns),
         }
     }

@@ -13,6 +13,8 @@ pub enum Shape {
     Chain,
     /// The last one needs all others.
     Fan,
+    /// Each needs the one above it in a binary tree.
+    Tree,
 }
 
 /// The stack's name and its plan; where it is changed, each third box is of another size, and each
@@ -42,7 +44,8 @@ fn line_of(alloc: Global, shape: Shape, count: u32, is_changed: bool) -> Result<
             line.push_str(",")?;
         }
         push_box(alloc, &mut line, place, is_changed)?;
-        push_needs(alloc, &mut line, first_need(shape, count, place), place)?;
+        let (first, behind) = needs(shape, count, place);
+        push_needs(alloc, &mut line, first, behind)?;
     }
     line.push_str("}}}")?;
     Ok(line)
@@ -61,10 +64,10 @@ fn push_box(alloc: Global, line: &mut String, place: u32, is_changed: bool) -> R
     Ok(())
 }
 
-// The needs of a box: those from the first up to its own place.
-fn push_needs(alloc: Global, line: &mut String, first: u32, place: u32) -> Result<()> {
+// The needs of a box: those from the first on, up to the one that stands behind the last.
+fn push_needs(alloc: Global, line: &mut String, first: u32, behind: u32) -> Result<()> {
     line.push_str("\"depends_on\":[")?;
-    for need in first..place {
+    for need in first..behind {
         if first < need {
             line.push_str(",")?;
         }
@@ -74,15 +77,12 @@ fn push_needs(alloc: Global, line: &mut String, first: u32, place: u32) -> Resul
     Ok(())
 }
 
-fn first_need(shape: Shape, count: u32, place: u32) -> u32 {
+// The first box that this one needs, and the one behind the last that it needs.
+fn needs(shape: Shape, count: u32, place: u32) -> (u32, u32) {
     match shape {
-        Shape::Chain => place.saturating_sub(1),
-        Shape::Fan => {
-            if place.saturating_add(1) < count {
-                place
-            } else {
-                0
-            }
-        }
+        Shape::Chain => (place.saturating_sub(1), place),
+        Shape::Fan if place.saturating_add(1) < count => (place, place),
+        Shape::Fan => (0, place),
+        Shape::Tree => (place.saturating_sub(1) / 2, place.saturating_add(1) / 2),
     }
 }
