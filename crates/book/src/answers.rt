@@ -1,17 +1,18 @@
 //! The turn of an engine whose request was answered.
-ghost use Rattle.std.specs.Prelude.{◌≡◌, IfErr, IfOk};
+ghost use Rattle.std.specs.Prelude.{◌≡◌, ◌≢◌, IfErr, IfOk};
 ghost use Rattle.heat_plan.specs.declared.calls.Answered.TheVariants as answers;
-ghost use Rattle.heat_plan.specs.declared.phase.Act.TheVariants.{Create};
+ghost use Rattle.heat_plan.specs.declared.phase.Act.TheVariants.{Create, Delete};
 ghost use Rattle.mail_table.specs.declared.mail.Stage.TheVariants.{Asking, Polling};
 ghost use Rattle.step_relation.specs.Asks.{Calls};
 ghost use Rattle.takeover_steps.specs.Answers.{AnswersAsk, AnswersPoll};
+ghost use Rattle.takeover_steps.specs.Lost.{IsOfUnknownSize};
 ghost use Rattle.book.specs.Makings.{IsQuietRefusal};
 ghost use Rattle.book.specs.Outcomes.{IsAnswered};
 
 use core_state::{Made, State};
 use heat_plan::{Answered, EngineNo, Refusal};
 use std::alloc::Global;
-use takeover_steps::{asked, polled, refused_creates};
+use takeover_steps::{asked, broken, polled, refused_creates};
 
 /// The turn that an ask's answer brings.
 pub(crate) fn ask_answered(
@@ -56,4 +57,30 @@ pub(crate) fn poll_answered(
     ensures cause { IfErr result (IsQuietRefusal state.now.state e) }
 {
     polled(alloc, state, e, answer)
+}
+
+/// The turn that a poll's answer of unknown size brings; where the resource is broken it is made of the turn
+/// of a failure, so that no rollback is laid out again.
+pub(crate) fn poll_told(
+    alloc: Global,
+    state: &State,
+    e: EngineNo,
+    answer: &Answered,
+    failed: Made,
+) -> Result<Made, Refusal>
+    requires calls { Calls state.now.state e Polling }
+    requires stays { (k : Calls state.now.state e Polling) → k.row.act ≢ Delete }
+    requires size { IsOfUnknownSize answer.now }
+    requires failed { IsAnswered state.now.state e answers.Failed failed }
+    ensures made { IfOk result (IsAnswered state.now.state e answer.now) }
+{
+    match answer {
+        Answered::Broken(code) => Ok(broken(alloc, failed, code)?),
+        Answered::Begun | Answered::Quota | Answered::Failed => {
+            poll_answered(alloc, state, e, answer)
+        }
+        Answered::NotYet | Answered::Ready(_) | Answered::Gone => {
+            poll_answered(alloc, state, e, answer)
+        }
+    }
 }

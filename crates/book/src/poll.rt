@@ -4,7 +4,6 @@ ghost use Rattle.std.specs.Prelude.{◌≡◌, ◌≢◌, ◌<◌, ◌≤◌, On
 ghost use Rattle.heat_plan.specs.declared.phase.Act.TheVariants.{Delete};
 ghost use Rattle.heat_plan.specs.declared.calls.Answered.TheVariants as answers;
 ghost use Rattle.mail_table.specs.declared.mail.Stage.TheVariants.{Polling};
-ghost use Rattle.core_state.specs.declared.made.Made.{Made as made_type};
 ghost use Rattle.step_relation.specs.Asks.{Calls};
 ghost use Rattle.step_relation.specs.Rows.{token_of};
 ghost use Rattle.takeover_steps.specs.Lost.{IsOfUnknownSize};
@@ -16,7 +15,7 @@ ghost use Rattle.book.specs.Scenes.{scene};
 ghost use Rattle.book.specs.SoundOver.{IsSoundOver};
 ghost use Rattle.book.specs.Turned.{Turned};
 
-use crate::answers::poll_answered;
+use crate::answers::{poll_answered, poll_told};
 use crate::called::{called_row, is_sent_away};
 use crate::going::look_for;
 use crate::making::{make, make_room, make_within};
@@ -123,11 +122,27 @@ fn poll_prepared<P: Provider>(
         }
         Poll::Ready(facts) => {
             let answer = Answered::Ready(facts);
-            learn(alloc, state, entries, e, outcomes.token, answer)
+            learn(
+                alloc,
+                state,
+                entries,
+                e,
+                outcomes.token,
+                answer,
+                outcomes.failed,
+            )
         }
         Poll::Broken(code) => {
             let answer = Answered::Broken(code);
-            learn(alloc, state, entries, e, outcomes.token, answer)
+            learn(
+                alloc,
+                state,
+                entries,
+                e,
+                outcomes.token,
+                answer,
+                outcomes.failed,
+            )
         }
         Poll::Memory => Turn::Memory,
     }
@@ -141,17 +156,18 @@ fn learn(
     e: EngineNo,
     token: Token,
     answer: Answered,
+    failed: Made,
 ) -> Turn
     requires calls { Calls state.old.state e Polling }
     requires stays { (k : Calls state.old.state e Polling) → k.row.act ≢ Delete }
     requires token { (k : Calls state.old.state e Polling) → token ≡ token_of k.row }
-    requires failed { (m : made_type) × IsAnswered state.old.state e answers.Failed m }
+    requires failed { IsAnswered state.old.state e answers.Failed failed }
     requires size { IsOfUnknownSize answer }
     requires page { 0 < entries.old.spare }
     ensures { HasLearned e answer
         (page state.old.state entries.old.items) (page state.new.state entries.new.items) result }
 {
-    match store(alloc, state, entries, e, &answer) {
+    match store(alloc, state, entries, e, &answer, failed) {
         Ok(()) => Turn::Stepped,
         Err(_) => {
             let what = What::Call {
@@ -175,17 +191,19 @@ fn store(
     entries: &mut Roomed<Entry>,
     e: EngineNo,
     answer: &Answered,
+    failed: Made,
 ) -> Result<(), Refusal>
     requires calls { Calls state.old.state e Polling }
     requires stays { (k : Calls state.old.state e Polling) → k.row.act ≢ Delete }
     requires size { IsOfUnknownSize answer.now }
+    requires failed { IsAnswered state.old.state e answers.Failed failed }
     ensures stored { OnOk result (IsStored e answer.now
         (page state.old.state entries.old.items) (page state.new.state entries.new.items)) }
     ensures same { OnErr result (state.new.state ≡ state.old.state) }
     ensures silent { OnErr result (entries.new.items ≡ entries.old.items) }
     ensures page { OnErr result (entries.old.spare ≤ entries.new.spare) }
 {
-    let made = poll_answered(alloc, state, e, answer)?;
+    let made = poll_told(alloc, state, e, answer, failed)?;
     make(state, entries, made)?;
     Ok(())
 }

@@ -21,7 +21,7 @@ said_of_exit Worn = codes "worn"
 
 abbrev pub said_of : Ended → List ℕ
 said_of (Called e) = said_of_exit e
-said_of CloudFile = codes "cloud file"
+said_of (CloudFile fault) = codes "cloud file"
 
 abbrev pub found_of : Finding → List ℕ
 found_of Stranger = codes "stranger"

@@ -1,16 +1,17 @@
 //! How the program ends: as the top call says, or for its cloud file.
 ghost use Rattle.std.specs.Prelude.{◌≡◌};
 
+use crate::file_fault::FileFault;
 use crate::kept_cloud::KeepFault;
 use converge_call::Exit;
 
 /// How the program ends.
-#[derive(Debug, PartialEq, Eq, Drop)]
+#[derive(Debug, Drop)]
 pub enum Ended {
     /// As the top call says, or for want of memory beside it.
     Called(Exit),
-    /// The cloud file can't be read or written, or is none.
-    CloudFile,
+    /// This is wrong with the cloud file.
+    CloudFile(FileFault),
 }
 
 impl From<KeepFault> for Ended {
@@ -20,7 +21,7 @@ impl From<KeepFault> for Ended {
 
     fn from(fault: KeepFault) -> Ended {
         match fault {
-            KeepFault::File => Ended::CloudFile,
+            KeepFault::File(fault) => Ended::CloudFile(fault),
             KeepFault::Memory => Ended::Called(Exit::Memory),
         }
     }
@@ -46,7 +47,7 @@ impl Ended {
     {
         match self {
             Ended::Called(exit) => exit.code(),
-            Ended::CloudFile => 12,
+            Ended::CloudFile(_) => 12,
         }
     }
 }

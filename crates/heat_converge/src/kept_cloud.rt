@@ -1,20 +1,23 @@
 //! The simulated cloud between two runs: a file that is read before the top call and written after it. What a
 //! file holds, and that it keeps what was synced, is trusted here, and no clause says it.
-ghost use Rattle.std.specs.Prelude.{◌≡◌};
+ghost use Rattle.std.specs.Prelude.{◌≡◌, IfOk, IfErr};
+ghost use Rattle.cloud_file.specs.Files.{IsFileOf};
+ghost use Rattle.heat_converge.specs.FileFaults.{IsWrong};
 
 use crate::empty_cloud;
+use crate::file_fault::FileFault;
 use cloud_file::{CloudFileFault, read, text};
 use heat_value::Text;
 use sim_cloud::SimCloud;
-use std::alloc::AllocError;
+use std::alloc::{AllocError, Global};
 use std::fs::{self, File};
 use std::io::{self, ErrorKind, Write};
 
 /// Why the cloud file wasn't read or written.
-#[derive(Clone, Copy, Debug, PartialEq, Eq)]
+#[derive(Debug, Drop)]
 pub enum KeepFault {
-    /// It can't be read or written, or what it holds is no cloud file.
-    File,
+    /// This is wrong with it.
+    File(FileFault),
     /// There was no memory.
     Memory,
 }
@@ -32,16 +35,24 @@ impl From<AllocError> for KeepFault {
 /// The cloud of the file at this path; an empty one where there is no such file.
 pub fn load(rt: &HostRuntime, path: &Text) -> Result<SimCloud, KeepFault> {
     match fs::read(rt, path.as_str()) {
-        Ok(bytes) => match read(rt.alloc(), &bytes) {
-            Ok(cloud) => Ok(cloud),
-            Err(CloudFileFault::NotJson) => Err(KeepFault::File),
-            Err(CloudFileFault::Shape(_)) => Err(KeepFault::File),
-            Err(CloudFileFault::Memory) => Err(KeepFault::Memory),
-        },
+        Ok(bytes) => cloud_of(rt.alloc(), &bytes),
         Err(error) => match error.kind() {
             ErrorKind::NotFound => Ok(empty_cloud(rt.alloc())?),
             kind => Err(fault_of(kind)),
         },
+    }
+}
+
+// The cloud that a file's bytes say, or what is wrong with them.
+fn cloud_of(alloc: Global, bytes: &[u8]) -> Result<SimCloud, KeepFault>
+    ensures ok { IfOk result (λ c. IsFileOf bytes.now c) }
+    ensures fault { IfErr result (λ e. IsWrong bytes.now e) }
+{
+    match read(alloc, bytes) {
+        Ok(cloud) => Ok(cloud),
+        Err(CloudFileFault::NotJson) => Err(KeepFault::File(FileFault::NotJson)),
+        Err(CloudFileFault::Shape(path)) => Err(KeepFault::File(FileFault::Shape(path))),
+        Err(CloudFileFault::Memory) => Err(KeepFault::Memory),
     }
 }
 
@@ -50,7 +61,7 @@ fn fault_of(kind: ErrorKind) -> KeepFault {
     if kind == ErrorKind::OutOfMemory {
         KeepFault::Memory
     } else {
-        KeepFault::File
+        KeepFault::File(FileFault::OutOfReach)
     }
 }
 

@@ -1,5 +1,6 @@
 //! The cloud file on a disk: one that is missing, one that is stored and loaded again, and those that can't be.
 use crate::empty_cloud;
+use crate::file_fault::line_for;
 use crate::kept_cloud::{KeepFault, load, store};
 use cloud_file::text;
 use heat_value::Text;
@@ -7,8 +8,8 @@ use std::alloc::{AllocError, Global};
 use std::fs;
 use std::test::Fail;
 
-fn path(alloc: Global, path: &str) -> Result<Text, AllocError> {
-    Text::from_str(alloc, path)
+fn text_of(alloc: Global, text: &str) -> Result<Text, AllocError> {
+    Text::from_str(alloc, text)
 }
 
 // Loads the cloud of a file, and stores it again.
@@ -21,7 +22,16 @@ fn again(rt: &HostRuntime, path: &Text) -> Result<(), KeepFault> {
 fn loaded(rt: &HostRuntime, path: &Text) -> Result<Option<Text>, AllocError> {
     match load(rt, path) {
         Ok(cloud) => Ok(Some(text(rt.alloc(), &cloud)?)),
-        Err(KeepFault::File) => Ok(None),
+        Err(KeepFault::File(_)) => Ok(None),
+        Err(KeepFault::Memory) => Err(AllocError),
+    }
+}
+
+// What is told of a file that can't be loaded and stored again.
+fn told(rt: &HostRuntime, path: &str) -> Result<Option<Text>, AllocError> {
+    match again(rt, &Text::from_str(rt.alloc(), path)?) {
+        Ok(()) => Ok(None),
+        Err(KeepFault::File(fault)) => Ok(Some(line_for(rt.alloc(), &fault)?)),
         Err(KeepFault::Memory) => Err(AllocError),
     }
 }
@@ -29,30 +39,40 @@ fn loaded(rt: &HostRuntime, path: &Text) -> Result<Option<Text>, AllocError> {
 #[test]
 fn a_missing_file_is_an_empty_cloud(rt: HostRuntime) -> Result<(), Fail> {
     let empty = text(rt.alloc(), &empty_cloud(rt.alloc())?)?;
-    let loaded = loaded(&rt, &path(rt.alloc(), "no_such_cloud")?)?;
+    let loaded = loaded(&rt, &text_of(rt.alloc(), "no_such_cloud")?)?;
     assert_eq!(rt; loaded, Some(empty));
     Ok(())
 }
 
 #[test]
 fn a_file_is_replaced_whole(rt: HostRuntime) -> Result<(), Fail> {
-    let path = path(rt.alloc(), "cloud_of_the_test")?;
-    fs::write(&rt, path.as_str(), br#"{"quotas":{"K":1},"faults":[1]}"#)?;
-    assert_eq!(rt; again(&rt, &path), Ok(()));
+    fs::write(
+        &rt,
+        "cloud_of_the_test",
+        br#"{"quotas":{"K":1},"faults":[1]}"#,
+    )?;
+    assert_eq!(rt; told(&rt, "cloud_of_the_test")?, None);
     let wanted = br#"{"alive":[],"broken":{},"delays":{},"quotas":{"K":1}}"#;
-    assert_eq!(rt; fs::read(&rt, path.as_str())?.as_slice(), wanted.as_slice());
+    assert_eq!(rt;
+        fs::read(&rt, "cloud_of_the_test")?.as_slice(),
+        wanted.as_slice()
+    );
     assert_eq!(rt; fs::read(&rt, "cloud_of_the_test.new").is_err(), true);
     Ok(())
 }
 
 #[test]
 fn what_cannot_be_read_or_written_is_told(rt: HostRuntime) -> Result<(), Fail> {
-    let wrong = path(rt.alloc(), "no_cloud_of_the_test")?;
-    fs::write(&rt, wrong.as_str(), b"[]")?;
-    assert_eq!(rt; again(&rt, &wrong), Err(KeepFault::File));
-    assert_eq!(rt; fs::read(&rt, wrong.as_str())?.as_slice(), b"[]".as_slice());
-    assert_eq!(rt; again(&rt, &path(rt.alloc(), ".")?), Err(KeepFault::File));
-    let nowhere = path(rt.alloc(), "no such folder/file")?;
-    assert_eq!(rt; again(&rt, &nowhere), Err(KeepFault::File));
+    fs::write(&rt, "no_cloud_of_the_test", b"[]")?;
+    let wrong = text_of(rt.alloc(), "its shape is wrong at []")?;
+    assert_eq!(rt; told(&rt, "no_cloud_of_the_test")?, Some(wrong));
+    assert_eq!(rt;
+        fs::read(&rt, "no_cloud_of_the_test")?.as_slice(),
+        b"[]".as_slice()
+    );
+    for place in [".", "no such folder/file"] {
+        let lost = text_of(rt.alloc(), "it can't be read or written")?;
+        assert_eq!(rt; told(&rt, place)?, Some(lost));
+    }
     Ok(())
 }

@@ -5,6 +5,7 @@
 #![tactic(auto)]
 
 mod ended;
+mod file_fault;
 mod kept_cloud;
 #[cfg(test)]
 mod kept_cloud_tests;
@@ -12,6 +13,7 @@ mod said;
 
 use converge_call::{Exit, Outcome, WordsFault, converge_shipped, words_of};
 use ended::Ended;
+use file_fault::{FileFault, line_for};
 use heat_io::{StdSink, StdSource};
 use heat_value::Text;
 use kept_cloud::{load, store};
@@ -105,9 +107,20 @@ fn say(rt: &HostRuntime, ended: &Ended) {
             let finding = word_for(*finding);
             let _ = eprintln!(rt; "heat_converge: {words} {stack}/{name}/{row} {finding}");
         }
-        _ => {
+        Ended::CloudFile(fault) => {
+            let _ = eprintln!(rt; "heat_converge: {words}");
+            say_fault(rt, fault);
+        }
+        Ended::Called(_) => {
             let _ = eprintln!(rt; "heat_converge: {words}");
         }
+    }
+}
+
+// Says in a second line what is wrong with the cloud file; without memory there is no such line.
+fn say_fault(rt: &HostRuntime, fault: &FileFault) {
+    if let Ok(line) = line_for(rt.alloc(), fault) {
+        let _ = eprintln!(rt; "heat_converge: {}", line.as_str());
     }
 }
 

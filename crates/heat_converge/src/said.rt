@@ -11,7 +11,7 @@ pub fn words_for(ended: &Ended) -> &'static str
 {
     match ended {
         Ended::Called(exit) => words_for_exit(exit),
-        Ended::CloudFile => "cloud file",
+        Ended::CloudFile(_) => "cloud file",
     }
 }
 

@@ -17,6 +17,12 @@ pub mod Weights
 pub mod Kept
 pub mod Steps
 pub mod Gathers
+pub mod Noting
+pub mod Reading
+pub mod Deeper
 pub mod Made
 pub mod Calls
+pub mod Looking
+pub mod Choosing
+pub mod Told
 pub mod Flags

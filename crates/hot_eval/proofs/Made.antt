@@ -6,6 +6,7 @@ use Rattle.heat_value.specs.Data.{Data, Members, fields, depth}
 use Rattle.hot_eval.specs.Answers.{IsFaultIn, IsOutcome, IsMadeOf}
 use Rattle.eval_words.specs.Outcomes.{Outcome, Gives, Faults, is_result, max_levels, size}
 use Rattle.eval_words.specs.Evaluation.{Leveled, value_outcome, members_outcome, evaluation, evaluation_within}
+use Rattle.eval_words.specs.Reads.{all_reads, reads_within}
 use Rattle.eval_words.specs.Resolutions.{unless_large, eval, properties}
 use Rattle.eval_words.specs.Scenes.{SceneData}
 use Rattle.eval_words.specs.declared.code.FaultCode.TheVariants.{F06}
@@ -76,3 +77,12 @@ up_to limit r S T none scene =
 pub root_is : (r : ℕ) (S T : SceneData) → r ≡ 0 → T ≡ S → evaluation_within (max_levels - r) T ≡ evaluation S
 unfolding evaluation
 root_is r S T none scene = up_to max_levels r S T none scene
+
+reads_to : (limit r : ℕ) (S T : SceneData) → r ≡ 0 → T ≡ S → reads_within (limit - r) T ≡ reads_within limit S
+reads_to limit r S T none scene =
+    let all : limit - r ≡ limit = omega (arith, none) in
+    ap (λ (m : ℕ). reads_within m T) all ∙ ap (reads_within limit) scene
+
+pub root_reads : (r : ℕ) (S T : SceneData) → r ≡ 0 → T ≡ S → reads_within (max_levels - r) T ≡ all_reads S
+unfolding all_reads
+root_reads r S T none scene = reads_to max_levels r S T none scene

@@ -302,7 +302,7 @@ first_with k (node d ns) zero c cs all below = (map (λ e. (k, d) ∷ e) cs ++ e
 first_with k (node d ns) (suc p) c cs all below = first_with k ns p c cs all (omega (arith, below))
 
 -- the first choice from places on is the one at them
-first_choice : (ls : Lists) (ps : List ℕ) → ArePlaces ls ps
+pub first_choice : (ls : Lists) (ps : List ℕ) → ArePlaces ls ps
     → (rest : List Choice) × (choices_from ls ps ≡ choice_at ls ps ∷ rest)
 first_choice [] ps h = ([], refl)
 first_choice (l ∷ ls) [] h = absurd h

@@ -3,3 +3,4 @@ pub mod Rooms
 pub mod Seen
 pub mod Gathered
 pub mod Answers
+pub mod Noted

@@ -3,6 +3,7 @@ ghost use Rattle.std.specs.Prelude.{◌≡◌, true, false, Some, IfOk};
 ghost use Rattle.heat_value.specs.Data.{node};
 ghost use Rattle.heat_value.specs.Meaning.{data_of, nodes_of};
 ghost use Rattle.hot_eval.specs.Answers.{IsPicked, branch_nodes};
+ghost use Rattle.hot_eval.specs.Noted.{IsPickedToRead};
 
 use heat_value::{Items, Value};
 use std::alloc::{AllocError, Global};
@@ -21,7 +22,8 @@ pub enum Picked<'a> {
 /// The first branch where the condition is true, the second or null where it is false, none where it has
 /// no value.
 pub fn pick<'a>(flag: Option<bool>, branches: &'a [Value]) -> Picked<'a>
-    ensures { IsPicked result flag (nodes_of branches.now) }
+    ensures outcome { IsPicked result flag (nodes_of branches.now) }
+    ensures looks { IsPickedToRead result flag (nodes_of branches.now) }
 {
     match flag {
         Some(true) => first_branch(branches),
@@ -32,7 +34,8 @@ pub fn pick<'a>(flag: Option<bool>, branches: &'a [Value]) -> Picked<'a>
 
 // What a true condition picks: the first branch, if there is one.
 fn first_branch(branches: &[Value]) -> Picked
-    ensures { IsPicked result (Some true) (nodes_of branches.now) }
+    ensures outcome { IsPicked result (Some true) (nodes_of branches.now) }
+    ensures looks { IsPickedToRead result (Some true) (nodes_of branches.now) }
 {
     match branches {
         [first, ..] => Picked::Branch(1, first),
@@ -42,7 +45,8 @@ fn first_branch(branches: &[Value]) -> Picked
 
 // What a false condition picks: the second branch, and null where there is none.
 fn second_branch(branches: &[Value]) -> Picked
-    ensures { IsPicked result (Some false) (nodes_of branches.now) }
+    ensures outcome { IsPicked result (Some false) (nodes_of branches.now) }
+    ensures looks { IsPickedToRead result (Some false) (nodes_of branches.now) }
 {
     match branches {
         [_, second, ..] => Picked::Branch(2, second),

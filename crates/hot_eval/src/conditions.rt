@@ -10,6 +10,7 @@ ghost use Rattle.eval_words.specs.Scenes.{scene_data};
 
 use crate::depth::Depth;
 use crate::evaluation::condition;
+use crate::looked::Looked;
 use crate::setting::Setting;
 use crate::sorts::flag_in;
 use crate::sum::Sum;
@@ -48,7 +49,12 @@ pub fn flag_or_missed(
     ensures { IfOk result (λ t. t.flag ≡ the_flag_of params.now (valued_data known.entry) (data_of given.now)) }
 {
     let mut sum = Sum::new();
-    match condition(&setting(alloc, params, known), given, &mut sum) {
+    match condition(
+        &setting(alloc, params, known),
+        given,
+        &mut sum,
+        &mut Looked::unasked(),
+    ) {
         Ok(made) => Ok(Tried {
             flag: flag_in(&made),
             missed: sum.missed(),

@@ -110,8 +110,8 @@ pub fn referred(member: &Member) -> Option<&Text>
     None
 }
 
-// The text at the front of a list.
-fn first_text(argument: &Value) -> Option<&Text>
+/// The text at the front of a list.
+pub fn first_text(argument: &Value) -> Option<&Text>
     ensures { option_map (λ t. t.now) result ≡ the_first_text (data_of argument.now) }
 {
     match list_in(argument) {

@@ -2,6 +2,7 @@
 ghost use Rattle.std.specs.Prelude.{◌≡◌, ℕ, suc, [], IfOk, IfErr};
 ghost use Rattle.heat_value.specs.Data.{Data};
 ghost use Rattle.hot_eval.specs.Answers.{again, levels, inside_again};
+ghost use Rattle.hot_eval.specs.Noted.{reads_again, reads_inside_again, value_looks};
 ghost use Rattle.eval_words.specs.Evaluation.{value_outcome};
 ghost use Rattle.eval_words.specs.Faults.{here};
 ghost use Rattle.eval_words.specs.Outcomes.{Faults};
@@ -25,6 +26,7 @@ impl<'a> Setting<'a> {
     pub fn inside(&self) -> Result<Setting<'a>, EvalFault>
         ensures scene { IfOk result (λ s. scene_data s.scene ≡ scene_data self.now.scene) }
         ensures again { IfOk result (λ s. again s ≡ again self.now) }
+        ensures reads { IfOk result (λ s. reads_again s ≡ reads_again self.now) }
         ensures less { IfOk result (λ s. levels self.now ≡ suc (levels s)) }
         ensures err { IfErr result (λ e. (e ≡ here F07) × (levels self.now ≡ 0)) }
     {
@@ -42,9 +44,11 @@ impl<'a> Setting<'a> {
     pub fn repeated(&self) -> Result<Setting<'a>, EvalFault>
         ensures again { IfOk result (λ s. (d : Data) (n : ℕ)
             → inside_again self.now d n ≡ value_outcome (again s) (scene_data s.scene) (levels s) d n) }
+        ensures reads { IfOk result (λ s. (d : Data) (n : ℕ) → reads_inside_again self.now d n ≡ value_looks s d n) }
         ensures less { IfOk result (λ s. levels self.now ≡ suc (levels s)) }
         ensures err { IfErr result (λ e. (e ≡ here F07)
-            × ((d : Data) (n : ℕ) → inside_again self.now d n ≡ Faults F07 [])) }
+            × ((d : Data) (n : ℕ) → inside_again self.now d n ≡ Faults F07 [])
+            × ((d : Data) (n : ℕ) → reads_inside_again self.now d n ≡ [])) }
     {
         match self.depth.repeated() {
             Some(depth) => Ok(Setting {

@@ -8,5 +8,6 @@ pub mod Refusing
 pub mod Fallen
 pub mod Called
 pub mod LostLemmas
+pub mod BrokenTurns
 pub mod SpareLemmas
 pub mod Twice

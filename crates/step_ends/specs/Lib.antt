@@ -4,3 +4,4 @@ pub mod Marks
 pub mod Falls
 pub mod Spares
 pub mod Lost
+pub mod Broken

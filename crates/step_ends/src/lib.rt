@@ -8,6 +8,7 @@ ghost use Rattle.step_ends.specs.Lost.{LostAnswerIsAStep};
 
 mod again;
 mod ask;
+mod breaking;
 mod calls;
 mod failing;
 mod falling;
@@ -17,6 +18,7 @@ mod rolling;
 mod sparing;
 
 pub use ask::{asked, refused_creates};
+pub use breaking::broken;
 pub use overruns::{begin_overrun, finish_overrun, takeover_overrun};
 pub use poll::polled;
 pub use rolling::rolled_behind;

@@ -11,6 +11,6 @@ mod taking_over;
 
 pub use enlisting::enlist;
 pub use restarting::restart;
-pub use step_ends::{asked, begin_overrun, polled, refused_creates};
+pub use step_ends::{asked, begin_overrun, broken, polled, refused_creates};
 pub use stopping::stop;
 pub use taking_over::takeover;

@@ -30,25 +30,50 @@ fn push_times(text: &mut String, part: &str, times: usize) -> Result<(), AllocEr
     Ok(())
 }
 
-// What a repeat of so many choices comes to, each of which gives a long text to a function.
+// Adds a repeat of so many choices, each of which gives a long text to a function.
+fn push_repeat(text: &mut String, count: usize) -> Result<(), AllocError> {
+    text.push_str("{'repeat':{'template':{'contains':['z','")?;
+    push_times(text, "yyyyyyyyyy", 10_000)?;
+    text.push_str("']},'for_each':{'%k%':['a'")?;
+    push_times(text, ",'a'", count.saturating_sub(1))?;
+    text.push_str("]}}}")
+}
+
+// What such a repeat comes to.
 struct Repeated;
 
 impl Counter for Repeated {
     fn told_of(&self, alloc: Global, count: usize) -> Result<String, AllocError> {
-        let mut text = String::from_str(alloc, "{'repeat':{'template':{'contains':['z','")?;
-        push_times(&mut text, "yyyyyyyyyy", 10_000)?;
-        text.push_str("']},'for_each':{'%k%':['a'")?;
-        push_times(&mut text, ",'a'", count.saturating_sub(1))?;
-        text.push_str("]}}}")?;
+        let mut text = String::new(alloc);
+        push_repeat(&mut text, count)?;
         made_of(alloc, text.as_str())
     }
 }
 
-const CHOICES: &[Count] = &[(83, "made"), (84, "F07 []")];
+// What 83 choices leave is counted below.
+const CHOICES: &[Count] = &[(84, "F07 []")];
+
+// What a function of a text of so many bytes comes to behind such a repeat of 83 choices.
+struct Behind;
+
+impl Counter for Behind {
+    fn told_of(&self, alloc: Global, count: usize) -> Result<String, AllocError> {
+        let mut text = String::from_str(alloc, "[")?;
+        push_repeat(&mut text, 83)?;
+        text.push_str(",{'contains':['z','")?;
+        push_times(&mut text, "y", count)?;
+        text.push_str("']}]")?;
+        made_of(alloc, text.as_str())
+    }
+}
+
+// 83 choices cost 16,703,708 with the repeat; the function costs 13 more than its text has bytes.
+const LEFT: &[Count] = &[(73_495, "made"), (73_496, "F07 [1]")];
 
 #[test]
 fn costs_end_an_evaluation(rt: HostRuntime) -> Result<(), AllocError> {
-    all_counted(&rt, &Repeated, CHOICES)
+    all_counted(&rt, &Repeated, CHOICES)?;
+    all_counted(&rt, &Behind, LEFT)
 }
 
 // What a list comes to of many numbers, and this behind them.

@@ -1,9 +1,10 @@
-//! What the properties of an item resolve to, and the names that a value and a map of properties need.
+//! What the properties of an item resolve to, the names that are looked up for them, and the names that a
+//! value and a map of properties need.
 use crate::cases::{Case, Teller, all_told, value_of, value_words};
 use crate::plans::{both_known, eval_fault_words, name_of, plan_of, properties_of, props_of};
 use heat_plan::{Item, Needs, Properties};
-use heat_value::{TryCopy, Value};
-use hot_eval::{needs_of, needs_of_props, resolve};
+use heat_value::{Text, TryCopy, Value};
+use hot_eval::{looked_up, needs_of, needs_of_props, resolve};
 use sample_plans::bare_item;
 use std::alloc::{AllocError, Global};
 
@@ -51,6 +52,61 @@ const RESOLVED: &[Case] = &[
 #[test]
 fn properties_are_resolved(rt: HostRuntime) -> Result<(), AllocError> {
     all_told(&rt, &Resolved, RESOLVED)
+}
+
+// The names of these texts, parted by commas.
+fn texts_listed(alloc: Global, names: &[Text]) -> Result<String, AllocError> {
+    let mut words = String::new(alloc);
+    for name in names {
+        words.push_str(name.as_str())?;
+        words.push_str(",")?;
+    }
+    Ok(words)
+}
+
+// The names that the evaluation of an item's properties looks up.
+struct LookedUp;
+
+impl Teller for LookedUp {
+    fn told(&self, alloc: Global, given: &str) -> Result<String, AllocError> {
+        let item = item_of(alloc, properties_of(alloc, given)?)?;
+        let plan = plan_of(alloc)?;
+        let known = both_known(alloc)?;
+        let names = looked_up(alloc, &plan, &item, known.as_slice())?;
+        texts_listed(alloc, names.as_slice())
+    }
+}
+
+// In order, each as often as it is looked up, none of a branch that isn't chosen, up to the first fault.
+const LOOKED_UP: &[Case] = &[
+    ("{'a':1,'b':['x',null]}", ""),
+    (
+        "{'a':[{'get_attr':['b','x']},{'get_resource':'a'}],'b':{'get_resource':'b'}}",
+        "b,a,b,",
+    ),
+    (
+        "{'a':{'if':['on',{'get_resource':'t'},{'get_resource':'f'}]}}",
+        "t,",
+    ),
+    (
+        "{'a':{'if':['off',{'get_resource':'t'},{'get_resource':'f'}]}}",
+        "f,",
+    ),
+    ("{'a':{'get_resource':'gone'}}", "gone,"),
+    (
+        "{'a':{'get_resource':'a'},'b':{'get_file':'g'},'c':{'get_resource':'c'}}",
+        "a,",
+    ),
+    (
+        "{'a':{'repeat':{'template':{'get_resource':'%x%'},'for_each':{'%x%':['a','b']}}}}",
+        "a,b,",
+    ),
+    ("{'get_resource':'a'}", ""),
+];
+
+#[test]
+fn names_are_looked_up(rt: HostRuntime) -> Result<(), AllocError> {
+    all_told(&rt, &LookedUp, LOOKED_UP)
 }
 
 // The names, parted by commas.

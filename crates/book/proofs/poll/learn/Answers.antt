@@ -11,7 +11,8 @@ returns-in-Ok c = stored c.in-Ok.ensures.stored refl
 pub returns-in-Err : goal.returns-in-Err
 returns-in-Err c =
     let k = c.requires.calls in
-    let (made, turn) = c.requires.failed in
+    let made = c.args.failed in
+    let turn = c.requires.failed in
     told k
     (lost_alone _ c.args.e k c.args.answer (c.requires.stays k) c.requires.size made.changes made.entries
     turn.turn (unworn _ c.args.e _ made turn))

@@ -23,7 +23,7 @@ pub learn-requires-clause-token : goal.learn-requires-clause-token
 learn-requires-clause-token g c k = c.requires.made.token ∙ ap token_of (sym (c.requires.made.called Polling k))
 
 pub learn-requires-clause-failed : goal.learn-requires-clause-failed
-learn-requires-clause-failed g c = (c.args.outcomes.failed, c.requires.made.failed)
+learn-requires-clause-failed g c = c.requires.made.failed
 
 pub learn-requires-clause-size : goal.learn-requires-clause-size
 learn-requires-clause-size g c = lost.ready c.in-Ready.facts
@@ -33,7 +33,7 @@ learn-requires-in-Broken-clause-token g c k = c.requires.made.token ∙ ap token
     (sym (c.requires.made.called Polling k))
 
 pub learn-requires-in-Broken-clause-failed : goal.learn-requires-in-Broken-clause-failed
-learn-requires-in-Broken-clause-failed g c = (c.args.outcomes.failed, c.requires.made.failed)
+learn-requires-in-Broken-clause-failed g c = c.requires.made.failed
 
 pub learn-requires-in-Broken-clause-size : goal.learn-requires-in-Broken-clause-size
 learn-requires-in-Broken-clause-size g c = lost.broken c.in-Broken.code

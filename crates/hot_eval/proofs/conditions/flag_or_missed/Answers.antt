@@ -13,10 +13,10 @@ returns-in-Ok c =
     c.flag_in.ensures
     ∙ flag_is (again c.setting.result) (in_conditions c.args.params.now (valued_data c.args.known))
     (scene_data c.setting.result.scene) (levels c.setting.result) (data_of c.args.given.now) _ _ c.setting.ensures.scene c.setting.ensures.again c.setting.ensures.levels
-    c.new-sum.ensures c.in-Ok.ensures
+    c.new-sum.ensures c.in-Ok.ensures.outcome
 
 pub returns-in-Err-Wrong : goal.returns-in-Err-Wrong
 returns-in-Err-Wrong c =
     flag_is (again c.setting.result) (in_conditions c.args.params.now (valued_data c.args.known))
     (scene_data c.setting.result.scene) (levels c.setting.result) (data_of c.args.given.now) _ _ c.setting.ensures.scene c.setting.ensures.again c.setting.ensures.levels
-    c.new-sum.ensures (rw c.in-Err-Wrong.field-0-is at c.in-Err-Wrong.ensures)
+    c.new-sum.ensures (rw c.in-Err-Wrong.field-0-is at c.in-Err-Wrong.ensures.outcome)

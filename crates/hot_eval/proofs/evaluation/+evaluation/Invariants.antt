@@ -1,4 +1,4 @@
-use Rattle.std.proofs.Common.{◌+◌, ◌*◌, length}
+use Rattle.std.proofs.Common.{◌+◌, ◌*◌, length, drop}
 use Rattle.heat_value.specs.Meaning.{data_of, nodes_of, members_of}
 use Rattle.hot_eval.specs.Answers.{again, inside_again, levels}
 use Rattle.eval_words.specs.Choices.{choices}
@@ -6,6 +6,9 @@ use Rattle.eval_words.specs.Evaluation.{values_outcome, members_outcome, all_but
 use Rattle.eval_words.specs.Evaluation.{choices_outcome}
 use Rattle.hot_eval.specs.Repeats.{lists_of, ArePlaces, choices_from, IsChoiceAt}
 use Rattle.eval_words.specs.Scenes.{scene_data}
+use Rattle.eval_words.specs.Looks.{choices_reads}
+use Rattle.hot_eval.specs.Noted.{reads_inside_again, values_looks, conditions_looks, members_looks, all_but_looks}
+use Rattle.hot_eval.proofs.Noting.{IsReadWay}
 use Rattle.hot_eval.proofs.Steps.{IsListWay, IsMapWay, IsChoiceWay}
 use Rattle.hot_eval.proofs.evaluation.+evaluation.Given as goal
 
@@ -15,24 +18,32 @@ abbrev pub invariant-values-loop-place : goal.invariant-values-loop-place
 invariant-values-loop-place l =
     IsListWay (values_outcome (again l.set) (scene_data l.set.scene) (levels l.set))
     (values_outcome (again l.set) (scene_data l.set.scene) (levels l.set) 0 (nodes_of l.given) l.fn.sum) l.items l.place l.given l.sum
+    × IsReadWay (values_looks l.set (nodes_of l.given) l.fn.sum) (values_looks l.set (nodes_of (drop l.place l.given)) l.sum)
+    l.fn.looked l.looked
 
 abbrev pub invariant-conditions-loop-place : goal.invariant-conditions-loop-place
 invariant-conditions-loop-place l =
     IsListWay (conditions_outcome (again l.set) (scene_data l.set.scene) (levels l.set))
     (conditions_outcome (again l.set) (scene_data l.set.scene) (levels l.set) 0 (nodes_of l.given) l.fn.sum) l.items l.place l.given
     l.sum
+    × IsReadWay (conditions_looks l.set (nodes_of l.given) l.fn.sum) (conditions_looks l.set (nodes_of (drop l.place l.given)) l.sum)
+    l.fn.looked l.looked
 
 abbrev pub invariant-members-loop-member : goal.invariant-members-loop-member
 invariant-members-loop-member l =
     IsMapWay (members_outcome (again l.set) (scene_data l.set.scene) (levels l.set))
     (members_outcome (again l.set) (scene_data l.set.scene) (levels l.set) (members_of l.member-items) l.fn.sum) l.fields
     (members_of l.member-items) l.member-index l.member-items l.sum
+    × IsReadWay (members_looks l.set (members_of l.member-items) l.fn.sum)
+    (members_looks l.set (members_of (drop l.member-index l.member-items)) l.sum) l.fn.looked l.looked
 
 abbrev pub invariant-all_but-loop-member : goal.invariant-all_but-loop-member
 invariant-all_but-loop-member l =
     IsMapWay (all_but_outcome (again l.set) (scene_data l.set.scene) (levels l.set) l.but)
     (all_but_outcome (again l.set) (scene_data l.set.scene) (levels l.set) l.but (members_of l.member-items) l.fn.sum) l.fields
     (members_of l.member-items) l.member-index l.member-items l.sum
+    × IsReadWay (all_but_looks l.set l.but (members_of l.member-items) l.fn.sum)
+    (all_but_looks l.set l.but (members_of (drop l.member-index l.member-items)) l.sum) l.fn.looked l.looked
 
 abbrev pub invariant-choice_values-loop-choice : goal.invariant-choice_values-loop-choice
 invariant-choice_values-loop-choice l =
@@ -41,6 +52,10 @@ invariant-choice_values-loop-choice l =
     l.fn.sum) l.items (choices_from (lists_of l.lists) l.places.items) l.sum
     × ArePlaces (lists_of l.lists) l.places.items
     × IsChoiceAt (lists_of l.lists) l.places.items l.stocks.items l.choice
+    × IsReadWay (choices_reads (inside_again l.set) (reads_inside_again l.set) (data_of l.repetition.template.now)
+    (choices (lists_of l.repetition.lists.items)) l.fn.sum)
+    (choices_reads (inside_again l.set) (reads_inside_again l.set) (data_of l.repetition.template.now)
+    (choices_from (lists_of l.lists) l.places.items) l.sum) l.fn.looked l.looked
 
 abbrev pub decreases-choice_values-loop-choice : goal.decreases-choice_values-loop-choice
 decreases-choice_values-loop-choice l = length (choices_from (lists_of l.lists) l.places.items)

@@ -9,4 +9,4 @@ returns c =
     made_of data_of c.value.result _ _ _
     (eval_is (again c.setting.result) (scene_of c.args.plan.now c.args.known.now) (scene_data c.setting.result.scene) (levels c.setting.result)
     (data_of c.args.given.now) _ c.setting.ensures.scene c.setting.ensures.again c.setting.ensures.levels c.new.ensures)
-    c.value.ensures
+    c.value.ensures.outcome

@@ -10,7 +10,7 @@ returns c =
     (properties_are (again c.setting.result) (scene_of c.args.plan.now c.args.known.now)
     (scene_data c.setting.result.scene) (levels c.setting.result) c.args.given.now c.as_props.result.now _ c.setting.ensures.scene
     c.setting.ensures.again c.setting.ensures.levels c.new.ensures c.as_props.ensures.value)
-    c.in_ok-made.ensures c.large_or.ensures
+    c.in_ok-made.ensures.outcome c.large_or.ensures
 
 pub returns-in_err-made : goal.returns-in_err-made
 returns-in_err-made c =
@@ -19,4 +19,4 @@ returns-in_err-made c =
     (properties_are (again c.setting.result) (scene_of c.args.plan.now c.args.known.now)
     (scene_data c.setting.result.scene) (levels c.setting.result) c.args.given.now c.as_props.result.now _ c.setting.ensures.scene
     c.setting.ensures.again c.setting.ensures.levels c.new.ensures c.as_props.ensures.value)
-    c.in_err-made.ensures)
+    c.in_err-made.ensures.outcome)

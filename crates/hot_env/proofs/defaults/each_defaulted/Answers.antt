@@ -1,0 +1,10 @@
+use Rattle.hot_env.specs.Applied.{defaulted}
+use Rattle.hot_env.proofs.Mapped.{each_more}
+use Rattle.hot_env.proofs.defaults.each_defaulted.Goals as goal
+
+pub loop-member-preserved : goal.loop-member-preserved
+loop-member-preserved c =
+    rw (c.in_ok-put.ensures.ok, c.in_ok-copy.ensures, c.loop-member.invariant) (each_more (defaulted c.args.defaults.now)
+    c.as_slice-member-items.result.now c.loop-member.member-index c.member-item.result _
+    (rw c.as_slice-member-items.ensures.members c.as_slice-member-items.ensures.rising) c.loop-member-test.true
+    c.member-item.is c.in_ok-defaulted.ensures)

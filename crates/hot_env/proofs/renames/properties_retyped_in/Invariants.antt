@@ -1,0 +1,9 @@
+use Rattle.std.proofs.Common.{◌≡◌, take, codes}
+use Rattle.heat_value.specs.Meaning.{members_of}
+use Rattle.hot_env.specs.Applied.{under_key, within, inner_retyped}
+use Rattle.hot_env.proofs.renames.properties_retyped_in.Given as goal
+
+-- those of the first members
+abbrev pub invariant-loop-member : goal.invariant-loop-member
+invariant-loop-member l =
+    l.all ≡ under_key (codes "properties") (within (inner_retyped l.types)) (members_of (take l.member-index l.member-items))

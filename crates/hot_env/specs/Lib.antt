@@ -1,0 +1,4 @@
+pub mod Codes
+pub mod Checks
+pub mod Environments
+pub mod Applied

@@ -1,0 +1,5 @@
+pub mod Puts
+pub mod WordReadings
+pub mod NodeReadings
+pub mod ChangeReadings
+pub mod PayloadLemmas
