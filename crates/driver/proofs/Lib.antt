@@ -1,3 +1,4 @@
+pub mod Stills
 pub mod Ones
 pub mod Listed
 pub mod Keyed
