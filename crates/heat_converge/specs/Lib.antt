@@ -1,3 +1,5 @@
 pub mod FileFaults
 pub mod Said
 pub mod Ended
+pub mod Called
+pub mod Files

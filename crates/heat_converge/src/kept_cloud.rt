@@ -57,7 +57,10 @@ fn cloud_of(alloc: Global, bytes: &[u8]) -> Result<SimCloud, KeepFault>
 }
 
 // Want of memory, told apart from all else that a file may meet.
-fn fault_of(kind: ErrorKind) -> KeepFault {
+fn fault_of(kind: ErrorKind) -> KeepFault
+    ensures memory { kind ≡ ErrorKind.OutOfMemory → result ≡ KeepFault.Memory }
+    ensures other { kind ≢ ErrorKind.OutOfMemory → result ≡ KeepFault.File }
+{
     if kind == ErrorKind::OutOfMemory {
         KeepFault::Memory
     } else {
