@@ -1,9 +1,10 @@
 //! Turns round the live engines.
-ghost use Rattle.std.specs.Prelude.{◌≡◌, ◌≢◌, ◌≤◌, [], ℕ};
+ghost use Rattle.std.specs.Prelude.{◌≡◌, ◌≢◌, ◌≤◌, [], ℕ, None};
 ghost use Rattle.bound_laws.specs.Full.{IsFullWork};
 ghost use Rattle.book.specs.Halts.{Halts};
 ghost use Rattle.book.specs.Kept.{IsSameBook, IsSoundOpening};
 ghost use Rattle.book.specs.Quiet.{page};
+ghost use Rattle.driver.specs.Leaving.{LeavesAlong};
 ghost use Rattle.driver.specs.Settled.{AreSettled};
 ghost use Rattle.driver.specs.Turns.{HasRan};
 
@@ -16,11 +17,7 @@ use type_catalog::Registry;
 
 /// Makes at most `n` turns, until the book is idle. It goes round the live engines by rising number from
 /// the lowest; one that has nothing to do is passed over, and isn't counted.
-pub fn turns<K: Keeper, P: Provider>(
-    book: &mut Book<K, P>,
-    n: u128,
-    registry: &Registry,
-) -> Ran
+pub fn turns<K: Keeper, P: Provider>(book: &mut Book<K, P>, n: u128, registry: &Registry) -> Ran
     requires live { book.old.state.live ≢ [] }
     ensures ran { HasRan n (page book.old.state book.old.entries)
         (page book.new.state book.new.entries) result }
@@ -33,6 +30,7 @@ pub fn turns<K: Keeper, P: Provider>(
     ensures live { book.new.state.live ≡ book.old.state.live }
     ensures same { IsSameBook book.old book.new }
     ensures halt { Halts K.faults Ran.DiskFault book.old book.new result }
+    ensures leaves { book.old.halt ≡ None → LeavesAlong K.shown P.cloud book.old book.new }
 {
     let mut last = 0;
     for made in 0..n {
