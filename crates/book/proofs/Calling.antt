@@ -116,36 +116,36 @@ module _ (s : StateData) (e : ℕ) where
         → Turns e (scene s h c) (scene t i d) before after faults now result
     answered t h i c d before after faults now token given made result its turn it told =
         by it.does it.kept where
-      k : FirstCall s e given made.entries
-      k = turn_calls s e given made.changes made.entries turn.turn
+          k : FirstCall s e given made.entries
+          k = turn_calls s e given made.changes made.entries turn.turn
 
-      q : Requests s e
-      q = record { stage = k.stage; calls = k.calls; asked = k.asked; asks = k.asks }
+          q : Requests s e
+          q = record { stage = k.stage; calls = k.calls; asked = k.asked; asks = k.asks }
 
-      same : token ≡ token_of k.calls.row
-      same = its ∙ ap token_of (sym (called k.stage k.calls))
+          same : token ≡ token_of k.calls.row
+          same = its ∙ ap token_of (sym (called k.stage k.calls))
 
-      its_told : Told (token_of k.calls.row) k.asked given c d
-      its_told = subst (λ (x : Token). Told x k.asked given c d) same (told q)
+          its_told : Told (token_of k.calls.row) k.asked given c d
+          its_told = subst (λ (x : Token). Told x k.asked given c d) same (told q)
 
-      by : AnswersAs made (page s h) (page t i) result
-          → KeptBy before after faults now s t made.changes (result ≡ DiskFault)
-          → Turns e (scene s h c) (scene t i d) before after faults now result
-      by (made_as.stepped writes is) kept = record {
-        turned = turned.called q given made.changes made.entries k.rest is turn.turn turn.lasts k.entries
-            (record { state = writes.state; entries = writes.entries }) its_told;
-        kept = kept;
-      }
-      by (made_as.alone some writes is) kept = record {
-        turned = turned.alone q given made.changes made.entries k.rest (turned.failed is) some turn.turn turn.lasts
-            k.entries
-            (record {
-              state = writes.state;
-              entries = writes.entries ∙ ap (λ (es : List Entry). h ++ take 1 es) k.entries;
-            })
-            its_told;
-        kept = kept;
-      }
+          by : AnswersAs made (page s h) (page t i) result
+              → KeptBy before after faults now s t made.changes (result ≡ DiskFault)
+              → Turns e (scene s h c) (scene t i d) before after faults now result
+          by (made_as.stepped writes is) kept = record {
+            turned = turned.called q given made.changes made.entries k.rest is turn.turn turn.lasts k.entries
+                (record { state = writes.state; entries = writes.entries }) its_told;
+            kept = kept;
+          }
+          by (made_as.alone some writes is) kept = record {
+            turned = turned.alone q given made.changes made.entries k.rest (turned.failed is) some turn.turn turn.lasts
+                k.entries
+                (record {
+                  state = writes.state;
+                  entries = writes.entries ∙ ap (λ (es : List Entry). h ++ take 1 es) k.entries;
+                })
+                its_told;
+            kept = kept;
+          }
 
   -- a job that asks has a row at CREATE, UPDATE or DELETE
   pub asking_of : JobsStand s → (k : Calls s e Asking) → IsAsking k.row.act

@@ -191,19 +191,19 @@ module _ (first : StateData) (origin : Cloud) (opened k l : ShownKeeper) (may_op
       (restart_step old.state old.entries count some few r it.tried it.tries)
       (restart_told_allows first origin old new kept.agrees k.recalls count r it.does it.tried it.tries)
       it.kept.keeps.leaves (longer it.does).0 (longer it.does).1 (λ f. fault it.does (λ yes_. ok_apart r h is yes_ f)) where
-    ok_apart : (x : Result (Unit {0}) Unrestarted) (y : Option Halt) → y ≡ halt_behind x → x ≡ Ok tt
-        → y ≡ Some halt.DiskFault → ⊥
-    ok_apart x y is_ yes_ f = let both = sym f ∙ (is_ ∙ ap halt_behind yes_) in cc
+        ok_apart : (x : Result (Unit {0}) Unrestarted) (y : Option Halt) → y ≡ halt_behind x → x ≡ Ok tt
+            → y ≡ Some halt.DiskFault → ⊥
+        ok_apart x y is_ yes_ f = let both = sym f ∙ (is_ ∙ ap halt_behind yes_) in cc
 
-    longer : RestartsAs k.recalls count old new r → (rest : List Entry) × (new.entries ≡ old.entries ++ rest)
-    longer (restarts.done does yes_) = (restart_entry old.state count ∷ [], does.entries)
-    longer (restarts.refused w breaks same silent no_) = ([], silent ∙ sym (append-nil old.entries))
+        longer : RestartsAs k.recalls count old new r → (rest : List Entry) × (new.entries ≡ old.entries ++ rest)
+        longer (restarts.done does yes_) = (restart_entry old.state count ∷ [], does.entries)
+        longer (restarts.refused w breaks same silent no_) = ([], silent ∙ sym (append-nil old.entries))
 
-    fault : RestartsAs k.recalls count old new r → (r ≡ Ok tt → ⊥)
-        → FaultLeaves old.state new.state old.entries new.entries
-        (restart_told old.state count r it.tried it.tries)
-    fault (restarts.done does yes_) never = absurd (never yes_)
-    fault (restarts.refused w breaks same silent no_) never = (same, inl silent)
+        fault : RestartsAs k.recalls count old new r → (r ≡ Ok tt → ⊥)
+            → FaultLeaves old.state new.state old.entries new.entries
+            (restart_told old.state count r it.tried it.tries)
+        fault (restarts.done does yes_) never = absurd (never yes_)
+        fault (restarts.refused w breaks same silent no_) never = (same, inl silent)
 
   -- the keeper wasn't called, and entries that call nobody were told
   module _ (s : StateData) (g : List Entry) (c : Cloud) (same : l ≡ k) (stands : StandsFor k s)

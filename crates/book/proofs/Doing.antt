@@ -215,21 +215,21 @@ pub made_storable : (s : StateData) → IsWorkable s → (Is : List Change → L
     → ((cs : List Change) (es : List Entry) → Is cs es → IsSilentStep s cs es)
     → IfOk made (λ m. Is m.changes m.entries) → IfOk made (λ m. IsStorable s m.changes)
 made_storable s x Is made steps ok = IfOk-weaker made _ _ (λ m is. by m.changes m.entries (steps m.changes m.entries is)) ok
-    where
-  by : (cs : List Change) (es : List Entry) → IsSilentStep s cs es → IsStorable s cs
-  by cs es k = record {
-    applies = steps_apply x.opening x.history s cs es x.workable k.it;
-    keepable = steps_are_keepable x.opening x.history s cs es x.workable k.it;
-  }
+  where
+    by : (cs : List Change) (es : List Entry) → IsSilentStep s cs es → IsStorable s cs
+    by cs es k = record {
+      applies = steps_apply x.opening x.history s cs es x.workable k.it;
+      keepable = steps_are_keepable x.opening x.history s cs es x.workable k.it;
+    }
 
 -- and it isn't refused for a fault of the keeper
 pub made_honest : (Refuses : Refusal → Type 0) (made : Result Made Refusal) → IfErr made (λ r. (r ≡ Memory) ⊎ Refuses r)
     → ¬ Refuses DiskFault → made ≢ Err DiskFault
 made_honest Refuses made err never is =
     by (subst (λ (x : Result Made Refusal). IfErr x (λ r. (r ≡ Memory) ⊎ Refuses r)) is err) where
-  by : ¬ ((DiskFault ≡ Memory) ⊎ Refuses DiskFault)
-  by (inl no_) = cc
-  by (inr yes_) = never yes_
+      by : ¬ ((DiskFault ≡ Memory) ⊎ Refuses DiskFault)
+      by (inl no_) = cc
+      by (inr yes_) = never yes_
 
 pub stop_honest : (s : StateData) (e : ℕ) → ¬ RefusesStop s e DiskFault
 stop_honest s e k = elim k [ ]

@@ -90,14 +90,14 @@ module _ (o : Opening) (count : ℕ) (admitted : IsAdmitted o) where
 restart_keepable : (s : StateData) (count : ℕ) → AreKeepable (restart_changes s count)
 restart_keepable s count r among = elim (cons_cases (map change_to.Stop s.live ++ map change_to.Enlist
     (engines_from s.next.engine count)) (change_to.Numbers (past_engines s.next count)) (change_to.PutRow r) among) [
-  | inl is ↦ cc
-  | inr later ↦ elim (Contains-append_cases (map change_to.Stop s.live)
-      (map change_to.Enlist (engines_from s.next.engine count)) (change_to.PutRow r) later) [
-    | inl stop ↦ let (e, at, is) = mapped change_to.Stop s.live (change_to.PutRow r) stop in cc
-    | inr enlist ↦ let (e, at, is) = mapped change_to.Enlist (engines_from s.next.engine count) (change_to.PutRow r)
-        enlist in cc
-  ]
-]
+      | inl is ↦ cc
+      | inr later ↦ elim (Contains-append_cases (map change_to.Stop s.live)
+          (map change_to.Enlist (engines_from s.next.engine count)) (change_to.PutRow r) later) [
+            | inl stop ↦ let (e, at, is) = mapped change_to.Stop s.live (change_to.PutRow r) stop in cc
+            | inr enlist ↦ let (e, at, is) = mapped change_to.Enlist (engines_from s.next.engine count) (change_to.PutRow r)
+                enlist in cc
+          ]
+    ]
 
 pub restart_storable : (image : StateData) → Links image → (count : ℕ) → IsStorable image (restart_changes image count)
 restart_storable image links count = record {

@@ -63,7 +63,7 @@ module _ (may_open : StateData → Type 0) (count : ℕ) (k0 k1 : ShownKeeper) (
 
   -- what the cloud's list says against it
   pub opens_refused : (r : Result (Unit {0}) Unrestarted) (w : Unrestarted) → Admits image c d r → r ≡ Err w
-      → WhyUnopened may_open k0.recalls k1.is_old count n0 n1 c d w
+      → WhyUnopened may_open k0.recalls k1 count n0 n1 c d w
   opens_refused r w (openings.agrees all lists nothing is) no_ = absurd (ok_or_not r tt w is no_)
   opens_refused r w (openings.disagrees all token finding lists found is) no_ =
       openings.disagrees token finding
@@ -97,12 +97,12 @@ module _ (may_open : StateData → Type 0) (count : ℕ) (k0 k1 : ShownKeeper) (
 
     -- the image that was listed, and why nothing begins with it
     why_not : (it : HasImageListed may_open c d) → it.image ≡ image → FindsNothing (opening_at it.image d)
-        → (w : Unrestarted) → WhyUnstarted image count k2.is_old n1 n2 w
-        → WhyUnopened may_open k0.recalls k2.is_old count n0 n2 c d w
+        → (w : Unrestarted) → WhyUnstarted image count k2 n1 n2 w
+        → WhyUnopened may_open k0.recalls k2 count n0 n2 c d w
     why_not it is nothing w (starting.fault rose fault) = openings.disk_fault
         (rose_since n0 n1 n2 goes.later rose) (openings.listed it.all it.listed) fault
     why_not it is nothing w (starting.worn over worn_) = openings.worn it nothing
-        (subst (λ (x : StateData). (2 ^ 62 < x.next.engine + count) ⊎ IsTrue k2.is_old) (sym is) over) worn_
+        (subst (λ (x : StateData). (2 ^ 62 < x.next.engine + count) ⊎ IsStuck k2) (sym is) over) worn_
     why_not it is nothing w (starting.memory lacks) = openings.memory (openings.listed it.all it.listed) lacks
 
     -- a book begins, or not, by what the cloud's list and the keeper came to
@@ -151,7 +151,7 @@ opens_unread may_open count k0 k1 n0 n1 c fault goes crash foreign rose = record
 } where
   by : (f : OpenFault) → (f ≡ open_fault.Foreign → IsTrue k0.recalls → IsForeign may_open)
       → (f ≡ open_fault.DiskFault → Rose n0 n1)
-      → WhyUnopened may_open k0.recalls k1.is_old count n0 n1 c c (unread_for f)
+      → WhyUnopened may_open k0.recalls k1 count n0 n1 c c (unread_for f)
   by open_fault.Foreign f r = openings.foreign (f refl) (unasked c) refl
   by open_fault.DiskFault f r = openings.disk_fault (r refl) (openings.unasked (unasked c)) refl
   by open_fault.Memory f r = openings.memory (openings.unasked (unasked c)) refl

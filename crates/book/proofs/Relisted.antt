@@ -93,29 +93,29 @@ module _ (first : StateData) (origin : Cloud) where
       (λ t. state-stays t old.cloud new.cloud it.listed.stays)) refl it.listed.noted.trace
   kept_restarted recalls count old new r h some few is_h kept (restarts.refused w breaks same silent is) =
       by (breaks_last recalls count old new w breaks).trace where
-    rests : Stays old.cloud new.cloud
-    rests = (breaks_last recalls count old new w breaks).rests
+        rests : Stays old.cloud new.cloud
+        rests = (breaks_last recalls count old new w breaks).rests
 
-    behind : IsTraced origin new.entries new.cloud h → IsKept first origin new.state new.entries new.cloud h
-    behind trace = record {
-      image = kept.image;
-      count = kept.count;
-      opened = kept.opened;
-      run = subst (λ (x : StateData). Run registries first x new.entries) (sym same)
-          (subst (λ (k : List Entry). Run registries first old.state k) (sym silent) kept.run);
-      agrees = subst (λ (k : List Entry). Allows (state_of origin) k new.cloud) (sym silent)
-          (λ token. subst (λ (x : TokenState). Contains (could (state_of origin) old.entries token) x)
-          (sym (state-stays token old.cloud new.cloud rests)) (kept.agrees token));
-      trace = trace;
-    }
+        behind : IsTraced origin new.entries new.cloud h → IsKept first origin new.state new.entries new.cloud h
+        behind trace = record {
+          image = kept.image;
+          count = kept.count;
+          opened = kept.opened;
+          run = subst (λ (x : StateData). Run registries first x new.entries) (sym same)
+              (subst (λ (k : List Entry). Run registries first old.state k) (sym silent) kept.run);
+          agrees = subst (λ (k : List Entry). Allows (state_of origin) k new.cloud) (sym silent)
+              (λ token. subst (λ (x : TokenState). Contains (could (state_of origin) old.entries token) x)
+              (sym (state-stays token old.cloud new.cloud rests)) (kept.agrees token));
+          trace = trace;
+        }
 
-    by : Asked old.cloud new.cloud → IsKept first origin new.state new.entries new.cloud h
-    by (unasked trace) = behind (whole (trace ∙ whole_trace origin old.entries old.cloud kept.trace
-        ∙ ap (λ (k : List Entry). origin.trace ++ calls_of k) (sym silent)))
-    by (asked given trace) = behind (listed given
-        (subst IsByRestart (sym (is_h ∙ ap halt_behind is)) (by_restart w))
-        (trace ∙ ap (λ (xs : List Traced). xs ++ Listed given ∷ []) (whole_trace origin old.entries old.cloud kept.trace)
-        ∙ ap (λ (k : List Entry). (origin.trace ++ calls_of k) ++ Listed given ∷ []) (sym silent)))
+        by : Asked old.cloud new.cloud → IsKept first origin new.state new.entries new.cloud h
+        by (unasked trace) = behind (whole (trace ∙ whole_trace origin old.entries old.cloud kept.trace
+            ∙ ap (λ (k : List Entry). origin.trace ++ calls_of k) (sym silent)))
+        by (asked given trace) = behind (listed given
+            (subst IsByRestart (sym (is_h ∙ ap halt_behind is)) (by_restart w))
+            (trace ∙ ap (λ (xs : List Traced). xs ++ Listed given ∷ []) (whole_trace origin old.entries old.cloud kept.trace)
+            ∙ ap (λ (k : List Entry). (origin.trace ++ calls_of k) ++ Listed given ∷ []) (sym silent)))
 
 -- what a restart tells, or would have told
 abbrev pub restart_told : (s : StateData) (count : ℕ) (r : Result (Unit {0}) Unrestarted) (cs : List Change)

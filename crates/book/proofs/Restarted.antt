@@ -310,6 +310,6 @@ pub restart_honest : (s : StateData) (count : ℕ) (made : Result Made Refusal)
     → IfErr made (λ x. (x ≡ refusal.Memory) ⊎ RefusesRestart s count x) → made ≢ Err refusal.DiskFault
 restart_honest s count made err is =
     by (subst (λ (x : Result Made Refusal). IfErr x (λ r. (r ≡ refusal.Memory) ⊎ RefusesRestart s count r)) is err) where
-  by : ¬ ((refusal.DiskFault ≡ refusal.Memory) ⊎ RefusesRestart s count refusal.DiskFault)
-  by (inl no_) = cc
-  by (inr yes_) = no_fault s count yes_
+      by : ¬ ((refusal.DiskFault ≡ refusal.Memory) ⊎ RefusesRestart s count refusal.DiskFault)
+      by (inl no_) = cc
+      by (inr yes_) = no_fault s count yes_

@@ -97,16 +97,16 @@ pub restart_worn : (s : StateData) (count : ℕ) (made : Result Made Refusal)
     → 2 ^ 62 < s.next.engine + count
 restart_worn s count made err is =
     by (subst (λ (x : Result Made Refusal). IfErr x (λ r. (r ≡ refusal.Memory) ⊎ RefusesRestart s count r)) is err) where
-  by : (refusal.Worn ≡ refusal.Memory) ⊎ RefusesRestart s count refusal.Worn → 2 ^ 62 < s.next.engine + count
-  by (inl no_) = cc
-  by (inr (engines.worn over)) = over
+      by : (refusal.Worn ≡ refusal.Memory) ⊎ RefusesRestart s count refusal.Worn → 2 ^ 62 < s.next.engine + count
+      by (inl no_) = cc
+      by (inr (engines.worn over)) = over
 
 module _ (image : StateData) (count : ℕ) where
   abbrev pub Cause : Unrestarted → Type 0
   Cause w = (w ≡ unrestarted.Memory) ⊎ ((w ≡ unrestarted.Worn) × (2 ^ 62 < image.next.engine + count))
 
   why_of : (k : ShownKeeper) (first now : ℕ) (w : Unrestarted) → Cause w
-      → WhyUnstarted image count k.is_old first now w
+      → WhyUnstarted image count k first now w
   why_of k first now w (inl lacks) = starting.memory lacks
   why_of k first now w (inr over) = starting.worn (inl over.1) over.0
 
@@ -131,7 +131,7 @@ module _ (image : StateData) (count : ℕ) where
       start = tt;
       below = tt;
       ready = tt;
-      why = subst (λ (r : Result (Unit {0}) Unrestarted). IfErr r (WhyUnstarted image count l.is_old first now)) is
+      why = subst (λ (r : Result (Unit {0}) Unrestarted). IfErr r (WhyUnstarted image count l first now)) is
           renews.why;
     }
 

@@ -27,7 +27,7 @@ use Rattle.record_keeper.specs.declared.open_fault.OpenFault.TheVariants as open
 use Rattle.opening_check.specs.Findings.{HasFound}
 use Rattle.opening_check.specs.declared.finding.Finding.{Finding}
 use Rattle.book.specs.Keeping.{IsReady, KeptBy}
-use Rattle.book.specs.Openings.{MayList}
+use Rattle.book.specs.Openings.{MayAgree, MayList}
 use Rattle.book.specs.Kept.{Shown}
 use Rattle.book.specs.Scenes.{Scene, scene_of}
 use Rattle.book.specs.declared.halting.Halt.TheVariants as halt
@@ -48,8 +48,8 @@ pub record RestartDoes (count : ℕ) (old new : Scene) : Type 0 where
   pub state : new.state ≡ applied (restart_changes old.state count) old.state
   pub entries : new.entries ≡ old.entries ++ restart_entry old.state count ∷ []
 
--- Why it is refused. Foreign comes, where the keeper recalls, only where the book's state lacks what an image has; Worn
--- only where nothing was found.
+-- Why it is refused. Foreign comes, where the keeper recalls, only where the book's state lacks what an image has; Worn,
+-- and DiskFault behind the list, only where nothing was found.
 pub data RestartBreaks (recalls : Bool) (count : ℕ) (old new : Scene) : Unrestarted → Type 0 where
   foreign : (IsTrue recalls → IsUnfit old.state) → IsAsBefore old.cloud new.cloud
       → RestartBreaks recalls count old new why.Foreign
@@ -59,7 +59,7 @@ pub data RestartBreaks (recalls : Bool) (count : ℕ) (old new : Scene) : Unrest
   cloud_fault : ListsNone old.cloud new.cloud → RestartBreaks recalls count old new why.CloudFault
   worn : (all : List Alive) → Lists all old.cloud new.cloud → FindsNothing (opening_at old.state new.cloud)
       → 2 ^ 62 < old.state.next.engine + count → RestartBreaks recalls count old new why.Worn
-  disk_fault : MayList old.cloud new.cloud → RestartBreaks recalls count old new why.DiskFault
+  disk_fault : MayAgree (λ s. s ≡ old.state) old.cloud new.cloud → RestartBreaks recalls count old new why.DiskFault
   memory : MayList old.cloud new.cloud → RestartBreaks recalls count old new why.Memory
 
 -- what halts a book whose restart is refused

@@ -1,5 +1,5 @@
 -- How a book begins with an image.
-use Rattle.std.specs.Prelude.{Bool, IfErr, IfOk, IsTrue, None, Ok, Result, Some, [], ℕ, ◌+◌, ◌<◌, ◌^◌, ◌≡◌, ◌≤◌, ◌⊎◌}
+use Rattle.std.specs.Prelude.{IfErr, IfOk, IsTrue, None, Ok, Result, Some, [], ℕ, ◌+◌, ◌<◌, ◌^◌, ◌≡◌, ◌≢◌, ◌≤◌, ◌⊎◌}
 use Rattle.heat_value.specs.Counts.{Rose}
 use Rattle.provider.specs.Cloud.{Cloud}
 use Rattle.core_state.specs.Changes.{applied}
@@ -9,7 +9,7 @@ use Rattle.record_keeper.specs.Calls.{GoesOn}
 use Rattle.record_keeper.specs.Shown.{LeavesOnly, ShownKeeper, at_rest}
 use Rattle.book.specs.Keeping.{IsReady}
 use Rattle.book.specs.Kept.{IsOpenedFrom, Shown}
-use Rattle.book.specs.Openings.{HasImageListed, IsLeftOfStart, OpensKeeper, WhyUnopened}
+use Rattle.book.specs.Openings.{HasImageListed, IsLeftOfStart, IsLeftUnbegun, IsStuck, OpensKeeper, WhyUnopened}
 use Rattle.book.specs.declared.opening.Start.{Start}
 use Rattle.book.specs.declared.restarting.Unrestarted.TheVariants as unrestarted
 use Rattle.book.specs.declared.restarting.Unrestarted.{Unrestarted}
@@ -25,11 +25,12 @@ pub record IsStart (image : StateData) (count : ℕ) (start : Start) : Type 0 wh
   pub silent : start.entries.items ≡ []
 
 -- why nothing begins
-pub data WhyUnstarted (image : StateData) (count : ℕ) (is_old : Bool) (before now : ℕ) (w : Unrestarted) : Type 0 where
-  fault : Rose before now → w ≡ unrestarted.DiskFault → WhyUnstarted image count is_old before now w
-  worn : (2 ^ 62 < image.next.engine + count) ⊎ IsTrue is_old → w ≡ unrestarted.Worn
-      → WhyUnstarted image count is_old before now w
-  memory : w ≡ unrestarted.Memory → WhyUnstarted image count is_old before now w
+pub data WhyUnstarted (image : StateData) (count : ℕ) (keeper : ShownKeeper) (before now : ℕ) (w : Unrestarted)
+    : Type 0 where
+  fault : Rose before now → w ≡ unrestarted.DiskFault → WhyUnstarted image count keeper before now w
+  worn : (2 ^ 62 < image.next.engine + count) ⊎ IsStuck keeper → w ≡ unrestarted.Worn
+      → WhyUnstarted image count keeper before now w
+  memory : w ≡ unrestarted.Memory → WhyUnstarted image count keeper before now w
 
 -- a keeper that isn't old any more
 pub record Renews (image : StateData) (count : ℕ) (old new : ShownKeeper) (before now : ℕ)
@@ -37,17 +38,19 @@ pub record Renews (image : StateData) (count : ℕ) (old new : ShownKeeper) (bef
   pub leaves : IsTrue old.tells → LeavesOnly old new (λ l. l ≡ Some (at_rest image))
   pub goes_on : GoesOn old new before now
   pub ready : result ≡ Ok tt → IsReady new image
-  pub why : IfErr result (WhyUnstarted image count new.is_old before now)
+  pub why : IfErr result (WhyUnstarted image count new before now)
 
 -- an image with so many engines, which the keeper keeps
 pub record Starts (image : StateData) (count : ℕ) (old new : ShownKeeper) (before now : ℕ)
     (result : Result Start Unrestarted) : Type 0 where
   pub leaves : IsTrue old.tells → LeavesOnly old new (IsLeftOfStart image count)
   pub goes_on : GoesOn old new before now
+  pub rests : IfErr result
+      (λ w. w ≢ unrestarted.DiskFault → IsTrue old.tells → LeavesOnly old new (λ l. l ≡ Some (at_rest image)))
   pub start : IfOk result (IsStart image count)
   pub below : IfOk result (λ st. image.next.engine + count ≤ 2 ^ 62)
   pub ready : IfOk result (λ st. IsReady new (restarted_at image count))
-  pub why : IfErr result (WhyUnstarted image count new.is_old before now)
+  pub why : IfErr result (WhyUnstarted image count new before now)
 
 -- an image was admitted, and is kept with so many engines
 pub record HasStarted (may_open : StateData → Type 0) (count : ℕ) (new : ShownKeeper) (c d : Cloud) (start : Start)
@@ -63,7 +66,9 @@ pub record Opens (may_open : StateData → Type 0) (count : ℕ) (old new : Show
     (result : Result Start Unrestarted) : Type 0 where
   pub started : IfOk result (HasStarted may_open count new c d)
   pub went : OpensKeeper may_open count old new before now
-  pub why : IfErr result (WhyUnopened may_open old.recalls new.is_old count before now c d)
+  pub rests : IfErr result
+      (λ w. w ≢ unrestarted.DiskFault → IsTrue old.tells → LeavesOnly old new (IsLeftUnbegun may_open old))
+  pub why : IfErr result (WhyUnopened may_open old.recalls new count before now c d)
 
 -- a book on which nothing has been done
 abbrev pub first_book : {K P : Type 0} → Start → K → P → Shown K P

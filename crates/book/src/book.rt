@@ -55,8 +55,8 @@ impl<K: Keeper, P: Provider> Model for Book<K, P> {
     ghost invariant = { λ b. IsKept b.opening.state (P.cloud b.cloud_then.value)
         b.state.state b.entries.items (P.cloud b.cloud) b.halt
         × (IsHeld (K.shown b.keeper_then.value) (K.shown b.keeper)
-            (K.faults b.keeper_then.value) (K.faults b.keeper) b.state.state b.halt
+        (K.faults b.keeper_then.value) (K.faults b.keeper) b.state.state b.halt
         × (IsHaltedAs (K.faults b.keeper_then.value) (K.faults b.keeper) b.state.state b.halt
         × IsLeft b.opening.state (P.cloud b.cloud_then.value) (K.shown b.keeper_then.value)
-            (K.shown b.keeper) b.state.state b.entries.items (P.cloud b.cloud) b.halt)) };
+        (K.shown b.keeper) b.state.state b.entries.items (P.cloud b.cloud) b.halt)) };
 }

@@ -50,7 +50,7 @@ pub(crate) fn keep<K: Keeper>(keeper: &mut K, changes: &[Ready]) -> Result<(), K
     requires room { K.has_room keeper.old changes.now }
     ensures keeps { (s : StateData) → IsReady (K.shown keeper.old) s
         → Keeps (K.shown keeper.old) (K.shown keeper.new) (K.faults keeper.old) (K.faults keeper.new)
-            s (applied changes.now s) }
+        s (applied changes.now s) }
     ensures ready { OnOk result ((s : StateData) → IsReady (K.shown keeper.old) s
         → IsReady (K.shown keeper.new) (applied changes.now s)) }
     ensures fault { OnErr result (Rose (K.faults keeper.old) (K.faults keeper.new)) }

@@ -131,11 +131,29 @@ fn poll_prepared<K: Keeper, P: Provider>(
         Poll::Failed => make_answered(state, entries, keeper, outcomes.failed),
         Poll::Ready(facts) => {
             let answer = Answered::Ready(facts);
-            learn(alloc, state, entries, keeper, e, outcomes.token, answer, outcomes.failed)
+            learn(
+                alloc,
+                state,
+                entries,
+                keeper,
+                e,
+                outcomes.token,
+                answer,
+                outcomes.failed,
+            )
         }
         Poll::Broken(code) => {
             let answer = Answered::Broken(code);
-            learn(alloc, state, entries, keeper, e, outcomes.token, answer, outcomes.failed)
+            learn(
+                alloc,
+                state,
+                entries,
+                keeper,
+                e,
+                outcomes.token,
+                answer,
+                outcomes.failed,
+            )
         }
         Poll::Memory => Turn::Memory,
     }

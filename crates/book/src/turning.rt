@@ -105,6 +105,16 @@ fn turn_for(done: Result<(), Refusal>) -> Turn
         Ok(()) => Turn::Stepped,
         Err(Refusal::Worn) => Turn::Worn,
         Err(Refusal::DiskFault) => Turn::DiskFault,
-        Err(_) => Turn::Memory,
+        Err(
+            Refusal::StackExists
+            | Refusal::NoStack
+            | Refusal::Deleting
+            | Refusal::TooManyStacks
+            | Refusal::TooManyRows
+            | Refusal::NoEngine
+            | Refusal::TooManyEngines
+            | Refusal::NotRunning
+            | Refusal::Memory,
+        ) => Turn::Memory,
     }
 }

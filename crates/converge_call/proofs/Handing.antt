@@ -191,15 +191,15 @@ opened_over shown faults_of keeper f b same it = rw same.origin it
 pub unopened_by : {K P : Type 0} (may_open : K → StateData → Type 0) (shown : K → ShownKeeper) (faults_of : K → ℕ)
     (cloud_of : P → Cloud) (workers : ℕ) (old new k : K) (cloud left p : P) (why : Unrestarted) (status : Exit)
     → new ≡ k → left ≡ p
-    → WhyUnopened (may_open old) (shown old).recalls (shown new).is_old workers (faults_of old) (faults_of new)
+    → WhyUnopened (may_open old) (shown old).recalls (shown new) workers (faults_of old) (faults_of new)
     (cloud_of cloud) (cloud_of left) why → status ≡ exit_of why
     → IsUnopened may_open shown faults_of cloud_of (λ n. n ≡ workers) (record { keeper = old; cloud = cloud })
     (record { keeper = k; cloud = p }) status
 unopened_by may_open shown faults_of cloud_of workers old new k cloud left p why status same given it is =
     by_opening workers why refl
-    (subst (λ (x : _). WhyUnopened (may_open old) (shown old).recalls (shown x).is_old workers (faults_of old)
+    (subst (λ (x : _). WhyUnopened (may_open old) (shown old).recalls (shown x) workers (faults_of old)
     (faults_of x) (cloud_of cloud) (cloud_of p) why) same
-    (subst (λ (x : _). WhyUnopened (may_open old) (shown old).recalls (shown new).is_old workers (faults_of old)
+    (subst (λ (x : _). WhyUnopened (may_open old) (shown old).recalls (shown new) workers (faults_of old)
     (faults_of new) (cloud_of cloud) (cloud_of x) why) given it)) is
 
 abbrev around : {K P : Type 0} → K → P → Around K P

@@ -128,7 +128,7 @@ pub data IsUnopened {K P : Type 0} (may_open : K → StateData → Type 0) (show
   by_words : status ≡ exit.Usage → new ≡ old → IsUnopened may_open shown faults_of cloud_of Asks old new status
   by_memory : status ≡ exit.Memory → new ≡ old → IsUnopened may_open shown faults_of cloud_of Asks old new status
   by_opening : (workers : ℕ) (why : Unrestarted) → Asks workers
-      → WhyUnopened (may_open old.keeper) (shown old.keeper).recalls (shown new.keeper).is_old workers
+      → WhyUnopened (may_open old.keeper) (shown old.keeper).recalls (shown new.keeper) workers
       (faults_of old.keeper) (faults_of new.keeper) (cloud_of old.cloud) (cloud_of new.cloud) why
       → status ≡ exit_of why → IsUnopened may_open shown faults_of cloud_of Asks old new status
 

@@ -25,24 +25,24 @@ impl<K: Keeper, P: Provider> Book<K, P> {
             → HasOpened (K.may_open keeper) K.shown K.faults P.cloud workers keeper cloud b }
         ensures foreign { (k : K) (p : P) → result ≡ Opened.Foreign k p
             → IsUnopened (K.may_open keeper) workers (K.shown keeper) (K.shown k)
-                (K.faults keeper) (K.faults k) (P.cloud cloud) (P.cloud p) Unrestarted.Foreign }
+            (K.faults keeper) (K.faults k) (P.cloud cloud) (P.cloud p) Unrestarted.Foreign }
         ensures disagree { (k : K) (p : P) (token : token_type) (finding : finding_type)
             → result ≡ Opened.Disagree k p token finding
             → IsUnopened (K.may_open keeper) workers (K.shown keeper) (K.shown k)
-                (K.faults keeper) (K.faults k) (P.cloud cloud) (P.cloud p)
-                (Unrestarted.Disagree token finding) }
+            (K.faults keeper) (K.faults k) (P.cloud cloud) (P.cloud p)
+            (Unrestarted.Disagree token finding) }
         ensures disk_fault { (k : K) (p : P) → result ≡ Opened.DiskFault k p
             → IsUnopened (K.may_open keeper) workers (K.shown keeper) (K.shown k)
-                (K.faults keeper) (K.faults k) (P.cloud cloud) (P.cloud p) Unrestarted.DiskFault }
+            (K.faults keeper) (K.faults k) (P.cloud cloud) (P.cloud p) Unrestarted.DiskFault }
         ensures cloud_fault { (k : K) (p : P) → result ≡ Opened.CloudFault k p
             → IsUnopened (K.may_open keeper) workers (K.shown keeper) (K.shown k)
-                (K.faults keeper) (K.faults k) (P.cloud cloud) (P.cloud p) Unrestarted.CloudFault }
+            (K.faults keeper) (K.faults k) (P.cloud cloud) (P.cloud p) Unrestarted.CloudFault }
         ensures worn { (k : K) (p : P) → result ≡ Opened.Worn k p
             → IsUnopened (K.may_open keeper) workers (K.shown keeper) (K.shown k)
-                (K.faults keeper) (K.faults k) (P.cloud cloud) (P.cloud p) Unrestarted.Worn }
+            (K.faults keeper) (K.faults k) (P.cloud cloud) (P.cloud p) Unrestarted.Worn }
         ensures memory { (k : K) (p : P) → result ≡ Opened.Memory k p
             → IsUnopened (K.may_open keeper) workers (K.shown keeper) (K.shown k)
-                (K.faults keeper) (K.faults k) (P.cloud cloud) (P.cloud p) Unrestarted.Memory }
+            (K.faults keeper) (K.faults k) (P.cloud cloud) (P.cloud p) Unrestarted.Memory }
     {
         let mut keeper = keeper;
         let mut cloud = cloud;

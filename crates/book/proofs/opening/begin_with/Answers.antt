@@ -49,7 +49,7 @@ keep-requires-clause-applies g c s stands = subst (λ (cs : List Change). AllApp
 pub returns-in-Ok : goal.returns-in-Ok
 returns-in-Ok g c =
     let ready = same_ready _ _ c.reserve.ensures.same c.args.image.state
-        ((c.renew.ensures c.args.workers).ready c.in-Ok-2.is) in
+    ((c.renew.ensures c.args.workers).ready c.in-Ok-2.is) in
     starts_well _ c.args.workers _ _ _ _ c.renew.result (c.renew.ensures c.args.workers) _ _ _ c.in-Ok.ensures.below
     (keeps_after _ _ c.reserve.ensures.same _ _ _ _ _ _ c.reserve.ensures.faults
     (kept_slice _ _ _ _ _ _ _ (c.as_slice-2.ensures ∙ c.in-Ok.ensures.made) (c.keep.ensures.keeps _ ready)))
@@ -59,7 +59,7 @@ returns-in-Ok g c =
 pub returns-in-Err-4 : goal.returns-in-Err-4
 returns-in-Err-4 g c =
     let ready = same_ready _ _ c.reserve.ensures.same c.args.image.state
-        ((c.renew.ensures c.args.workers).ready c.in-Ok-2.is) in
+    ((c.renew.ensures c.args.workers).ready c.in-Ok-2.is) in
     starts_unkept _ c.args.workers _ _ _ _ c.renew.result (c.renew.ensures c.args.workers) _ _ c.in-Ok.ensures.below
     (keeps_after _ _ c.reserve.ensures.same _ _ _ _ _ _ c.reserve.ensures.faults
     (kept_slice _ _ _ _ _ _ _ (c.as_slice-2.ensures ∙ c.in-Ok.ensures.made) (c.keep.ensures.keeps _ ready)))

@@ -53,7 +53,7 @@ returns-clause-records g c = rw (← c.self.view_is) (λ none. recorded_commit _
     c.commit_of-turn.ensures.committed (λ ne. fine_turn _ (λ same. ne (c.halt_by.ensures ∙ same))))
 
 pub returns-clause-live : goal.returns-clause-live
-returns-clause-live g c = rw (← c.self.view_is) 
+returns-clause-live g c = rw (← c.self.view_is)
     (committed_live c.args.e c.args.work _ _ _ c.commit_of-turn.ensures.committed.committed)
 
 pub returns-clause-halt : goal.returns-clause-halt

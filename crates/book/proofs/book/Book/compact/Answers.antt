@@ -22,7 +22,7 @@ invariant_of-self g c =
     let t = c.shorten-done.ensures in
     let kept = kept_unhalted _ _ _ _ _ _ none c.self.invariant.0 in
     let held = held_shortened _ _ _ _ _ _ t _ c.halt_compacting.ensures _ _
-        (held_unhalted _ _ _ _ _ _ none c.self.invariant.1.0) in (
+    (held_unhalted _ _ _ _ _ _ none c.self.invariant.1.0) in (
       kept_shortened _ _ _ _ _ _ t _ c.halt_compacting.ensures _ _ _ _ kept,
       (
         held.0,

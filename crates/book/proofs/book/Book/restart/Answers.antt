@@ -21,7 +21,7 @@ invariant_of-self g c =
     let t = c.restart_with-done.ensures in
     let kept = kept_unhalted _ _ _ _ _ _ none c.self.invariant.0 in
     let held = held_restarted _ _ _ _ _ _ _ _ _ _ _ (held_unhalted _ _ _ _ _ _ none c.self.invariant.1.0)
-        c.halt_behind.ensures t.kept in (
+    c.halt_behind.ensures t.kept in (
       kept_restarted _ _ _ c.args.workers _ _ _ _ c.requires.some c.requires.few c.halt_behind.ensures kept t.does,
       (
         held.0,
