@@ -161,9 +161,9 @@ module _ {K P : Type 0} (shown : K → ShownKeeper) (cloud_of : P → Cloud) whe
       → HasRun cloud_of b → {n m : ℕ} → IsHeld (shown b.origin.keeper) (shown b.keeper) n m b.state b.halt
       → b.halt ≡ None → IsTrue (shown b.origin.keeper).tells
       → LeavesOnly (shown b.keeper) (shown b.keeper) (IsLeftAlong (opening_of cloud_of b) b.entries b.entries)
-  leaves_begun may_open b lawful run held open tells =
+  leaves_begun may_open b lawful run held none tells =
       leaves_still may_open (shown b.keeper) (IsLeftAlong (opening_of cloud_of b) b.entries b.entries) lawful
-      (subst IsTrue (sym held.goes_on.tells) tells) b.state (held.stands (λ halted. let is = sym open ∙ halted in cc))
+      (subst IsTrue (sym held.goes_on.tells) tells) b.state (held.stands (λ halted. let is = sym none ∙ halted in cc))
       (along_rest (opening_of cloud_of b) b.entries b.state [] b.entries run.run (sym (append-nil b.entries)) _ refl)
 
   -- behind one turn more
