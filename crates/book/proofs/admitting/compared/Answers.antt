@@ -1,6 +1,5 @@
 -- What was found first, or that nothing was.
 use Rattle.std.proofs.Common.{refl}
-use Rattle.provider.specs.Calls.{Lists}
 use Rattle.book.specs.Openings.{agrees, disagrees, lacking}
 use Rattle.book.specs.Openings as openings
 use Rattle.book.proofs.Openers.{nothing_found, this_found}
