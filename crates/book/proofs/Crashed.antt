@@ -1,6 +1,6 @@
 -- What a crash leaves of a book, through one call of its keeper.
 use Rattle.std.proofs.Common.{List, [], ap, append-nil, append_assoc, arith, inl, inr, refl, subst, sym, ◌++◌, ◌∙◌, ◌≡◌, ◌⊎◌}
-use Rattle.std.specs.Prelude.{IsTrue, None, Option, Some, take, ◌≢◌}
+use Rattle.std.specs.Prelude.{IsTrue, None, Option, Some, take}
 use Rattle.provider.specs.Cloud.{Cloud, state_of}
 use Rattle.core_state.specs.State.{StateData}
 use Rattle.core_state.specs.declared.entry.Entry.{Entry}

@@ -48,4 +48,8 @@ module _ {K P : Type 0} (shown : K → ShownKeeper) (faults_of : K → ℕ) (clo
   unopened_as m p w same alike it = subst (λ (x : K). IsUnopened may_open count (shown keeper) (shown x)
       (faults_of keeper) (faults_of x) (cloud_of cloud) (cloud_of p) w) same
       (subst (λ (x : P). IsUnopened may_open count (shown keeper) (shown l)
-      (faults_of keeper) (faults_of l) (cloud_of cloud) (cloud_of x) w) alike (record { went = it.went; why = it.why }))
+      (faults_of keeper) (faults_of l) (cloud_of cloud) (cloud_of x) w) alike (record {
+        went = it.went;
+        rests = it.rests;
+        why = it.why;
+      }))

@@ -1,23 +1,15 @@
 -- What a book keeps makes its state workable; from a sound opening it is sound, and the history has the main theorem.
-use Rattle.std.proofs.Common.{List, [], arith, refl, subst, sym, ap, ◌∙◌}
-use Rattle.std.specs.Prelude.{Contains, Option, ◌++◌, ◌≢◌, ◌≡◌}
+use Rattle.std.proofs.Common.{List, [], arith, subst, sym}
+use Rattle.std.specs.Prelude.{Contains, Option, ◌≢◌}
 use Rattle.provider.specs.Cloud.{Cloud, state_of}
-use Rattle.core_state.specs.Applies.{AllApply}
-use Rattle.core_state.specs.Changes.{applied}
 use Rattle.core_state.specs.State.{StateData}
-use Rattle.core_state.specs.declared.change.Change.{Change}
 use Rattle.core_state.specs.declared.entry.Entry.{Entry}
 use Rattle.step_relation.specs.Could.{IsPossible, could_of}
-use Rattle.step_relation.specs.Images.{AreKeepable, HasKeepableRows, IsInRange, IsMade}
 use Rattle.step_relation.specs.Laws.{opening_at}
-use Rattle.step_relation.specs.Opening.{bare}
-use Rattle.step_relation.specs.Runs.{Run, begins, goes_on}
+use Rattle.step_relation.specs.Runs.{Run}
 use Rattle.step_relation.specs.Sound.{Sound}
-use Rattle.step_relation.specs.Steps.{Step, restart_changes}
 use Rattle.graph_laws.proofs.whole.Whole.{runs_headline, runs_sound}
 use Rattle.dep_graph.specs.Lists.{IsRising}
-use Rattle.workable_laws.proofs.Applied.{steps_apply}
-use Rattle.workable_laws.proofs.Keepable.{steps_are_keepable}
 use Rattle.workable_laws.proofs.Runs.{runs_stay}
 use Rattle.workable_laws.specs.Admitted.{restarted}
 use Rattle.workable_laws.specs.Workable.{Workable}

@@ -1,6 +1,6 @@
 -- The keeper of a book, through its calls.
-use Rattle.std.proofs.Common.{ap, arith, inl, inr, refl, subst, sym, ◌∙◌, ◌≡◌, ℕ}
-use Rattle.std.specs.Prelude.{Err, List, None, Ok, Option, Result, Some, min, ◌+◌, ◌-◌, ◌^◌, ◌≢◌, ◌≤◌}
+use Rattle.std.proofs.Common.{ap, arith, refl, subst, sym, ◌∙◌, ◌≡◌, ℕ}
+use Rattle.std.specs.Prelude.{Err, List, None, Ok, Option, Result, Some, ◌≢◌, ◌≤◌}
 use Rattle.heat_value.specs.Counts.{Rose}
 use Rattle.heat_plan.specs.declared.refusal.Refusal.{Refusal}
 use Rattle.heat_plan.specs.declared.refusal.Refusal.TheVariants as refusal

@@ -1,9 +1,8 @@
 -- A book's state is one that changes made of the empty one, and each of its rows may be kept.
-use Rattle.std.proofs.Common.{List, [], inl, inr, refl, subst, sym, ap, ◌∙◌, ◌++◌, ◌∷◌, ◌≡◌, ℕ, ◌⊎◌}
+use Rattle.std.proofs.Common.{List, [], inl, inr, refl, subst, sym, ap, ◌∙◌, ◌++◌, ◌∷◌, ◌≡◌, ℕ}
 use Rattle.std.proofs.lemmas.List.Elements.{Contains-append_cases}
-use Rattle.std.specs.Prelude.{Contains, Option, Some, map}
+use Rattle.std.specs.Prelude.{Contains, Option, map}
 use Rattle.provider.specs.Cloud.{Cloud}
-use Rattle.row_table.specs.Rows.{row_at}
 use Rattle.row_table.specs.declared.row.Row.{Row}
 use Rattle.core_state.specs.Applies.{AllApply}
 use Rattle.core_state.specs.Changes.{applied, apply}

@@ -175,6 +175,7 @@ shortens_not old new may_open lawful same before_ now is s it = record {
   stands = λ ne. same_stands old new same s it;
   young = λ ne young. same.is_old ∙ young;
   short = λ f. cc;
+  stuck = λ f old. cc;
   rose = λ f. cc;
   same = λ f. same;
 }

@@ -1,6 +1,6 @@
 -- An opening: the image that was read, what the cloud lists, and the engines in its place.
-use Rattle.std.proofs.Common.{arith, inl, inr, refl, subst, sym, ◌∙◌, ◌≡◌, ℕ}
-use Rattle.std.specs.Prelude.{Bool, Err, List, IfErr, IfOk, IsTrue, Ok, Result, ◌+◌, ◌<◌, ◌^◌, ◌≤◌, ◌⊎◌}
+use Rattle.std.proofs.Common.{refl, subst, sym, ◌∙◌, ◌≡◌, ℕ}
+use Rattle.std.specs.Prelude.{Bool, Err, List, IsTrue, Ok, Result, Some, ◌+◌, ◌<◌, ◌^◌, ◌≤◌, ◌⊎◌}
 use Rattle.heat_value.specs.Counts.{Rose}
 use Rattle.heat_plan.specs.declared.token.Token.{Token}
 use Rattle.provider.specs.Calls.{Lists}
@@ -13,17 +13,18 @@ use Rattle.step_relation.specs.Steps.{engine_limit, restart_changes}
 use Rattle.record_keeper.proofs.Moments.{LeavesOnly-then, LeavesOnly-weaker}
 use Rattle.record_keeper.specs.Calls.{ComesOf, GoesOn, IsForeign}
 use Rattle.record_keeper.specs.Calls.{HasOpened as HasRead}
-use Rattle.record_keeper.specs.Shown.{LeavesOnly, ShownKeeper}
+use Rattle.record_keeper.specs.Shown.{LeavesOnly, ShownKeeper, at_rest}
 use Rattle.record_keeper.specs.declared.open_fault.OpenFault.{OpenFault}
 use Rattle.record_keeper.specs.declared.open_fault.OpenFault.TheVariants as open_fault
 use Rattle.workable_laws.specs.Admitted.{FindsNothing}
 use Rattle.opening_check.specs.Findings.{HasFound}
 use Rattle.opening_check.specs.declared.finding.Finding.{Finding}
 use Rattle.book.specs.Keeping.{IsReady, IsStorable}
-use Rattle.book.specs.Openings.{Admits, HasImageListed, IsImage, IsLeftOfOpening, IsLeftOfStart, MayList, OpensKeeper, WhyUnopened}
+use Rattle.book.specs.Openings.{Admits, HasImageListed, IsImage, IsLeftOfOpening, IsLeftOfStart, IsLeftUnbegun, IsStuck}
+use Rattle.book.specs.Openings.{OpensKeeper, WhyUnopened}
 use Rattle.book.specs.Openings as openings
 use Rattle.book.specs.Restarts.{unread_for}
-use Rattle.book.specs.Starting.{HasStarted, Opens, Starts, WhyUnstarted}
+use Rattle.book.specs.Starting.{Opens, Starts, WhyUnstarted}
 use Rattle.book.specs.Starting as starting
 use Rattle.book.specs.declared.opening.Start.{Start}
 use Rattle.book.specs.declared.restarting.Unrestarted.TheVariants as unrestarted
@@ -49,6 +50,12 @@ went_at_once k0 k1 n0 n1 may_open count goes crash = record {
   leaves = λ tells. LeavesOnly-weaker k0 k1 (ComesOf k0) (IsLeftOfOpening may_open k0 count) (λ l it. openings.came it)
       (crash tells);
 }
+
+came_unbegun : (k0 k1 : ShownKeeper) (may_open : StateData → Type 0)
+    → (IsTrue k0.tells → LeavesOnly k0 k1 (ComesOf k0)) → IsTrue k0.tells
+    → LeavesOnly k0 k1 (IsLeftUnbegun may_open k0)
+came_unbegun k0 k1 may_open crash tells = LeavesOnly-weaker k0 k1 (ComesOf k0) (IsLeftUnbegun may_open k0)
+    (λ l it. openings.came it) (crash tells)
 
 module _ (may_open : StateData → Type 0) (count : ℕ) (k0 k1 : ShownKeeper) (n0 n1 : ℕ) (c d : Cloud)
     (image : StateData) (read : HasRead may_open k1 image) (goes : GoesOn k0 k1 n0 n1) where
@@ -79,6 +86,7 @@ module _ (may_open : StateData → Type 0) (count : ℕ) (k0 k1 : ShownKeeper) (
   opens_unadmitted crash r w admits no_ = record {
     started = tt;
     went = went_at_once k0 k1 n0 n1 may_open count goes crash;
+    rests = λ ne. came_unbegun k0 k1 may_open crash;
     why = opens_refused r w admits no_;
   }
 
@@ -95,12 +103,20 @@ module _ (may_open : StateData → Type 0) (count : ℕ) (k0 k1 : ShownKeeper) (
           (λ l it. openings.begun image read.may it) (leaves (subst IsTrue (sym goes.tells) tells)));
     }
 
+    rests_through : (IsTrue k1.tells → LeavesOnly k1 k2 (λ x. x ≡ Some (at_rest image))) → IsTrue k0.tells
+        → LeavesOnly k0 k2 (IsLeftUnbegun may_open k0)
+    rests_through rests tells = LeavesOnly-then k0 k1 k2 (IsLeftUnbegun may_open k0)
+        (came_unbegun k0 k1 may_open crash tells)
+        (LeavesOnly-weaker k1 k2 (λ x. x ≡ Some (at_rest image)) (IsLeftUnbegun may_open k0)
+        (λ l it. openings.rests image read.may it) (rests (subst IsTrue (sym goes.tells) tells)))
+
     -- the image that was listed, and why nothing begins with it
     why_not : (it : HasImageListed may_open c d) → it.image ≡ image → FindsNothing (opening_at it.image d)
         → (w : Unrestarted) → WhyUnstarted image count k2 n1 n2 w
         → WhyUnopened may_open k0.recalls k2 count n0 n2 c d w
     why_not it is nothing w (starting.fault rose fault) = openings.disk_fault
-        (rose_since n0 n1 n2 goes.later rose) (openings.listed it.all it.listed) fault
+        (rose_since n0 n1 n2 goes.later rose)
+        (openings.agreed it.image it.its (record { all = it.all; listed = it.listed; nothing = nothing })) fault
     why_not it is nothing w (starting.worn over worn_) = openings.worn it nothing
         (subst (λ (x : StateData). (2 ^ 62 < x.next.engine + count) ⊎ IsStuck k2) (sym is) over) worn_
     why_not it is nothing w (starting.memory lacks) = openings.memory (openings.listed it.all it.listed) lacks
@@ -126,11 +142,13 @@ module _ (may_open : StateData → Type 0) (count : ℕ) (k0 k1 : ShownKeeper) (
         ready = subst (λ (s : StateData). IsReady k2 s) (sym starts.start.state) starts.ready;
       };
       went = went_through starts.leaves starts.goes_on;
+      rests = tt;
       why = tt;
     }
     opens_started r (openings.agrees all lists nothing is) yes_ (Err w) starts = record {
       started = tt;
       went = went_through starts.leaves starts.goes_on;
+      rests = λ ne. rests_through (starts.rests ne);
       why = why_not (record { image = image; its = its_image; all = all; listed = lists }) refl nothing w starts.why;
     }
     opens_started r (openings.disagrees all token finding lists found is) yes_ result starts =
@@ -147,6 +165,7 @@ pub opens_unread : (may_open : StateData → Type 0) (count : ℕ) (k0 k1 : Show
 opens_unread may_open count k0 k1 n0 n1 c fault goes crash foreign rose = record {
   started = tt;
   went = went_at_once k0 k1 n0 n1 may_open count goes crash;
+  rests = λ ne. came_unbegun k0 k1 may_open crash;
   why = by fault foreign rose;
 } where
   by : (f : OpenFault) → (f ≡ open_fault.Foreign → IsTrue k0.recalls → IsForeign may_open)

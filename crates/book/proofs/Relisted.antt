@@ -1,8 +1,7 @@
 -- What a book keeps, and what a crash may leave, through a restart.
-use Rattle.std.proofs.Common.{List, [], ap, append-nil, inl, inr, refl, subst, sym, ◌++◌, ◌∙◌, ◌∷◌, ◌≡◌, ◌⊎◌, ℕ}
+use Rattle.std.proofs.Common.{List, [], ap, append-nil, inl, inr, refl, subst, sym, ◌++◌, ◌∙◌, ◌∷◌, ◌≡◌, ℕ}
 use Rattle.std.specs.Prelude.{Bool, Contains, Err, None, Ok, Option, Result, Some, ◌≢◌, ◌≤◌}
 use Rattle.heat_plan.specs.declared.token.Token.{Token}
-use Rattle.provider.proofs.Lists.{here}
 use Rattle.provider.proofs.States.{state-stays}
 use Rattle.provider.specs.Changes.{Stays}
 use Rattle.provider.specs.Cloud.{Cloud, state_of}
@@ -23,12 +22,12 @@ use Rattle.step_relation.specs.Steps.{engine_limit, restart, restart_changes}
 use Rattle.record_keeper.specs.Shown.{ShownKeeper}
 use Rattle.book.specs.Halting.{halt_behind}
 use Rattle.book.specs.Kept.{IsByRestart, IsKept, IsTraced, Shown, calls_of, listed, opening_of, registries, whole}
-use Rattle.book.specs.Openings.{MayList}
+use Rattle.book.specs.Openings.{MayAgree, MayList}
 use Rattle.book.specs.Openings as openings
 use Rattle.book.specs.Recording.{Records, StepsTo, none}
-use Rattle.book.specs.Restarts.{RestartBreaks, RestartDoes, RestartsAs, Restarts, Tries, halt_of, restart_entry}
+use Rattle.book.specs.Restarts.{RestartBreaks, RestartsAs, Restarts, Tries, halt_of, restart_entry}
 use Rattle.book.specs.Restarts as restarts
-use Rattle.book.specs.Scenes.{Scene, scene, scene_of}
+use Rattle.book.specs.Scenes.{Scene, scene_of}
 use Rattle.book.specs.declared.halting.Halt.TheVariants as halt
 use Rattle.book.specs.declared.halting.Halt.{Halt}
 use Rattle.book.specs.declared.restarting.Unrestarted.TheVariants as why
@@ -50,6 +49,11 @@ may_last : (c d : Cloud) → MayList c d → Lasts c d
 may_last c d (openings.unasked same) = record { rests = same.stays; trace = unasked same.trace }
 may_last c d (openings.listed all lists) = record { rests = lists.stays; trace = asked listing.Got lists.noted.trace }
 
+agree_last : (P : StateData → Type 0) (c d : Cloud) → MayAgree P c d → Lasts c d
+agree_last P c d (openings.unasked same) = record { rests = same.stays; trace = unasked same.trace }
+agree_last P c d (openings.agreed s its agreed) =
+    record { rests = agreed.listed.stays; trace = asked listing.Got agreed.listed.noted.trace }
+
 breaks_last : (recalls : Bool) (count : ℕ) (old new : Scene) (w : Unrestarted)
     → RestartBreaks recalls count old new w → Lasts old.cloud new.cloud
 breaks_last recalls count old new _ (restarts.foreign unfit same) =
@@ -60,7 +64,7 @@ breaks_last recalls count old new _ (restarts.cloud_fault none_) =
     record { rests = none_.stays; trace = asked listing.Failed none_.noted.trace }
 breaks_last recalls count old new _ (restarts.worn all lists nothing over) =
     record { rests = lists.stays; trace = asked listing.Got lists.noted.trace }
-breaks_last recalls count old new _ (restarts.disk_fault may) = may_last old.cloud new.cloud may
+breaks_last recalls count old new _ (restarts.disk_fault may) = agree_last _ old.cloud new.cloud may
 breaks_last recalls count old new _ (restarts.memory may) = may_last old.cloud new.cloud may
 
 -- no token's state has changed

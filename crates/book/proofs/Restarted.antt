@@ -1,19 +1,16 @@
 -- A restart: what it makes of a book, and what it leaves with the keeper.
-use Rattle.std.proofs.Common.{List, [], ap, arith, inl, inr, refl, subst, sym, ◌++◌, ◌∙◌, ◌∷◌, ◌≡◌, ◌⊎◌, ℕ}
+use Rattle.std.proofs.Common.{List, [], ap, inl, inr, refl, subst, sym, ◌++◌, ◌∙◌, ◌≡◌, ◌⊎◌, ℕ}
 use Rattle.std.proofs.lemmas.Result.{IfOk-weaker}
 use Rattle.std.specs.Prelude.{Err, IfErr, IfOk, IsTrue, Ok, Option, Result, Some, ◌≢◌}
 use Rattle.heat_value.specs.Counts.{Rose}
 use Rattle.heat_plan.specs.declared.refusal.Refusal.{Refusal}
 use Rattle.heat_plan.specs.declared.refusal.Refusal.TheVariants as refusal
-use Rattle.provider.specs.Calls.{Lists}
 use Rattle.provider.specs.Cloud.{Cloud}
-use Rattle.provider.specs.declared.alive.Alive.{Alive}
 use Rattle.core_state.specs.Changes.{applied}
 use Rattle.core_state.specs.State.{StateData}
 use Rattle.core_state.specs.declared.change.Change.{Change}
 use Rattle.core_state.specs.declared.entry.Entry.{Entry}
 use Rattle.core_state.specs.declared.made.Made.{Made}
-use Rattle.step_relation.specs.Laws.{opening_at}
 use Rattle.step_relation.specs.Steps.{Step}
 use Rattle.record_keeper.proofs.Moments.{LeavesOnly-then, LeavesOnly-weaker}
 use Rattle.record_keeper.specs.Calls.{ComesOf, GoesOn, IsLeftOf, IsUnfit, StaysAsItIs, StemsFrom}
@@ -29,12 +26,11 @@ use Rattle.workable_laws.proofs.Keepable.{steps_are_keepable}
 use Rattle.book.specs.Keeping.{IsReady, IsStorable, Keeps, KeptBy}
 use Rattle.book.specs.Makings.{MadeAs, MakesAs, tried_as}
 use Rattle.book.specs.Makings as made_as
-use Rattle.workable_laws.specs.Admitted.{FindsNothing}
-use Rattle.book.specs.Openings.{Admits, MayList}
+use Rattle.book.specs.Openings.{Admits, HasAgreed, MayList}
 use Rattle.book.specs.Openings as openings
 use Rattle.book.specs.Quiet.{Page, page}
-use Rattle.book.specs.Restarts.{RestartBreaks, RestartDoes, RestartsAs, Rereads, Restarts, Tries, WhyUnread}
-use Rattle.book.specs.Restarts.{restart_entry, restarted_for, unread_for}
+use Rattle.book.specs.Restarts.{RestartBreaks, Rereads, Restarts, WhyUnread}
+use Rattle.book.specs.Restarts.{restarted_for, unread_for}
 use Rattle.book.specs.Restarts as restarts
 use Rattle.book.specs.Scenes.{scene}
 use Rattle.book.specs.WorkableOver.{IsWorkable}
@@ -194,15 +190,10 @@ module _ (count : ℕ) (s t : StateData) (h i : List Entry) (c d : Cloud) (k l m
     (it : Rereads s k l n0 n1 (Ok tt)) (listed : Admits s c d r) (yes_ : r ≡ Ok tt)
     (ok : IfOk made (λ x. MakesRestart s count x.changes x.entries))
     (err : IfErr made (λ x. (x ≡ refusal.Memory) ⊎ RefusesRestart s count x)) where
-  record WasListed : Type 0 where
-    pub all : List Alive
-    pub lists : Lists all c d
-    pub nothing : FindsNothing (opening_at s d)
-
-  was_listed : WasListed
-  was_listed = by listed where
-    by : Admits s c d r → WasListed
-    by (openings.agrees all lists nothing is) = record { all = all; lists = lists; nothing = nothing }
+  has_agreed : HasAgreed s c d
+  has_agreed = by listed where
+    by : Admits s c d r → HasAgreed s c d
+    by (openings.agrees all lists nothing is) = record { all = all; listed = lists; nothing = nothing }
     by (openings.disagrees all token finding lists found is) = let both = sym yes_ ∙ is in cc
     by (openings.unlisted none is) = let both = sym yes_ ∙ is in cc
     by (openings.lacking may is) = let both = sym yes_ ∙ is in cc
@@ -233,11 +224,11 @@ module _ (count : ℕ) (s t : StateData) (h i : List Entry) (c d : Cloud) (k l m
   pub restart_made : MakesAs made (page s h) (page t i) l m n1 n2 first → made ≢ Err refusal.DiskFault
       → Restarts count (scene s h c) (scene t i d) k m n0 n2 (restarted_for first)
   restart_made makes honest = by makes.does makes.kept where
-    w : WasListed
-    w = was_listed
+    w : HasAgreed s c d
+    w = has_agreed
 
     may : MayList c d
-    may = openings.listed w.all w.lists
+    may = openings.listed w.all w.listed
 
     by_refusal : (x : Refusal) → made ≡ Err x → page t i ≡ page s h → first ≡ Err x
         → KeptBy l m n1 n2 s t [] (first ≡ Err refusal.DiskFault) → (x ≡ refusal.Memory) ⊎ RefusesRestart s count x
@@ -245,7 +236,7 @@ module _ (count : ℕ) (s t : StateData) (h i : List Entry) (c d : Cloud) (k l m
     by_refusal x is same ends kept (inl lacks) = not_made why.Memory (ap restarted_for (ends ∙ ap Err lacks)) (λ f. cc)
         (restarts.memory may) same kept.keeps (kept.ready (never_fault made first _ honest is ends))
     by_refusal _ is same ends kept (inr (engines.worn over)) = not_made why.Worn (ap restarted_for ends) (λ f. cc)
-        (restarts.worn w.all w.lists w.nothing over) same kept.keeps (kept.ready (never_fault made first _ honest is ends))
+        (restarts.worn w.all w.listed w.nothing over) same kept.keeps (kept.ready (never_fault made first _ honest is ends))
 
     by : (q : MadeAs made (page s h) (page t i) first)
         → KeptBy l m n1 n2 s t (tried_as q) (first ≡ Err refusal.DiskFault)
@@ -255,7 +246,7 @@ module _ (count : ℕ) (s t : StateData) (h i : List Entry) (c d : Cloud) (k l m
         let ended : restarted_for first ≡ Ok tt = ap restarted_for ends in record {
           does = restarts.done (record {
             all = w.all;
-            listed = w.lists;
+            listed = w.listed;
             nothing = w.nothing;
             below = z.below;
             state = writes.state ∙ ap (λ (cs : List Change). applied cs s) z.changes;
@@ -274,8 +265,8 @@ module _ (count : ℕ) (s t : StateData) (h i : List Entry) (c d : Cloud) (k l m
     by (made_as.unkept x is some same ends) kept =
         let z = when_made x is in
         let ended : restarted_for first ≡ Err why.DiskFault = ap restarted_for ends in record {
-          does = restarts.refused why.DiskFault (restarts.disk_fault may) (ap (λ (p : Page). p.state) same)
-              (ap (λ (p : Page). p.entries) same) ended;
+          does = restarts.refused why.DiskFault (restarts.disk_fault (openings.agreed s refl w))
+              (ap (λ (p : Page). p.state) same) (ap (λ (p : Page). p.entries) same) ended;
           tried = x.changes;
           tries = restarts.all (inr ended) z.below z.changes;
           kept = record {

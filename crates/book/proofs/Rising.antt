@@ -1,6 +1,6 @@
 -- In every run the live engines stand by rising number.
-use Rattle.std.proofs.Common.{arith, inl, inr, refl, subst, sym, ap, ◌∙◌, ◌⊎◌}
-use Rattle.std.specs.Prelude.{Bool, Contains, List, [], cond, false, filter, length, map, nat_eq, not, suc, true, zero}
+use Rattle.std.proofs.Common.{arith, inl, inr, refl, subst, sym, ◌∙◌, ◌⊎◌}
+use Rattle.std.specs.Prelude.{Bool, Contains, List, [], cond, false, filter, map, nat_eq, not, suc, true, zero}
 use Rattle.std.specs.Prelude.{ℕ, ◌++◌, ◌+◌, ◌<◌, ◌∷◌, ◌≡◌, ◌≤◌}
 use Rattle.std.specs.List.{slice_index_or}
 use Rattle.std.proofs.lemmas.List.{get_or_default}
@@ -15,7 +15,7 @@ use Rattle.core_state.specs.declared.change.Change.TheVariants.{Enlist, Numbers,
 use Rattle.core_state.specs.declared.entry.Entry.{Entry}
 use Rattle.step_relation.specs.Orders.{Command}
 use Rattle.step_relation.specs.Orders as order
-use Rattle.step_relation.specs.Runs.{IsTiedStep, Judges, Run, begins, goes_on}
+use Rattle.step_relation.specs.Runs.{Judges, Run, begins, goes_on}
 use Rattle.step_relation.specs.Steps.{Step, engines_from, past_engines, restart_changes}
 use Rattle.step_relation.specs.Steps as step
 use Rattle.step_relation.specs.Opening.{Opening}

@@ -9,7 +9,7 @@ use Rattle.core_state.specs.declared.made.Made.{Made}
 use Rattle.record_keeper.proofs.Moments.{LeavesOnly-then, LeavesOnly-weaker}
 use Rattle.record_keeper.specs.Calls.{GoesOn, IsLeftOf}
 use Rattle.record_keeper.specs.Laws.{IsLawful}
-use Rattle.record_keeper.specs.Shown.{Left, LeavesOnly, SameKeeper, ShownKeeper, StandsFor, at_rest}
+use Rattle.record_keeper.specs.Shown.{LeavesOnly, SameKeeper, ShownKeeper, StandsFor, at_rest}
 use Rattle.takeover_steps.specs.Engines.{RefusesRestart}
 use Rattle.takeover_steps.specs.Engines as engines
 use Rattle.book.specs.Compactions.{Shortens}
@@ -75,12 +75,12 @@ module _ (k l : ShownKeeper) (s : StateData) (n first now : ℕ) (r : Result (Un
     why = starting.memory refl;
   }
 
-  pub renews_old : l.is_old ≡ true → Renews s n k l first now (Err unrestarted.Worn)
-  renews_old old = record {
+  pub renews_old : r ≡ Ok tt → l.is_old ≡ true → Renews s n k l first now (Err unrestarted.Worn)
+  renews_old is old = record {
     leaves = it.leaves;
     goes_on = it.goes_on;
     ready = λ f. cc;
-    why = starting.worn (inr old) refl;
+    why = starting.worn (inr (old, it.stuck is old)) refl;
   }
 
   pub renews_young : r ≡ Ok tt → l.is_old ≡ false → Renews s n k l first now (Ok tt)
@@ -116,6 +116,7 @@ module _ (image : StateData) (count : ℕ) where
   starts_unmade k may_open lawful now it w cause = record {
     leaves = rest_starts k k image count (λ tells. rests_same k k may_open lawful (itself k) image it tells);
     goes_on = same_goes k k (itself k) now now refl;
+    rests = λ ne tells. rests_same k k may_open lawful (itself k) image it tells;
     start = tt;
     below = tt;
     ready = tt;
@@ -128,6 +129,7 @@ module _ (image : StateData) (count : ℕ) where
     starts_unrenewed w is = record {
       leaves = rest_starts k l image count renews.leaves;
       goes_on = renews.goes_on;
+      rests = λ ne. renews.leaves;
       start = tt;
       below = tt;
       ready = tt;
@@ -140,17 +142,18 @@ module _ (image : StateData) (count : ℕ) where
         → done ≡ Ok tt → SameKeeper l m → last ≡ now → (w : Unrestarted) → Cause w
         → Starts image count k m first last (Err w)
     starts_lacking m last may_open lawful is same count_ w cause = record {
-      leaves = λ tells. LeavesOnly-then k l m (IsLeftOfStart image count)
-          (rest_starts k l image count renews.leaves tells)
-          (rest_starts l m image count
-          (λ told. rests_same l m may_open lawful same image (renews.ready is).stands told)
-          (subst IsTrue (sym renews.goes_on.tells) tells));
+      leaves = rest_starts k m image count rests;
       goes_on = goes_then k l m first now last renews.goes_on (same_goes l m same now last count_);
+      rests = λ ne. rests;
       start = tt;
       below = tt;
       ready = tt;
       why = why_of m first last w cause;
-    }
+    } where
+      rests : IsTrue k.tells → LeavesOnly k m (λ x. x ≡ Some (at_rest image))
+      rests tells = LeavesOnly-then k l m (λ x. x ≡ Some (at_rest image)) (renews.leaves tells)
+          (rests_same l m may_open lawful same image (renews.ready is).stands
+          (subst IsTrue (sym renews.goes_on.tells) tells))
 
     pub starts_unkept : (m : ShownKeeper) (last : ℕ) → image.next.engine + count ≤ 2 ^ 62
         → Keeps l m now last image (restarted_at image count) → Rose now last
@@ -158,6 +161,7 @@ module _ (image : StateData) (count : ℕ) where
     starts_unkept m last below keeps rose = record {
       leaves = begun_starts k l m first now last image count renews.leaves renews.goes_on below keeps;
       goes_on = goes_then k l m first now last renews.goes_on keeps.goes_on;
+      rests = λ ne. absurd (ne refl);
       start = tt;
       below = tt;
       ready = tt;
@@ -170,6 +174,7 @@ module _ (image : StateData) (count : ℕ) where
     starts_well m last st below keeps ready start = record {
       leaves = begun_starts k l m first now last image count renews.leaves renews.goes_on below keeps;
       goes_on = goes_then k l m first now last renews.goes_on keeps.goes_on;
+      rests = tt;
       start = start;
       below = below;
       ready = ready;

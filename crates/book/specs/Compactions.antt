@@ -34,5 +34,7 @@ pub record Shortens (s : StateData) (old new : ShownKeeper) (before now : ℕ) (
   pub stands : result ≢ Err why.DiskFault → StandsFor new s
   pub young : result ≢ Err why.DiskFault → old.is_old ≡ false → new.is_old ≡ false
   pub short : result ≡ Ok tt → new.is_long ≡ false
+  -- one that is still old can't be compacted any more
+  pub stuck : result ≡ Ok tt → IsTrue new.is_old → new.can_compact ≡ false
   pub rose : result ≡ Err why.DiskFault → Rose before now
   pub same : result ≡ Err why.Memory → SameKeeper old new

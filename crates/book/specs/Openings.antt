@@ -1,5 +1,5 @@
 -- What an opening comes to: the keeper is opened, and the cloud asked what is alive, once.
-use Rattle.std.specs.Prelude.{Bool, Err, IsTrue, List, None, Ok, Option, Result, Some, [], ℕ, ◌+◌, ◌<◌, ◌^◌, ◌×◌, ◌≡◌}
+use Rattle.std.specs.Prelude.{Bool, Err, IsTrue, List, None, Ok, Option, Result, Some, [], ℕ, ◌+◌, ◌<◌, ◌^◌, ◌≡◌}
 use Rattle.std.specs.Prelude.{false, ◌≢◌, ◌≤◌, ◌⊎◌}
 use Rattle.heat_value.specs.Counts.{Rose}
 use Rattle.heat_plan.specs.declared.token.Token.{Token}

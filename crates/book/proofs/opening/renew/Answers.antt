@@ -14,7 +14,7 @@ pub returns-in-Err-Memory : goal.returns-in-Err-Memory
 returns-in-Err-Memory g c n = renews_lacking _ _ _ n _ _ c.shorten.result c.shorten.ensures c.in-Err-Memory.is
 
 pub returns-then-is_old : goal.returns-then-is_old
-returns-then-is_old g c n = renews_old _ _ _ n _ _ c.shorten.result c.shorten.ensures
+returns-then-is_old g c n = renews_old _ _ _ n _ _ c.shorten.result c.shorten.ensures c.in-Ok.is
     (sym c.is_old-2.ensures ∙ c.if-is_old.true)
 
 pub returns : goal.returns

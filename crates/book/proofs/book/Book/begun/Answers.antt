@@ -1,5 +1,5 @@
 -- On a book that begins nothing has been done.
-use Rattle.std.proofs.Common.{ap, refl, subst, sym, ◌∙◌}
+use Rattle.std.proofs.Common.{ap, subst, sym}
 use Rattle.provider.specs.Cloud.{Cloud}
 use Rattle.book.specs.Kept.{IsOpenedFrom}
 use Rattle.book.proofs.Crashed.{left_at_first}

@@ -1,4 +1,4 @@
-use Rattle.std.proofs.Common.{Some, ap, not, refl, subst, sym, ◌∙◌}
+use Rattle.std.proofs.Common.{Some, ap, not, subst, sym, ◌∙◌}
 use Rattle.book.specs.Halts.{MayHalt}
 use Rattle.book.specs.Kept.{Shown}
 use Rattle.book.proofs.Crashed.{left_outside}
