@@ -33,7 +33,7 @@ use Rattle.book.specs.Quiet.{Page, page}
 use Rattle.book.specs.Restarts.{RestartsAs, Restarts, restart_entry}
 use Rattle.book.specs.Restarts as restarts
 use Rattle.book.specs.Recording.{StepsTo, none}
-use Rattle.book.specs.Scenes.{Scene}
+use Rattle.book.specs.Scenes.{IsUnmade, Scene}
 use Rattle.book.specs.Turned.{Turned, failed, lacking}
 use Rattle.book.specs.Turned as turned
 use Rattle.book.specs.declared.halting.Halt.TheVariants as halt
@@ -139,7 +139,7 @@ module _ (first : StateData) (origin : Cloud) (opened k l : ShownKeeper) (may_op
       → IsLeft first origin opened k old.state old.entries old.cloud None → CommitsTo e w old new k l n0 n1 r
       → IsLeft first origin opened l new.state new.entries new.cloud h
   left_committed e w old new r h n0 n1 is kept was it = by it.committed it.kept where
-    silent : (same : _) → Allows (state_of origin) (old.entries ++ []) new.cloud
+    silent : IsUnmade old new → Allows (state_of origin) (old.entries ++ []) new.cloud
     silent same = turned_allows first origin old kept.agrees e new turn.Memory (turned.unmade refl same)
 
     by : (c : Commits e w old new r) → KeptBy k l n0 n1 old.state new.state (tried_at c) (r ≡ turn.DiskFault)

@@ -44,10 +44,10 @@ use Rattle.book.proofs.KeptTurned.{step_to, told_by, turned_allows, turned_state
 
 module _ {K P : Type 0} (shown : K → ShownKeeper) (cloud_of : P → Cloud) (old new : Shown K P)
     (allows : Allows (first_of (opening_of cloud_of old)) old.entries (cloud_of old.cloud)) where
-  a : Scene
+  abbrev a : Scene
   a = scene_of cloud_of old
 
-  b : Scene
+  abbrev b : Scene
   b = scene_of cloud_of new
 
   pub recorded_turn : (e faults now : ℕ) (result : Turn_answer)

@@ -151,10 +151,10 @@ restart_told_allows first origin old new allows recalls count r does cs (restart
 module _ {K P : Type 0} (shown : K → ShownKeeper) (cloud_of : P → Cloud) (old new : Shown K P)
     (allows : Allows (first_of (opening_of cloud_of old)) old.entries (cloud_of old.cloud)) (count : ℕ)
     (some : 1 ≤ count) (few : count ≤ engine_limit) where
-  a : Scene
+  abbrev a : Scene
   a = scene_of cloud_of old
 
-  b : Scene
+  abbrev b : Scene
   b = scene_of cloud_of new
 
   not_ok : (r : Result (Unit {0}) Unrestarted) (w : Unrestarted) → r ≡ Err w → r ≡ Ok tt → ⊥

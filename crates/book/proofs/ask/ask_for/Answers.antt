@@ -1,4 +1,6 @@
 -- What was prepared has changed nothing, and then the cloud is asked.
+use Rattle.std.proofs.Common.{ap, ◌∙◌}
+use Rattle.std.specs.Prelude.{Err}
 use Rattle.book.proofs.Calling.{workable_of}
 use Rattle.book.proofs.Growing.{unasked}
 use Rattle.book.proofs.Settings.{ready_after, turns_after, wants, wears, workable_after, worn_refusal}
@@ -22,7 +24,8 @@ returns-in-Ok g c = turns_after c.args.e _ _ _ _ _ _ _ _ _ _ _ _ _ c.prepare.ens
 pub returns-in-Err-Worn : goal.returns-in-Err-Worn
 returns-in-Err-Worn g c = wears c.args.e _ _ _ _ _ _ _ _ _ _ _ (g.met.K.Keeper.lawful _) c.prepare.ensures.state
     c.prepare.ensures.entries c.prepare.ensures.shown c.prepare.ensures.faults c.requires.ready (unasked _)
-    (worn_refusal _ c.args.e c.prepare.result c.prepare.ensures.cause c.in-Err-Worn.is)
+    (worn_refusal _ c.args.e c.prepare.result c.prepare.ensures.cause
+    (c.in-Err-Worn.is ∙ ap Err c.in-Err-Worn.field-0-is))
 
 pub returns-in-Err : goal.returns-in-Err
 returns-in-Err g c = wants c.args.e _ _ _ _ _ _ _ _ _ _ _ (g.met.K.Keeper.lawful _) c.prepare.ensures.state

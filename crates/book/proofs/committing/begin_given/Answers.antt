@@ -24,7 +24,7 @@ make_quietly-requires-clause-honest g c =
 
 pub returns-in-Lost-clause-turned : goal.returns-in-Lost-clause-turned
 returns-in-Lost-clause-turned g c it = is_lost c.args.e _ _ _ _ it it _ _ _ _ _ (g.met.K.Keeper.lawful _) refl refl
-    (itself _) refl c.requires.ready (unasked it) c.in-Lost.ensures
+    (itself _) refl c.requires.ready (unasked it) (record { drawn = c.requires.drawn; ended = c.in-Lost.ensures })
 
 pub returns-in-Idle-clause-turned : goal.returns-in-Idle-clause-turned
 returns-in-Idle-clause-turned g c it = rests c.args.e _ _ _ _ it it _ _ _ _ _ (g.met.K.Keeper.lawful _) refl refl

@@ -1,9 +1,19 @@
 -- The answer was stored, or the call alone is told.
-use Rattle.std.proofs.Common.{refl, ◌∙◌}
+use Rattle.std.proofs.Common.{refl, subst, sym, ◌∙◌}
+use Rattle.core_state.specs.State.{StateData}
+use Rattle.book.specs.Keeping.{IsStorable}
 use Rattle.book.proofs.Calling.{answer_storable, tells_some, unworn}
 use Rattle.book.proofs.Learned.{learned_alone, learned_stored}
 use Rattle.book.proofs.LostAlone.{lost_turn}
 use Rattle.book.proofs.poll.learn.Goals as goal
+
+pub make_answered-requires-clause-storable : goal.make_answered-requires-clause-storable
+make_answered-requires-clause-storable g c =
+    subst (λ (s : StateData). IsStorable s c.in-Ok.made.changes) (sym c.learned.ensures.state)
+    (answer_storable _ c.requires.workable c.args.e c.args.answer _ c.in-Ok.ensures.made)
+
+pub make_answered-requires-clause-tells : goal.make_answered-requires-clause-tells
+make_answered-requires-clause-tells g c = tells_some _ c.args.e c.args.answer _ c.in-Ok.ensures.made
 
 pub returns-in-Ok : goal.returns-in-Ok
 returns-in-Ok g c =

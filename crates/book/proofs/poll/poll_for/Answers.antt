@@ -1,6 +1,6 @@
 -- A resource that was sent away is asked after; another is polled.
 use Rattle.std.proofs.Common.{ap, subst, sym, ◌∙◌}
-use Rattle.std.specs.Prelude.{◌≢◌}
+use Rattle.std.specs.Prelude.{Err, ◌≢◌}
 use Rattle.heat_plan.specs.declared.phase.Act.TheVariants.{Delete}
 use Rattle.row_table.specs.declared.row.Row.{Row}
 use Rattle.mail_table.specs.declared.mail.Stage.TheVariants.{Polling}
@@ -38,7 +38,8 @@ returns-in-Ok g c = turns_after c.args.e _ _ _ _ _ _ _ _ _ _ _ _ _ c.prepare.ens
 pub returns-in-Err-Worn : goal.returns-in-Err-Worn
 returns-in-Err-Worn g c = wears c.args.e _ _ _ _ _ _ _ _ _ _ _ (g.met.K.Keeper.lawful _) c.prepare.ensures.state
     c.prepare.ensures.entries c.prepare.ensures.shown c.prepare.ensures.faults c.requires.ready (unasked _)
-    (worn_refusal _ c.args.e c.prepare.result c.prepare.ensures.cause c.in-Err-Worn.is)
+    (worn_refusal _ c.args.e c.prepare.result c.prepare.ensures.cause
+    (c.in-Err-Worn.is ∙ ap Err c.in-Err-Worn.field-0-is))
 
 pub returns-in-Err : goal.returns-in-Err
 returns-in-Err g c = wants c.args.e _ _ _ _ _ _ _ _ _ _ _ (g.met.K.Keeper.lawful _) c.prepare.ensures.state

@@ -70,7 +70,7 @@ make_quietly-requires-in-Ending-clause-honest g c = quiet_honest _ c.args.e c.fi
 
 pub returns-in-Lost : goal.returns-in-Lost
 returns-in-Lost g c = is_lost c.args.e _ _ _ _ _ _ _ _ _ _ _ (g.met.K.Keeper.lawful _) refl refl (itself _) refl
-    c.requires.ready (unasked _) c.in-Lost.ensures
+    c.requires.ready (unasked _) (record { drawn = c.requires.drawn; ended = c.in-Lost.ensures })
 
 pub returns-in-Idle : goal.returns-in-Idle
 returns-in-Idle g c = rests c.args.e _ _ _ _ _ _ _ _ _ _ _ (g.met.K.Keeper.lawful _) refl refl (itself _) refl

@@ -11,28 +11,28 @@ use Rattle.book.proofs.Crashing.{left_turned}
 use Rattle.book.proofs.Unhalted.{held_unhalted, is_halted, kept_unhalted, left_unhalted, no_turn, unhalted}
 use Rattle.book.proofs.book.Book.turn.Goals as goal
 
-pub turn_of-requires-clause-drawn : goal.turn_of-requires-clause-drawn
-turn_of-requires-clause-drawn g c = subst (λ (b : Shown g.row.K.Denot g.row.P.Denot). c.args.e < b.state.next.engine)
+pub turn_of-turn-requires-clause-drawn : goal.turn_of-turn-requires-clause-drawn
+turn_of-turn-requires-clause-drawn g c = subst (λ (b : Shown g.row.K.Denot g.row.P.Denot). c.args.e < b.state.next.engine)
     (sym c.self.view_is) c.requires
 
-pub turn_of-requires-clause-workable : goal.turn_of-requires-clause-workable
-turn_of-requires-clause-workable g c = over _ _ _ _ _ _ c.self.invariant.0
+pub turn_of-turn-requires-clause-workable : goal.turn_of-turn-requires-clause-workable
+turn_of-turn-requires-clause-workable g c = over _ _ _ _ _ _ c.self.invariant.0
 
-pub turn_of-requires-clause-ready : goal.turn_of-requires-clause-ready
-turn_of-requires-clause-ready g c = held_ready _ _ _ _ _
+pub turn_of-turn-requires-clause-ready : goal.turn_of-turn-requires-clause-ready
+turn_of-turn-requires-clause-ready g c = held_ready _ _ _ _ _
     (held_unhalted _ _ _ _ _ _ (sym c.is_some.ensures ∙ c.if-is_some.false) c.self.invariant.1.0)
 
 pub invariant_of-self : goal.invariant_of-self
 invariant_of-self g c =
     let none = sym c.is_some.ensures ∙ c.if-is_some.false in
     let t = c.turn_of-turn.ensures in
-    let held = turned_held _ _ _ _ _ _ _ _ _ _ (held_unhalted _ _ _ _ _ _ none c.self.invariant.1.0) _ c.halt_by.ensures t.kept in (
+    let held = turned_held _ _ _ _ _ _ _ _ _ _ (held_unhalted _ _ _ _ _ _ none c.self.invariant.1.0) _ c.halt_by-self-inside.ensures t.kept in (
       kept_turned _ _ c.args.e _ _ _ _ (kept_unhalted _ _ _ _ _ _ none c.self.invariant.0) t.turned,
       (
         held.0,
         (
           held.1,
-          left_turned _ _ _ _ _ _ (g.met.K.Keeper.lawful _) c.args.e _ _ _ _ _ _ c.halt_by.ensures (kept_unhalted _ _ _ _ _ _ none c.self.invariant.0)
+          left_turned _ _ _ _ _ _ (g.met.K.Keeper.lawful _) c.args.e _ _ _ _ _ _ c.halt_by-self-inside.ensures (kept_unhalted _ _ _ _ _ _ none c.self.invariant.0)
               (left_unhalted _ _ _ _ _ _ _ _ none c.self.invariant.1.1.1) t,
         ),
       ),
@@ -50,14 +50,14 @@ returns-clause-turned g c = rw (← c.self.view_is) c.turn_of-turn.ensures.turne
 
 pub returns-clause-records : goal.returns-clause-records
 returns-clause-records g c = rw (← c.self.view_is) (λ none. recorded_turn _ _ _ _ c.self.invariant.0.agrees c.args.e _ _ _
-    c.turn_of-turn.ensures (λ ne. fine_turn _ (λ same. ne (c.halt_by.ensures ∙ same))))
+    c.turn_of-turn.ensures (λ ne. fine_turn _ (λ same. ne (c.halt_by-self-inside.ensures ∙ same))))
 
 pub returns-clause-live : goal.returns-clause-live
 returns-clause-live g c = rw (← c.self.view_is) (turned_live c.args.e _ _ _ c.turn_of-turn.ensures.turned)
 
 pub returns-clause-halt : goal.returns-clause-halt
 returns-clause-halt g c = rw (← c.self.view_is) (turned_halts _ _ _
-    (unhalted c.self.inside.halt (sym c.is_some.ensures ∙ c.if-is_some.false)) _ _ _ _ _ _ c.halt_by.ensures
+    (unhalted c.self.inside.halt (sym c.is_some.ensures ∙ c.if-is_some.false)) _ _ _ _ _ _ c.halt_by-self-inside.ensures
     c.turn_of-turn.ensures.kept)
 
 pub returns-then-is_some-clause-halted : goal.returns-then-is_some-clause-halted
