@@ -13,7 +13,7 @@ use Rattle.dep_graph.specs.Lists.{IsRising}
 use Rattle.workable_laws.proofs.Runs.{runs_stay}
 use Rattle.workable_laws.specs.Admitted.{restarted}
 use Rattle.workable_laws.specs.Workable.{Workable}
-use Rattle.book.specs.Kept.{HasHeadline, IsKept, IsSoundBook, IsSoundOpening, Shown, registries}
+use Rattle.book.specs.Kept.{HasHeadline, IsKept, IsSoundOpening, Shown, registries}
 use Rattle.book.specs.WorkableOver.{IsWorkable, IsWorkableOver}
 use Rattle.book.specs.declared.halting.Halt.{Halt}
 use Rattle.book.proofs.Rising.{is_rising, run_rises}
@@ -59,9 +59,3 @@ headline_of cloud_of b kept sound_ = record {
       (possible b.opening (cloud_of b.origin.cloud) b.state b.entries (cloud_of b.cloud) b.halt kept);
   agrees = kept.agrees;
 }
-
--- and its state is sound
-pub sound_book : {K P : Type 0} (cloud_of : P → Cloud) (b : Shown K P)
-    → IsKept b.opening (cloud_of b.origin.cloud) b.state b.entries (cloud_of b.cloud) b.halt
-    → IsSoundOpening cloud_of b → IsSoundBook cloud_of b
-sound_book cloud_of b kept = sound b.opening (cloud_of b.origin.cloud) b.state b.entries (cloud_of b.cloud) b.halt kept

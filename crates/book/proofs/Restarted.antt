@@ -40,6 +40,9 @@ use Rattle.book.proofs.Growing.{unasked}
 use Rattle.book.proofs.Held.{goes_then, rose_since}
 use Rattle.book.proofs.Stepping.{never_fault}
 
+one_left : (a b : Left) → ◌≡◌ {A = Option Left} (Some a) (Some b) → a ≡ b
+one_left a b is = cc
+
 -- what came of a keeper that stands for a state, at rest
 pub came_at_rest : (may_open : StateData → Type 0) (k : ShownKeeper) (s : StateData) → IsLawful may_open k
     → StandsFor k s → IsTrue k.tells → (l : Option Left) → ComesOf k l → l ≡ Some (at_rest s)
@@ -50,13 +53,10 @@ came_at_rest may_open k s lawful stands tells l it = by it.from l (rest it.from 
   by : (f l : Option Left) → f ≡ Some (at_rest s) → StemsFrom f l → l ≡ Some (at_rest s)
   by f l is (left.unknown none) = let both = sym none ∙ is in cc
   by f l is (left.same as_it_is) = as_it_is ∙ is
-  by f l is (left.settles m old new) = let one : m ≡ at_rest s = some_one m (at_rest s) (sym old ∙ is) in
+  by f l is (left.settles m old new) = let one : m ≡ at_rest s = one_left m (at_rest s) (sym old ∙ is) in
       new ∙ ap (λ (x : Left). Some (at_rest x.reads)) one
-  by f l is (left.turns m u old next new) = let one : m ≡ at_rest s = some_one m (at_rest s) (sym old ∙ is) in
+  by f l is (left.turns m u old next new) = let one : m ≡ at_rest s = one_left m (at_rest s) (sym old ∙ is) in
       let none = sym next ∙ ap (λ (x : Left). x.next) one in cc
-
-  some_one : (a b : Left) → ◌≡◌ {A = Option Left} (Some a) (Some b) → a ≡ b
-  some_one a b is = cc
 
 -- the keeper is read again, as the state for which it stands
 module _ (may_open : StateData → Type 0) (k l : ShownKeeper) (before_ now : ℕ) (s : StateData)
@@ -136,7 +136,8 @@ module _ (count : ℕ) (s : StateData) (h : List Entry) (c d : Cloud) (k l : Sho
     by v (restarts.memory is) = subst (RestartBreaks k.recalls count (scene s h c) (scene s h c)) (sym is)
         (restarts.memory (openings.unasked (unasked c)))
 
-    rose : (v : Unrestarted) → WhyUnread k.recalls s before_ now v → Err v ≡ Err why.DiskFault → Rose before_ now
+    rose : (v : Unrestarted) → WhyUnread k.recalls s before_ now v
+        → ◌≡◌ {A = Result (Unit {0}) Unrestarted} (Err v) (Err why.DiskFault) → Rose before_ now
     rose v (restarts.foreign unfit is) f = let both = ap Err (sym is) ∙ f in cc
     rose v (restarts.fault rose_ is) f = rose_
     rose v (restarts.memory is) f = let both = ap Err (sym is) ∙ f in cc
@@ -151,7 +152,7 @@ module _ (count : ℕ) (s : StateData) (h : List Entry) (c d : Cloud) (k l : Sho
       same_err a b is_ = cc
 
     made : (breaks : RestartBreaks k.recalls count (scene s h c) (scene s h d) w)
-        → (Err w ≡ Err why.DiskFault → ⊥) → Restarts count (scene s h c) (scene s h d) k l before_ now (Err w)
+        → (◌≡◌ {A = Result (Unit {0}) Unrestarted} (Err w) (Err why.DiskFault) → ⊥) → Restarts count (scene s h c) (scene s h d) k l before_ now (Err w)
     made breaks never = record {
       does = restarts.refused w breaks refl refl refl;
       tried = [];

@@ -10,7 +10,7 @@ use Rattle.book.specs.Commits.{Commits}
 use Rattle.book.specs.Commits as commits
 use Rattle.book.specs.Crashes.{IsLeft}
 use Rattle.book.specs.Halts.{IsForeignCause, first_cause}
-use Rattle.book.specs.Kept.{IsHeld, IsKept, Shown}
+use Rattle.book.specs.Kept.{IsHeld, IsKept, Origin, Shown}
 use Rattle.book.specs.Scenes.{Scene}
 use Rattle.book.specs.Turned.{Turned}
 use Rattle.book.specs.Turned as turned
@@ -66,14 +66,28 @@ pub first_made : (h : Option Halt) (why : Halt) → is_some h ≡ false → Some
 first_made None why none = refl
 first_made (Some first) why none = cc
 
+abbrev shown_as : {K P : Type 0} → StateData → StateData → List Entry → K → P → Origin K P → Option Halt → Shown K P
+shown_as opening state es keeper cloud origin h = record {
+  opening = opening;
+  state = state;
+  entries = es;
+  keeper = keeper;
+  cloud = cloud;
+  origin = origin;
+  halt = h;
+}
+
 -- so a book that is halted stays as it is, and another shows the cause
 pub halted_still : {K P : Type 0} (b : Shown K P) (h : Option Halt) → b.halt ≡ h
     → ◌≡◌ {A = Shown K P} b (record b { halt = h })
 halted_still {K} {P} b h same = ap (λ (x : Option Halt). record b { halt = x }) same
 
-pub halted_as : {K P : Type 0} (b : Shown K P) (h i : Option Halt) → h ≡ i
-    → ◌≡◌ {A = Shown K P} (record b { halt = h }) (record b { halt = i })
-halted_as {K} {P} b h i same = ap (λ (x : Option Halt). record b { halt = x }) same
+pub halted_as : {K P : Type 0} (opening state : StateData) (es : List Entry) (keeper : K) (cloud : P)
+    (origin : Origin K P) (h i : Option Halt) → h ≡ i
+    → ◌≡◌ {A = Shown K P} (shown_as opening state es keeper cloud origin h)
+    (shown_as opening state es keeper cloud origin i)
+halted_as {K} {P} opening state es keeper cloud origin h i same =
+    ap (λ (x : Option Halt). shown_as opening state es keeper cloud origin x) same
 
 -- a book that is halted from outside keeps what it kept
 pub kept_outside : (first : StateData) (origin : Cloud) (s : StateData) (es : List Entry) (c : Cloud) (h i : Option Halt)

@@ -6,9 +6,9 @@ pub returns-in-Err : goal.returns-in-Err
 returns-in-Err g c = restart_unread c.args.workers _ _ (g.P.Provider.cloud c.args.cloud.now)
     (g.P.Provider.cloud c.args.cloud.now) _ _ _ _ c.in-Err.why c.in-Err.ensures
 
-pub returns-in-Err-2 : goal.returns-in-Err-2
-returns-in-Err-2 g c = restart_unlisted c.args.workers _ _ _ _ _ _ _ _ c.in-Err-2.why c.admit.result c.in-Ok.ensures
-    c.admit.ensures c.in-Err-2.is
+pub returns-in-Err-admit : goal.returns-in-Err-admit
+returns-in-Err-admit g c = restart_unlisted c.args.workers _ _ _ _ _ _ _ _ c.in-Err-admit.why c.admit.result c.in-Ok.ensures
+    c.admit.ensures c.in-Err-admit.is
 
 pub make_step-requires-clause-ready : goal.make_step-requires-clause-ready
 make_step-requires-clause-ready g c = c.in-Ok.ensures.ready (λ f. cc)
@@ -22,6 +22,6 @@ make_step-requires-clause-honest g c = restart_honest _ c.args.workers c.restart
 
 pub returns : goal.returns
 returns g c = rw c.restarted.ensures (restart_made c.args.workers _ _ _ _ _ _ _ _ _ _ _ _ c.admit.result
-    c.restart-made.result c.make_step.result c.in-Ok.ensures c.admit.ensures c.in-Ok-2.is c.restart-made.ensures.made
+    c.restart-made.result c.make_step.result c.in-Ok.ensures c.admit.ensures c.in-Ok-admit.is c.restart-made.ensures.made
     c.restart-made.ensures.cause c.make_step.ensures
     (restart_honest _ c.args.workers c.restart-made.result c.restart-made.ensures.cause))

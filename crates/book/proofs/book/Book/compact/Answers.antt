@@ -6,29 +6,29 @@ use Rattle.book.proofs.Shortened.{compacted, held_shortened, kept_shortened, lef
 use Rattle.book.proofs.Unhalted.{held_unhalted, is_halted, kept_unhalted, left_unhalted, unhalted}
 use Rattle.book.proofs.book.Book.compact.Goals as goal
 
-pub shorten-requires-clause-stands : goal.shorten-requires-clause-stands
-shorten-requires-clause-stands g c = (held_ready _ _ _ _ _
+pub shorten-done-requires-clause-stands : goal.shorten-done-requires-clause-stands
+shorten-done-requires-clause-stands g c = (held_ready _ _ _ _ _
     (held_unhalted _ _ _ _ _ _ (sym c.is_some.ensures ∙ c.if-is_some.false) c.self.invariant.1.0)).stands
 
-pub shorten-requires-clause-made : goal.shorten-requires-clause-made
-shorten-requires-clause-made g c = (book_written _ _ _ _ _ _ c.self.invariant.0).made
+pub shorten-done-requires-clause-made : goal.shorten-done-requires-clause-made
+shorten-done-requires-clause-made g c = (book_written _ _ _ _ _ _ c.self.invariant.0).made
 
-pub shorten-requires-clause-keepable : goal.shorten-requires-clause-keepable
-shorten-requires-clause-keepable g c = (book_written _ _ _ _ _ _ c.self.invariant.0).rows
+pub shorten-done-requires-clause-keepable : goal.shorten-done-requires-clause-keepable
+shorten-done-requires-clause-keepable g c = (book_written _ _ _ _ _ _ c.self.invariant.0).rows
 
 pub invariant_of-self : goal.invariant_of-self
 invariant_of-self g c =
     let none = sym c.is_some.ensures ∙ c.if-is_some.false in
     let t = c.shorten-done.ensures in
     let kept = kept_unhalted _ _ _ _ _ _ none c.self.invariant.0 in
-    let held = held_shortened _ _ _ _ _ _ t _ c.halt_compacting.ensures _ _
+    let held = held_shortened _ _ _ _ _ _ t _ c.halt_compacting-self-inside.ensures _ _
     (held_unhalted _ _ _ _ _ _ none c.self.invariant.1.0) in (
-      kept_shortened _ _ _ _ _ _ t _ c.halt_compacting.ensures _ _ _ _ kept,
+      kept_shortened _ _ _ _ _ _ t _ c.halt_compacting-self-inside.ensures _ _ _ _ kept,
       (
         held.0,
         (
           held.1,
-          left_shortened _ _ _ _ _ _ t _ c.halt_compacting.ensures _ _ _ _ kept _ _ (g.met.K.Keeper.lawful _)
+          left_shortened _ _ _ _ _ _ t _ c.halt_compacting-self-inside.ensures _ _ _ _ kept _ _ (g.met.K.Keeper.lawful _)
               (left_unhalted _ _ _ _ _ _ _ _ none c.self.invariant.1.1.1),
         ),
       ),
@@ -36,7 +36,7 @@ invariant_of-self g c =
 
 pub returns-clause-compacted : goal.returns-clause-compacted
 returns-clause-compacted g c = rw (← c.self.view_is)
-    (λ none. compacted {K = g.row.K.Denot} {P = g.row.P.Denot} _ _ _ _ _ _ c.halt_compacting.ensures none c.shorten-done.ensures)
+    (λ none. compacted {K = g.row.K.Denot} {P = g.row.P.Denot} _ _ _ _ _ _ c.halt_compacting-self-inside.ensures none c.shorten-done.ensures)
 
 pub returns-clause-leaves : goal.returns-clause-leaves
 returns-clause-leaves g c = rw (← c.self.view_is) (λ none tells. c.shorten-done.ensures.leaves tells)

@@ -15,14 +15,14 @@ invariant_of-self g c =
         (
           subst (λ (b : Shown g.row.K.Denot g.row.P.Denot). MayHalt g.K.Keeper.faults b (Some c.args.why))
               (sym c.self.view_is) c.requires.worn,
-          left_outside _ _ _ _ _ _ _ c.requires.outside
+          left_outside _ _ _ _ _ _ _ _ c.requires.outside
               (left_unhalted _ _ _ _ _ _ _ _ none c.self.invariant.1.1.1),
         ),
       ),
     )
 
 pub returns-then-is_none : goal.returns-then-is_none
-returns-then-is_none g c = rw (← c.self.view_is) (halted_as {K = g.row.K.Denot} {P = g.row.P.Denot} _ _ _
+returns-then-is_none g c = rw (← c.self.view_is) (halted_as {K = g.row.K.Denot} {P = g.row.P.Denot} _ _ _ _ _ _ _ _
     (first_made c.self.inside.halt c.args.why (c.is_none.ensures ∙ ap not c.if-is_none.true)))
 
 pub returns-else-is_none : goal.returns-else-is_none

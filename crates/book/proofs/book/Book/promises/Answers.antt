@@ -1,5 +1,5 @@
 -- The history is that of a run from an admitted image; from a sound opening every run has the main theorem.
-use Rattle.book.proofs.Headlines.{headline_of, sound_book}
+use Rattle.book.proofs.Headlines.{headline_of, sound as sound_state}
 use Rattle.book.proofs.Images.{book_written}
 use Rattle.book.proofs.book.Book.promises.Goals as goal
 
@@ -29,4 +29,4 @@ returns-clause-headline g c = rw (← c.self.view_is)
 
 pub returns-clause-sound : goal.returns-clause-sound
 returns-clause-sound g c = rw (← c.self.view_is)
-    (λ sound. sound_book {K = g.row.K.Denot} g.P.Provider.cloud _ c.self.invariant.0 sound)
+    (λ sound. sound_state _ _ _ _ _ _ c.self.invariant.0 sound)
