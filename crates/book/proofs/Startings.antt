@@ -26,11 +26,6 @@ use Rattle.book.specs.declared.restarting.Unrestarted.{Unrestarted}
 use Rattle.book.proofs.Held.{goes_then, rose_since}
 use Rattle.book.proofs.Keepers.{itself, rests_same, same_goes}
 
--- a flag that isn't set
-pub young_by : (b d n : Bool) → d ≡ b → n ≡ not d → n ≡ true → b ≡ false
-young_by b true n is isnt yes_ = let both = sym isnt ∙ yes_ in cc
-young_by b false n is isnt yes_ = sym is
-
 -- where the image is at rest, and a record was tried behind it
 rest_starts : (k l : ShownKeeper) (image : StateData) (count : ℕ)
     → (IsTrue k.tells → LeavesOnly k l (λ x. x ≡ Some (at_rest image)))
