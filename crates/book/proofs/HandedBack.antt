@@ -41,15 +41,13 @@ module _ {K P : Type 0} (shown : K → ShownKeeper) (faults_of : K → ℕ) (clo
       })
 
   -- both are handed back
-  pub unopened_as : (m : K) (p : P) (w : Unrestarted) → l ≡ m → q ≡ p
+  pub unopened_as : (m : K) (p : P) (v w : Unrestarted) → v ≡ w → l ≡ m → q ≡ p
       → Opens may_open count (shown keeper) (shown l) (faults_of keeper) (faults_of l) (cloud_of cloud) (cloud_of q)
-      (Err w)
+      (Err v)
       → IsUnopened may_open count (shown keeper) (shown m) (faults_of keeper) (faults_of m) (cloud_of cloud) (cloud_of p) w
-  unopened_as m p w same alike it = subst (λ (x : K). IsUnopened may_open count (shown keeper) (shown x)
+  unopened_as m p v w is same alike it = subst (λ (x : K). IsUnopened may_open count (shown keeper) (shown x)
       (faults_of keeper) (faults_of x) (cloud_of cloud) (cloud_of p) w) same
       (subst (λ (x : P). IsUnopened may_open count (shown keeper) (shown l)
-      (faults_of keeper) (faults_of l) (cloud_of cloud) (cloud_of x) w) alike (record {
-        went = it.went;
-        rests = it.rests;
-        why = it.why;
-      }))
+      (faults_of keeper) (faults_of l) (cloud_of cloud) (cloud_of x) w) alike
+      (subst (λ (x : Unrestarted). IsUnopened may_open count (shown keeper) (shown l) (faults_of keeper) (faults_of l)
+      (cloud_of cloud) (cloud_of q) x) is (record { went = it.went; rests = it.rests; why = it.why })))
