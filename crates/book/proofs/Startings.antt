@@ -1,6 +1,6 @@
 -- An image that begins, and a keeper that keeps it.
-use Rattle.std.proofs.Common.{false, inl, inr, not, refl, subst, sym, true, ◌∙◌, ◌≡◌, ◌⊎◌, ℕ}
-use Rattle.std.specs.Prelude.{Bool, Err, IfErr, IsTrue, Ok, Result, Some, ◌+◌, ◌<◌, ◌^◌, ◌≤◌}
+use Rattle.std.proofs.Common.{false, inl, inr, refl, subst, sym, true, ◌∙◌, ◌≡◌, ◌⊎◌, ℕ}
+use Rattle.std.specs.Prelude.{Err, IfErr, IsTrue, Ok, Result, Some, ◌+◌, ◌<◌, ◌^◌, ◌≤◌}
 use Rattle.heat_value.specs.Counts.{Rose}
 use Rattle.heat_plan.specs.declared.refusal.Refusal.{Refusal}
 use Rattle.heat_plan.specs.declared.refusal.Refusal.TheVariants as refusal
