@@ -6,6 +6,7 @@ use Rattle.provider.specs.Cloud.{Cloud, state_of}
 use Rattle.core_state.specs.Changes.{applied}
 use Rattle.core_state.specs.State.{StateData}
 use Rattle.core_state.specs.declared.change.Change.{Change}
+use Rattle.core_state.specs.declared.entry.Actor.TheVariants.{Main}
 use Rattle.core_state.specs.declared.entry.Entry.{Entry}
 use Rattle.step_relation.specs.Could.{Allows, IsPossible, could_of}
 use Rattle.step_relation.specs.Given.{Answer, Faulted, Nothing, Prepared}
@@ -18,7 +19,7 @@ use Rattle.step_relation.specs.Sound.{Sound}
 use Rattle.step_relation.specs.Steps.{Step}
 use Rattle.step_relation.specs.Steps as steps
 use Rattle.step_relation.specs.Turns.{Turn, WearsOut}
-use Rattle.step_relation.specs.Writes.{call_entry}
+use Rattle.step_relation.specs.Writes.{call_entry, entry_of}
 use Rattle.record_keeper.specs.Calls.{IsLeftOf}
 use Rattle.record_keeper.specs.Calls as calls
 use Rattle.record_keeper.specs.Shown.{Left}
@@ -109,7 +110,8 @@ module _ (o : Opening) (sound : Sound o [] o.state) where
     held t es cs (steps.restart count some few below made one) judges among c is behind allows =
         unasked es c (subst AreUncalling (sym one) (tt, tt)) allows
     held t es cs (steps.note it noted made one) judges among c is behind allows =
-        unasked es c (subst AreUncalling (sym one) (silent_uncalling _ (silent_note it noted, tt))) allows
+        unasked es c (subst AreUncalling (sym one) (silent_uncalling (entry_of Main it ∷ [])
+        (silent_note it noted, tt))) allows
     held t es cs (steps.close made one) judges among c is behind allows =
         unasked es c (subst AreUncalling (sym one) (tt, tt)) allows
 

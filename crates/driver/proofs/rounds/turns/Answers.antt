@@ -34,7 +34,7 @@ returns-in_default-clause-within g c = λ sound w m full is.
 
 pub returns-in_default-clause-settled : goal.returns-in_default-clause-settled
 returns-in_default-clause-settled g c = λ sound m is. c.in_default.ensures.settled refl
-    (sound_still _ _ _ c.loop-made.invariant.same sound)
+    (sound_still g.P.Provider.cloud _ _ c.loop-made.invariant.same sound)
 
 pub returns-in-Worn-clause-ran : goal.returns-in-Worn-clause-ran
 returns-in-Worn-clause-ran g c =
@@ -61,7 +61,7 @@ loop-made-preserved g c = record {
       (one_more _ c.loop-made.made _ _ _ _ c.loop-made.invariant.so c.in-Some.ensures.some _ c.turn.ensures.turned
       c.in-Stepped.is);
   spent = λ sound. spend_turned _ _ c.loop-made.made _ _ _ _ (c.loop-made.invariant.spent sound)
-      (c.next_engine.ensures.sound (sound_still _ _ _ c.loop-made.invariant.same sound)).standing
+      (c.next_engine.ensures.sound (sound_still g.P.Provider.cloud _ _ c.loop-made.invariant.same sound)).standing
       (g.met.P.Provider.lawful c.turn.new.self.cloud).few c.turn.ensures.turned c.in-Stepped.is;
   live = c.turn.ensures.live ∙ c.loop-made.invariant.live;
   same = record {
@@ -86,7 +86,7 @@ pub returns-in-Some-next_engine-clause-enough : goal.returns-in-Some-next_engine
 returns-in-Some-next_engine-clause-enough g c = λ sound w m full le is.
     still_busy _ _ _ c.in-Some-next_engine.ensures.some
     (no_work_idle _ _
-    (c.next_engine-2.ensures.sound (sound_still _ _ _ c.loop-made.invariant.same sound)).standing
+    (c.next_engine-2.ensures.sound (sound_still g.P.Provider.cloud _ _ c.loop-made.invariant.same sound)).standing
     (none_left _ _ c.loop-made.made _ _ w (c.loop-made.invariant.spent sound) full
     (omega (arith, le, c.loop-made-test.false, c.loop-made.auto.made-end))))
 
@@ -104,7 +104,7 @@ returns-in-None-clause-within g c = λ sound w m full is.
 
 pub returns-in-None-clause-settled : goal.returns-in-None-clause-settled
 returns-in-None-clause-settled g c = λ sound m is. c.in-None.ensures.settled refl
-    (sound_still _ _ _ c.loop-made.invariant.same sound)
+    (sound_still g.P.Provider.cloud _ _ c.loop-made.invariant.same sound)
 
 pub returns-in-Worn-clause-leaves : goal.returns-in-Worn-clause-leaves
 returns-in-Worn-clause-leaves g c = λ none. leaves_on g.K.Keeper.shown g.P.Provider.cloud _ c.loop-made.book
