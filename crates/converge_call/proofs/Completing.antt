@@ -36,7 +36,7 @@ use Rattle.converge_call.specs.Sources.{LimitRead, StaysWithin}
 use Rattle.converge_call.specs.Drives.{Drove, line_end}
 use Rattle.converge_call.specs.Drives as drives
 use Rattle.converge_call.specs.Ends.{Outside, streams_of, HasFailedList, IsCalm, EndsCalmly, opening_in}
-use Rattle.converge_call.proofs.Disagreeing.{found_not}
+use Rattle.converge_call.proofs.Differing.{found_not}
 
 -- Over a state that is sound with the last cloud: where no number is worn out, no list failed and the keeper recalls, what
 -- broke a line off is want of memory, or a fault of the keeper.
@@ -140,7 +140,7 @@ module _ (t : Stock) (recalls : Bool) (first last : Scene) (halt : Option Halt) 
   calm_end (drives.lacking all run reads text goes is) calm = inr is
   calm_end (drives.not_compacted all run reads text fault is) calm = absurd (calm.disk (disk is))
   calm_end (drives.broken_off all mid so_far line rest run breaks parts reads text) calm =
-      elim (line_by (length first.state.live) recalls last.cloud last.state calm.recalls
+      elim (line_by (length first.state.live) recalls last.cloud last.state calm.recalled
       (states_are_openings (opening_in first) last.entries last.state last.cloud (sound calm.sound) agrees)
       calm.listed calm.unworn calm.engines (opening_in first) so_far refl mid rest status line halt breaks)
       [ inl memory ↦ inr memory | inr fault ↦ absurd (calm.disk (disk fault)) ]

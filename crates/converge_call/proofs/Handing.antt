@@ -153,7 +153,7 @@ from_before t origin keeper first last halt left left_new holds holds_new reads 
         within = calm.within;
         unworn = calm.unworn;
         engines = calm.engines;
-        recalls = calm.recalls;
+        recalled = calm.recalled;
         sound = calm.sound;
       });
       run = it.run;

@@ -11,7 +11,7 @@ pub mod Reporting
 pub mod Answering
 pub mod Sourcing
 pub mod Driving
-pub mod Disagreeing
+pub mod Differing
 pub mod Completing
 pub mod Stopping
 pub mod Handing

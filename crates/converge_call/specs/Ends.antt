@@ -87,7 +87,7 @@ pub record IsCalm (recalls : Bool) (first last : Scene) (old new : Outside) : Ty
   pub within : StaysWithin old.left
   pub unworn : (e : ℕ) → ¬ IsWornBy last.state e
   pub engines : last.state.next.engine + length first.state.live ≤ 2 ^ 62
-  pub recalls : IsTrue recalls
+  pub recalled : IsTrue recalls
   pub sound : Sound (opening_in first) [] first.state
 
 -- the script was read to its end and all is written, or memory was wanted

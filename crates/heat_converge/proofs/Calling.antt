@@ -30,4 +30,4 @@ pub called_driven : NothingKeptOpensSound → (words : List (List ℕ)) (cloud l
     status
     → left ≡ b.cloud → HasCalled words cloud left status
 called_driven sound words cloud left b old new status opens drove is = driven b old new opens
-    (sound _ _ _ _ _ _ _ _ opens.opens).1 drove is
+    (sound _ _ _ _ opens.opens).1 drove is
