@@ -1,6 +1,6 @@
 -- An image that begins, and a keeper that keeps it.
-use Rattle.std.proofs.Common.{false, inl, inr, not, refl, subst, sym, true, ◌∙◌, ◌≡◌, ◌⊎◌, ℕ}
-use Rattle.std.specs.Prelude.{Bool, Err, IfErr, IsTrue, Ok, Result, Some, ◌+◌, ◌<◌, ◌^◌, ◌≤◌}
+use Rattle.std.proofs.Common.{false, inl, inr, refl, subst, sym, true, ◌∙◌, ◌≡◌, ◌⊎◌, ℕ}
+use Rattle.std.specs.Prelude.{Err, IfErr, IsTrue, Ok, Result, Some, ◌+◌, ◌<◌, ◌^◌, ◌≤◌}
 use Rattle.heat_value.specs.Counts.{Rose}
 use Rattle.heat_plan.specs.declared.refusal.Refusal.{Refusal}
 use Rattle.heat_plan.specs.declared.refusal.Refusal.TheVariants as refusal
@@ -25,11 +25,6 @@ use Rattle.book.specs.declared.restarting.Unrestarted.TheVariants as unrestarted
 use Rattle.book.specs.declared.restarting.Unrestarted.{Unrestarted}
 use Rattle.book.proofs.Held.{goes_then, rose_since}
 use Rattle.book.proofs.Keepers.{itself, rests_same, same_goes}
-
--- a flag that isn't set
-pub young_by : (b d n : Bool) → d ≡ b → n ≡ not d → n ≡ true → b ≡ false
-young_by b true n is isnt yes_ = let both = sym isnt ∙ yes_ in cc
-young_by b false n is isnt yes_ = sym is
 
 -- where the image is at rest, and a record was tried behind it
 rest_starts : (k l : ShownKeeper) (image : StateData) (count : ℕ)

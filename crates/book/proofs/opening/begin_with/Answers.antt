@@ -13,13 +13,13 @@ pub returns-in-Err : goal.returns-in-Err
 returns-in-Err g c = starts_unmade _ c.args.workers _ _ (g.met.K.Keeper.lawful _) _ c.requires.stands c.in-Err.why
     c.in-Err.ensures.cause
 
-pub returns-in-Err-2 : goal.returns-in-Err-2
-returns-in-Err-2 g c = starts_unrenewed _ c.args.workers _ _ _ _ c.renew.result (c.renew.ensures c.args.workers)
-    c.in-Err-2.why c.in-Err-2.is
+pub returns-in-Err-renew : goal.returns-in-Err-renew
+returns-in-Err-renew g c = starts_unrenewed _ c.args.workers _ _ _ _ c.renew.result (c.renew.ensures c.args.workers)
+    c.in-Err-renew.why c.in-Err-renew.is
 
-pub returns-in-Err-3 : goal.returns-in-Err-3
-returns-in-Err-3 g c = starts_lacking _ c.args.workers _ _ _ _ c.renew.result (c.renew.ensures c.args.workers) _ _ _
-    (g.met.K.Keeper.lawful _) c.in-Ok-2.is (itself _) refl c.in-Err-3.why c.in-Err-3.ensures.cause
+pub returns-in-Err-start_of : goal.returns-in-Err-start_of
+returns-in-Err-start_of g c = starts_lacking _ c.args.workers _ _ _ _ c.renew.result (c.renew.ensures c.args.workers) _ _ _
+    (g.met.K.Keeper.lawful _) c.in-Ok-renew.is (itself _) refl c.in-Err-start_of.why c.in-Err-start_of.ensures.cause
 
 pub reserve-requires : goal.reserve-requires
 reserve-requires g c = subst AreKeepable (sym (c.as_slice.ensures ∙ c.in-Ok.ensures.made))
@@ -27,12 +27,12 @@ reserve-requires g c = subst AreKeepable (sym (c.as_slice.ensures ∙ c.in-Ok.en
 
 pub returns-then-is_err : goal.returns-then-is_err
 returns-then-is_err g c = starts_lacking _ c.args.workers _ _ _ _ c.renew.result (c.renew.ensures c.args.workers) _ _ _
-    (g.met.K.Keeper.lawful _) c.in-Ok-2.is c.reserve.ensures.same c.reserve.ensures.faults _ (inl refl)
+    (g.met.K.Keeper.lawful _) c.in-Ok-renew.is c.reserve.ensures.same c.reserve.ensures.faults _ (inl refl)
 
 pub keep-requires-clause-ready : goal.keep-requires-clause-ready
 keep-requires-clause-ready g c = (
   c.args.image.state,
-  same_ready _ _ c.reserve.ensures.same _ ((c.renew.ensures c.args.workers).ready c.in-Ok-2.is),
+  same_ready _ _ c.reserve.ensures.same _ ((c.renew.ensures c.args.workers).ready c.in-Ok-renew.is),
 )
 
 pub keep-requires-clause-keepable : goal.keep-requires-clause-keepable
@@ -43,24 +43,24 @@ pub keep-requires-clause-applies : goal.keep-requires-clause-applies
 keep-requires-clause-applies g c s stands = subst (λ (cs : List Change). AllApply cs s)
     (sym (c.as_slice-2.ensures ∙ c.in-Ok.ensures.made))
     (may_append _ _ _
-    (same_ready _ _ c.reserve.ensures.same _ ((c.renew.ensures c.args.workers).ready c.in-Ok-2.is))
+    (same_ready _ _ c.reserve.ensures.same _ ((c.renew.ensures c.args.workers).ready c.in-Ok-renew.is))
     (c.requires.storable c.args.workers) s stands)
 
-pub returns-in-Ok : goal.returns-in-Ok
-returns-in-Ok g c =
+pub returns-in-Ok-keep : goal.returns-in-Ok-keep
+returns-in-Ok-keep g c =
     let ready = same_ready _ _ c.reserve.ensures.same c.args.image.state
-    ((c.renew.ensures c.args.workers).ready c.in-Ok-2.is) in
+    ((c.renew.ensures c.args.workers).ready c.in-Ok-renew.is) in
     starts_well _ c.args.workers _ _ _ _ c.renew.result (c.renew.ensures c.args.workers) _ _ _ c.in-Ok.ensures.below
     (keeps_after _ _ c.reserve.ensures.same _ _ _ _ _ _ c.reserve.ensures.faults
     (kept_slice _ _ _ _ _ _ _ (c.as_slice-2.ensures ∙ c.in-Ok.ensures.made) (c.keep.ensures.keeps _ ready)))
-    (ready_slice _ _ _ _ (c.as_slice-2.ensures ∙ c.in-Ok.ensures.made) (c.in-Ok-4.ensures.ready _ ready))
-    c.in-Ok-3.ensures.start
+    (ready_slice _ _ _ _ (c.as_slice-2.ensures ∙ c.in-Ok.ensures.made) (c.in-Ok-keep.ensures.ready _ ready))
+    c.in-Ok-start_of.ensures.start
 
-pub returns-in-Err-4 : goal.returns-in-Err-4
-returns-in-Err-4 g c =
+pub returns : goal.returns
+returns g c =
     let ready = same_ready _ _ c.reserve.ensures.same c.args.image.state
-    ((c.renew.ensures c.args.workers).ready c.in-Ok-2.is) in
+    ((c.renew.ensures c.args.workers).ready c.in-Ok-renew.is) in
     starts_unkept _ c.args.workers _ _ _ _ c.renew.result (c.renew.ensures c.args.workers) _ _ c.in-Ok.ensures.below
     (keeps_after _ _ c.reserve.ensures.same _ _ _ _ _ _ c.reserve.ensures.faults
     (kept_slice _ _ _ _ _ _ _ (c.as_slice-2.ensures ∙ c.in-Ok.ensures.made) (c.keep.ensures.keeps _ ready)))
-    (subst (λ (n : ℕ). Rose n _) c.reserve.ensures.faults c.in-Err-4.ensures.fault)
+    (subst (λ (n : ℕ). Rose n (g.K.Keeper.faults c.keep.new.keeper)) c.reserve.ensures.faults c.in-Err-keep.ensures.fault)

@@ -9,14 +9,14 @@ begin_with-requires-clause-keepable g c = read_rows _ _ _ c.in-Ok.ensures.opened
 pub begin_with-requires-clause-storable : goal.begin_with-requires-clause-storable
 begin_with-requires-clause-storable g c n = read_storable _ _ _ c.in-Ok.ensures.opened n
 
-pub returns-in-Ok-Ok : goal.returns-in-Ok-Ok
-returns-in-Ok-Ok g c = opens_started _ c.args.workers _ _ _ _ _ _ _ c.in-Ok.ensures.opened c.open.ensures.goes_on
-    c.open.ensures.crash c.requires.some c.requires.few _ _ c.admit.result c.admit.ensures c.in-Ok-Ok.is
+pub returns-in-Ok-admit : goal.returns-in-Ok-admit
+returns-in-Ok-admit g c = opens_started _ c.args.workers _ _ _ _ _ _ _ c.in-Ok.ensures.opened c.open.ensures.goes_on
+    c.open.ensures.crash c.requires.some c.requires.few _ _ c.admit.result c.admit.ensures c.in-Ok-admit.is
     c.begin_with.result c.begin_with.ensures
 
-pub returns-in-Ok-Err : goal.returns-in-Ok-Err
-returns-in-Ok-Err g c = opens_unadmitted _ c.args.workers _ _ _ _ _ _ _ c.in-Ok.ensures.opened c.open.ensures.goes_on
-    c.open.ensures.crash c.admit.result c.in-Ok-Err.why c.admit.ensures c.in-Ok-Err.is
+pub returns-in-Err-admit : goal.returns-in-Err-admit
+returns-in-Err-admit g c = opens_unadmitted _ c.args.workers _ _ _ _ _ _ _ c.in-Ok.ensures.opened c.open.ensures.goes_on
+    c.open.ensures.crash c.admit.result c.in-Err-admit.why c.admit.ensures c.in-Err-admit.is
 
 pub returns-in-Err : goal.returns-in-Err
 returns-in-Err g c = rw c.unread.ensures (opens_unread _ c.args.workers _ _ _ _ _ c.in-Err.fault c.open.ensures.goes_on

@@ -10,8 +10,8 @@ use Rattle.book.proofs.book.Book.begun.Goals as goal
 pub invariant_of-result : goal.invariant_of-result
 invariant_of-result g c =
     let b = c.requires in (
-      kept_at_first b.image b.count _ _ _
-          (subst (λ (x : Cloud). IsOpenedFrom b.image _ x b.count) (ap g.P.Provider.cloud (sym c.of-cloud_then.ensures))
+      kept_at_first _ _ b.image b.count _ _ _
+          (subst (λ (x : Cloud). IsOpenedFrom b.image c.args.start.opening.state x b.count) (ap g.P.Provider.cloud (sym c.of-cloud_then.ensures))
           b.opened)
           b.copied b.silent (ap g.P.Provider.cloud c.of-cloud_then.ensures),
       (
