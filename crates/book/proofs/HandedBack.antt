@@ -1,6 +1,6 @@
 -- What an opening answers, once keeper and cloud are handed on.
 use Rattle.std.proofs.Common.{refl, subst, sym, ℕ, ◌∙◌, ◌≡◌}
-use Rattle.std.specs.Prelude.{Err, Result}
+use Rattle.std.specs.Prelude.{Err}
 use Rattle.provider.specs.Cloud.{Cloud}
 use Rattle.core_state.specs.State.{StateData}
 use Rattle.record_keeper.specs.Shown.{ShownKeeper}
@@ -41,20 +41,13 @@ module _ {K P : Type 0} (shown : K → ShownKeeper) (faults_of : K → ℕ) (clo
       })
 
   -- both are handed back
-  pub unopened_as : (m : K) (p : P) (r : Result Start Unrestarted) (w : Unrestarted) → l ≡ m → q ≡ p → r ≡ Err w
-      → Opens may_open count (shown keeper) (shown l) (faults_of keeper) (faults_of l) (cloud_of cloud) (cloud_of q) r
+  pub unopened_as : (m : K) (p : P) (v w : Unrestarted) → v ≡ w → l ≡ m → q ≡ p
+      → Opens may_open count (shown keeper) (shown l) (faults_of keeper) (faults_of l) (cloud_of cloud) (cloud_of q)
+      (Err v)
       → IsUnopened may_open count (shown keeper) (shown m) (faults_of keeper) (faults_of m) (cloud_of cloud) (cloud_of p) w
-  unopened_as m p r w same alike is it = by (subst (λ (x : Result Start Unrestarted). Opens may_open count
-      (shown keeper) (shown l) (faults_of keeper) (faults_of l) (cloud_of cloud) (cloud_of q) x) is it) where
-    by : Opens may_open count (shown keeper) (shown l) (faults_of keeper) (faults_of l) (cloud_of cloud) (cloud_of q)
-        (Err w)
-        → IsUnopened may_open count (shown keeper) (shown m) (faults_of keeper) (faults_of m) (cloud_of cloud)
-        (cloud_of p) w
-    by opens = subst (λ (x : K). IsUnopened may_open count (shown keeper) (shown x)
-        (faults_of keeper) (faults_of x) (cloud_of cloud) (cloud_of p) w) same
-        (subst (λ (x : P). IsUnopened may_open count (shown keeper) (shown l)
-        (faults_of keeper) (faults_of l) (cloud_of cloud) (cloud_of x) w) alike (record {
-          went = opens.went;
-          rests = opens.rests;
-          why = opens.why;
-        }))
+  unopened_as m p v w is same alike it = subst (λ (x : K). IsUnopened may_open count (shown keeper) (shown x)
+      (faults_of keeper) (faults_of x) (cloud_of cloud) (cloud_of p) w) same
+      (subst (λ (x : P). IsUnopened may_open count (shown keeper) (shown l)
+      (faults_of keeper) (faults_of l) (cloud_of cloud) (cloud_of x) w) alike
+      (subst (λ (x : Unrestarted). IsUnopened may_open count (shown keeper) (shown l) (faults_of keeper) (faults_of l)
+      (cloud_of cloud) (cloud_of q) x) is (record { went = it.went; rests = it.rests; why = it.why })))

@@ -1,5 +1,5 @@
 -- What a call that makes one step leaves with the keeper, at each of its moments.
-use Rattle.std.specs.Prelude.{Contains, IsTrue, List, Some, [], ℕ, ◌++◌, ◌≡◌, ◌≢◌}
+use Rattle.std.specs.Prelude.{Contains, IsTrue, List, Some, [], ◌++◌, ◌≡◌, ◌≢◌}
 use Rattle.provider.specs.Cloud.{Cloud}
 use Rattle.core_state.specs.Changes.{applied}
 use Rattle.core_state.specs.State.{StateData}

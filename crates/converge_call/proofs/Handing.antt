@@ -7,7 +7,6 @@ use Rattle.core_state.specs.declared.entry.Entry.{Entry}
 use Rattle.provider.specs.Cloud.{Cloud}
 use Rattle.step_relation.specs.Opening.{Opening}
 use Rattle.step_relation.specs.Runs.{Run, begins}
-use Rattle.record_keeper.specs.Calls.{GoesOn}
 use Rattle.record_keeper.specs.Laws.{IsLawful}
 use Rattle.record_keeper.specs.Shown.{Left, LeavesOnly, ShownKeeper, StandsFor, at_rest}
 use Rattle.book.specs.Halts.{IsHaltedAs}
@@ -16,7 +15,7 @@ use Rattle.book.specs.declared.halting.Halt.TheVariants as halted
 use Rattle.book.specs.declared.restarting.Unrestarted.{Unrestarted}
 use Rattle.driver.specs.Kept.{IsOpenedFrom, IsSameBook, Shown, opening_of, registries}
 use Rattle.driver.specs.Leaving.{IsLeftAlong}
-use Rattle.driver.specs.Openings.{HasImageListed, HasOpened, WhyUnopened}
+use Rattle.driver.specs.Openings.{HasImageListed, HasOpened, IsUnopened as IsUnopenedBook}
 use Rattle.driver.specs.Scenes.{scene_of}
 use Rattle.driver.proofs.Leavings.{along_rest, leaves_still, same_opening}
 use Rattle.converge_call.specs.declared.exit.Exit.{Exit}
@@ -171,36 +170,31 @@ pub halted_not : (h : Option Halt) → h ≡ None → h ≡ Some halted.DiskFaul
 halted_not h none some = cc
 
 -- a book opens as it did, over what was found
-pub opened_with : {K P : Type 0} (may_open : StateData → Type 0) (cloud_of : P → Cloud) (workers : ℕ) (cloud : P)
-    (f b : Shown K P) → IsSameBook f b → HasOpened may_open cloud_of workers cloud f
-    → OpensWith may_open workers (cloud_of cloud) (cloud_of b.origin.cloud) b.opening
-opened_with may_open cloud_of workers cloud f b same has =
-    rw (same.opening, same.origin) (opens_with (cloud_of f.origin.cloud) f.opening has.found has.opened) where
-      opens_with : (new : Cloud) (opening : StateData) (found : HasImageListed may_open (cloud_of cloud) new)
-          → IsOpenedFrom found.image opening new workers → OpensWith may_open workers (cloud_of cloud) new opening
-      opens_with new opening found opened = record { found = found; opened = opened }
-
--- the keeper has gone on from before the opening
-pub opened_over : {K P : Type 0} (shown : K → ShownKeeper) (faults_of : K → ℕ) (keeper : K) (f b : Shown K P)
-    → IsSameBook f b
-    → GoesOn (shown keeper) (shown f.origin.keeper) (faults_of keeper) (faults_of f.origin.keeper)
-    → GoesOn (shown keeper) (shown b.origin.keeper) (faults_of keeper) (faults_of b.origin.keeper)
-opened_over shown faults_of keeper f b same it = rw same.origin it
+pub opened_with : {K P : Type 0} (may_open : StateData → Type 0) (shown : K → ShownKeeper) (faults_of : K → ℕ)
+    (cloud_of : P → Cloud) (workers : ℕ) (keeper : K) (cloud : P) (f b : Shown K P) → IsSameBook f b
+    → HasOpened may_open shown faults_of cloud_of workers keeper cloud f
+    → OpensWith may_open workers (shown keeper) (shown b.origin.keeper) (faults_of keeper) (faults_of b.origin.keeper)
+    (cloud_of cloud) (cloud_of b.origin.cloud) b.opening
+opened_with may_open shown faults_of cloud_of workers keeper cloud f b same has = rw (same.opening, same.origin) (record {
+  found = has.found;
+  opened = has.opened;
+  went = has.went;
+})
 
 -- no book was opened, for this
 pub unopened_by : {K P : Type 0} (may_open : K → StateData → Type 0) (shown : K → ShownKeeper) (faults_of : K → ℕ)
     (cloud_of : P → Cloud) (workers : ℕ) (old new k : K) (cloud left p : P) (why : Unrestarted) (status : Exit)
     → new ≡ k → left ≡ p
-    → WhyUnopened (may_open old) (shown old).recalls (shown new) workers (faults_of old) (faults_of new)
-    (cloud_of cloud) (cloud_of left) why → status ≡ exit_of why
+    → IsUnopenedBook (may_open old) workers (shown old) (shown new) (faults_of old) (faults_of new) (cloud_of cloud)
+    (cloud_of left) why → status ≡ exit_of why
     → IsUnopened may_open shown faults_of cloud_of (λ n. n ≡ workers) (record { keeper = old; cloud = cloud })
     (record { keeper = k; cloud = p }) status
 unopened_by may_open shown faults_of cloud_of workers old new k cloud left p why status same given it is =
     by_opening workers why refl
-    (subst (λ (x : _). WhyUnopened (may_open old) (shown old).recalls (shown x) workers (faults_of old)
-    (faults_of x) (cloud_of cloud) (cloud_of p) why) same
-    (subst (λ (x : _). WhyUnopened (may_open old) (shown old).recalls (shown new) workers (faults_of old)
-    (faults_of new) (cloud_of cloud) (cloud_of x) why) given it)) is
+    (subst (λ (x : _). IsUnopenedBook (may_open old) workers (shown old) (shown x) (faults_of old) (faults_of x)
+    (cloud_of cloud) (cloud_of p) why) same
+    (subst (λ (x : _). IsUnopenedBook (may_open old) workers (shown old) (shown new) (faults_of old) (faults_of new)
+    (cloud_of cloud) (cloud_of x) why) given it)) is
 
 abbrev around : {K P : Type 0} → K → P → Around K P
 around keeper cloud = record { keeper = keeper; cloud = cloud }

@@ -19,7 +19,7 @@ use Rattle.book.specs.declared.halting.Halt.TheVariants as halted
 use Rattle.book.specs.declared.restarting.Unrestarted.{Unrestarted}
 use Rattle.driver.specs.Kept.{IsOpenedFrom, IsTraced, Shown, registries}
 use Rattle.driver.specs.Leaving.{IsLeftAlong}
-use Rattle.driver.specs.Openings.{HasImageListed, WhyUnopened}
+use Rattle.driver.specs.Openings.{HasImageListed, IsUnopened as IsUnopenedBook, OpensKeeper}
 use Rattle.driver.specs.Scenes.{Scene, scene}
 use Rattle.driver.specs.Turned.{IsWornBy}
 use Rattle.converge_call.specs.declared.exit.Exit.{Exit}
@@ -59,17 +59,19 @@ abbrev pub opening_in : Scene → Opening
 opening_in first = opening_at first.state first.cloud
 
 -- A book may be opened with so many engines over such an image of the keeper's: the cloud, as it is behind its list,
--- agrees with it.
-pub record OpensWith (may_open : StateData → Type 0) (workers : ℕ) (old new : Cloud) (opening : StateData) : Type 0 where
+-- agrees with it; and what the keeper went through on the way.
+pub record OpensWith (may_open : StateData → Type 0) (workers : ℕ) (before behind : ShownKeeper) (faults now : ℕ)
+    (old new : Cloud) (opening : StateData) : Type 0 where
   pub found : HasImageListed may_open old new
   pub opened : IsOpenedFrom found.image opening new workers
+  pub went : OpensKeeper may_open workers before behind faults now
 
 -- as many engines as the words say
-pub record OpensFor (may_open : StateData → Type 0) (words : List (List ℕ)) (old new : Cloud) (opening : StateData)
-    : Type 0 where
+pub record OpensFor (may_open : StateData → Type 0) (words : List (List ℕ)) (before behind : ShownKeeper)
+    (faults now : ℕ) (old new : Cloud) (opening : StateData) : Type 0 where
   pub mode : Mode
   pub form : IsForm words mode
-  pub opens : OpensWith may_open (setup_of mode).workers old new opening
+  pub opens : OpensWith may_open (setup_of mode).workers before behind faults now old new opening
 
 -- the last call of the cloud is a list that failed
 abbrev pub HasFailedList : Cloud → Type 0
@@ -128,8 +130,8 @@ pub data IsUnopened {K P : Type 0} (may_open : K → StateData → Type 0) (show
   by_words : status ≡ exit.Usage → new ≡ old → IsUnopened may_open shown faults_of cloud_of Asks old new status
   by_memory : status ≡ exit.Memory → new ≡ old → IsUnopened may_open shown faults_of cloud_of Asks old new status
   by_opening : (workers : ℕ) (why : Unrestarted) → Asks workers
-      → WhyUnopened (may_open old.keeper) (shown old.keeper).recalls (shown new.keeper) workers
-      (faults_of old.keeper) (faults_of new.keeper) (cloud_of old.cloud) (cloud_of new.cloud) why
+      → IsUnopenedBook (may_open old.keeper) workers (shown old.keeper) (shown new.keeper) (faults_of old.keeper)
+      (faults_of new.keeper) (cloud_of old.cloud) (cloud_of new.cloud) why
       → status ≡ exit_of why → IsUnopened may_open shown faults_of cloud_of Asks old new status
 
 -- so many engines are what the words ask for

@@ -4,9 +4,11 @@ use Rattle.core_state.specs.State.{StateData}
 use Rattle.provider.specs.Cloud.{Cloud}
 use Rattle.step_relation.specs.Laws.{SoundAt}
 use Rattle.record_keeper.specs.Nothing.{opens_empty}
+use Rattle.record_keeper.specs.Shown.{ShownKeeper}
 use Rattle.converge_call.specs.Ends.{OpensWith}
 
 -- a book that is opened over nothing is over an empty cloud, and its opening is sound
 abbrev pub NothingKeptOpensSound : Type 0
-NothingKeptOpensSound = (workers : ℕ) (old new : Cloud) (opening : StateData)
-    → OpensWith opens_empty workers old new opening → (old.alive ≡ []) × SoundAt opening new
+NothingKeptOpensSound = (workers : ℕ) (before behind : ShownKeeper) (faults now : ℕ) (old new : Cloud)
+    (opening : StateData) → OpensWith opens_empty workers before behind faults now old new opening
+    → (old.alive ≡ []) × SoundAt opening new

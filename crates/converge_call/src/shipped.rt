@@ -5,7 +5,6 @@ ghost use Rattle.type_catalog.specs.Kinds.{softs_of};
 ghost use Rattle.type_catalog.specs.Names.{is_listed};
 ghost use Rattle.type_catalog.specs.Shipped.{box_kind as the_box_kind};
 ghost use Rattle.type_catalog.specs.Shipped.{flavor_test as the_flavor_test};
-ghost use Rattle.record_keeper.specs.Calls.{GoesOn};
 ghost use Rattle.driver.specs.Kept.{Shown};
 ghost use Rattle.driver.specs.Scenes.{scene_of};
 ghost use Rattle.converge_call.specs.Words.{IsForm};
@@ -51,9 +50,8 @@ pub fn converge_shipped<S: Source, W: Sink, K: Keeper, P: Provider>(
     // A book is opened with as many engines as the words say, over an image of the keeper's and what the cloud lists,
     // which agree.
     ensures opened { (b : Shown K P) → result.end ≡ End.Book b
-        → OpensFor (K.may_open keeper) words.now (P.cloud cloud) (P.cloud b.origin.cloud) b.opening }
-    ensures goes_on { (b : Shown K P) → result.end ≡ End.Book b
-        → GoesOn (K.shown keeper) (K.shown b.origin.keeper) (K.faults keeper) (K.faults b.origin.keeper) }
+        → OpensFor (K.may_open keeper) words.now (K.shown keeper) (K.shown b.origin.keeper)
+        (K.faults keeper) (K.faults b.origin.keeper) (P.cloud cloud) (P.cloud b.origin.cloud) b.opening }
 
     // A book that is handed back was driven by the lines, with what the program registers in stock before the first.
     ensures driven { (b : Shown K P) → result.end ≡ End.Book b → HasDriven shipped_stock

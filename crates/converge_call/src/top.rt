@@ -1,6 +1,5 @@
 //! The top call: from the words and the bytes that come in to the bytes that go out.
 ghost use Rattle.std.specs.Prelude.{◌≡◌, ◌≢◌, ◌≤◌, ◌↔◌, [], None, map};
-ghost use Rattle.record_keeper.specs.Calls.{GoesOn};
 ghost use Rattle.driver.specs.Kept.{Shown, IsSameBook};
 ghost use Rattle.driver.specs.Scenes.{scene_of};
 ghost use Rattle.converge_call.specs.Words.{IsForm};
@@ -73,9 +72,8 @@ pub fn converge<S: Source, W: Sink, K: Keeper, P: Provider>(
     // A book is opened with as many engines as the words say, over an image of the keeper's and what the cloud lists,
     // which agree.
     ensures opened { (b : Shown K P) → result.end ≡ End.Book b
-        → OpensFor (K.may_open keeper) words.now (P.cloud cloud) (P.cloud b.origin.cloud) b.opening }
-    ensures goes_on { (b : Shown K P) → result.end ≡ End.Book b
-        → GoesOn (K.shown keeper) (K.shown b.origin.keeper) (K.faults keeper) (K.faults b.origin.keeper) }
+        → OpensFor (K.may_open keeper) words.now (K.shown keeper) (K.shown b.origin.keeper)
+        (K.faults keeper) (K.faults b.origin.keeper) (P.cloud cloud) (P.cloud b.origin.cloud) b.opening }
 
     // A book that is handed back was driven by the lines; from a sound opening the main theorem holds of it.
     ensures driven { (b : Shown K P) → result.end ≡ End.Book b → HasDriven
@@ -121,9 +119,8 @@ pub fn run_serial<S: Source, W: Sink, K: Keeper, P: Provider>(
 
     // A book is opened with so many engines, over an image of the keeper's and what the cloud lists, which agree.
     ensures opened { (b : Shown K P) → result.end ≡ End.Book b
-        → OpensWith (K.may_open keeper) workers (P.cloud cloud) (P.cloud b.origin.cloud) b.opening }
-    ensures goes_on { (b : Shown K P) → result.end ≡ End.Book b
-        → GoesOn (K.shown keeper) (K.shown b.origin.keeper) (K.faults keeper) (K.faults b.origin.keeper) }
+        → OpensWith (K.may_open keeper) workers (K.shown keeper) (K.shown b.origin.keeper)
+        (K.faults keeper) (K.faults b.origin.keeper) (P.cloud cloud) (P.cloud b.origin.cloud) b.opening }
 
     // A book that is handed back was driven by the lines; from a sound opening the main theorem holds of it.
     ensures driven { (b : Shown K P) → result.end ≡ End.Book b → HasDriven

@@ -1,6 +1,6 @@
 -- What a crash may leave of steps one behind another.
 use Rattle.std.proofs.Common.{◌≡◌, List, [], ◌++◌, append-nil, append_assoc, refl, sym, ap, ◌∙◌, subst}
-use Rattle.std.specs.Prelude.{IsTrue, Option, Some, ℕ}
+use Rattle.std.specs.Prelude.{IsTrue, None, Option, Some, ℕ}
 use Rattle.provider.specs.Cloud.{Cloud}
 use Rattle.core_state.specs.State.{StateData}
 use Rattle.core_state.specs.declared.entry.Entry.{Entry}
@@ -10,15 +10,15 @@ use Rattle.record_keeper.specs.Calls.{IsLeftOf, before}
 use Rattle.record_keeper.specs.Laws.{IsLawful}
 use Rattle.record_keeper.specs.Shown.{Left, LeavesOnly, ShownKeeper, StandsFor, at_rest}
 use Rattle.record_keeper.proofs.Moments.{LeavesOnly-same, LeavesOnly-then, LeavesOnly-weaker}
-use Rattle.book.specs.Kept.{HasRun, IsSameBook, Shown, opening_of, registries}
+use Rattle.book.specs.Kept.{HasRun, IsHeld, IsSameBook, Origin, Shown, opening_of, registries}
 use Rattle.book.specs.Recording.{Records, StepsTo}
 use Rattle.book.specs.Recording as recording
-use Rattle.book.specs.Scenes.{Scene}
+use Rattle.book.specs.Scenes.{Scene, scene_of}
 use Rattle.book.specs.Turned.{Turned}
 use Rattle.book.specs.Turned as turned
 use Rattle.book.specs.declared.turning.Turn.{Turn as Turn_answer}
 use Rattle.book.proofs.Keepers.{itself}
-use Rattle.driver.specs.Leaving.{IsLeftAlong}
+use Rattle.driver.specs.Leaving.{IsLeftAlong, LeavesAlong}
 use Rattle.driver.proofs.Fitting.{fits_left}
 
 -- a book opens as it did
@@ -154,3 +154,26 @@ turned_grows e old new result (turned.unmade is same) = ([], same.entries ∙ sy
 turned_grows e old new result (turned.idle is none same) = ([], same.entries ∙ sym (append-nil old.entries))
 turned_grows e old new result (turned.lost is none same) = ([], same.entries ∙ sym (append-nil old.entries))
 turned_grows e old new result (turned.worn is by same) = ([], same.entries ∙ sym (append-nil old.entries))
+
+module _ {K P : Type 0} (shown : K → ShownKeeper) (cloud_of : P → Cloud) where
+  -- before the first turn
+  pub leaves_begun : (may_open : StateData → Type 0) (b : Shown K P) → IsLawful may_open (shown b.keeper)
+      → HasRun cloud_of b → {n m : ℕ} → IsHeld (shown b.origin.keeper) (shown b.keeper) n m b.state b.halt
+      → b.halt ≡ None → IsTrue (shown b.origin.keeper).tells
+      → LeavesOnly (shown b.keeper) (shown b.keeper) (IsLeftAlong (opening_of cloud_of b) b.entries b.entries)
+  leaves_begun may_open b lawful run held none tells =
+      leaves_still may_open (shown b.keeper) (IsLeftAlong (opening_of cloud_of b) b.entries b.entries) lawful
+      (subst IsTrue (sym held.goes_on.tells) tells) b.state (held.stands (λ halted. let is = sym none ∙ halted in cc))
+      (along_rest (opening_of cloud_of b) b.entries b.state [] b.entries run.run (sym (append-nil b.entries)) _ refl)
+
+  -- behind one turn more
+  pub leaves_on : (old mid new : Shown K P) (first : List Entry) (e : ℕ) {result : Turn_answer} → IsSameBook old mid
+      → mid.entries ≡ old.entries ++ first → LeavesAlong shown cloud_of old mid → HasRun cloud_of mid
+      → {n m : ℕ} → IsHeld (shown mid.origin.keeper) (shown mid.keeper) n m mid.state mid.halt
+      → Turned e (scene_of cloud_of mid) (scene_of cloud_of new) result → Records shown cloud_of mid new
+      → LeavesAlong shown cloud_of old new
+  leaves_on old mid new first e same grows so_far run held turned records tells =
+      let (second, more) = turned_grows e (scene_of cloud_of mid) (scene_of cloud_of new) _ turned in
+      let went = subst (λ (o : Origin K P). IsTrue (shown o.keeper).tells) (sym same.origin) tells in
+      leaves_then shown cloud_of old mid new first second same grows more (so_far tells)
+      (leaves_step shown cloud_of mid new second run more records (subst IsTrue (sym held.goes_on.tells) went))

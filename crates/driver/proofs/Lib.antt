@@ -8,3 +8,5 @@ pub mod Tables
 pub mod Spending
 pub mod Resting
 pub mod Turning
+pub mod Fitting
+pub mod Leavings

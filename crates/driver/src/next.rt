@@ -2,7 +2,7 @@
 ghost use Rattle.std.specs.Prelude.{◌≡◌, ◌≢◌, ◌≤◌, ◌<◌, ◌^◌, ◌+◌, [], IfSome, IsNone};
 ghost use Rattle.std.specs.Bool.{OnFalse, OnTrue};
 ghost use Rattle.step_relation.specs.Nexts.{IsIdle};
-ghost use Rattle.book.specs.Kept.{IsSoundBook, IsSoundOpening};
+ghost use Rattle.book.specs.Kept.{HasRun, IsHeld, IsSoundBook, IsSoundOpening};
 ghost use Rattle.book.specs.Quiet.{IsIdle as IsIdleBook};
 ghost use Rattle.driver.specs.Rounds.{AreIdleFrom, IsFirstFrom, IsNext};
 ghost use Rattle.driver.specs.Settled.{AreSettled};
@@ -24,6 +24,9 @@ pub(crate) fn next_engine<K: Keeper, P: Provider>(book: &Book<K, P>, last: u64) 
     ensures none { IsNone result → IsIdleBook book.now.state }
     ensures settled { IsNone result → IsSoundOpening P.cloud book.now → AreSettled P.cloud book.now }
     ensures sound { IsSoundOpening P.cloud book.now → IsSoundBook P.cloud book.now }
+    ensures run { HasRun P.cloud book.now }
+    ensures held { IsHeld (K.shown book.now.origin.keeper) (K.shown book.now.keeper)
+        (K.faults book.now.origin.keeper) (K.faults book.now.keeper) book.now.state book.now.halt }
 {
     book.promises();
     match first_from(book, last + 1) {

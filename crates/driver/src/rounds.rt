@@ -32,6 +32,7 @@ pub fn turns<K: Keeper, P: Provider>(book: &mut Book<K, P>, n: u128, registry: &
     ensures halt { Halts K.faults Ran.DiskFault book.old book.new result }
     ensures leaves { book.old.halt ≡ None → LeavesAlong K.shown P.cloud book.old book.new }
 {
+    book.promises();
     let mut last = 0;
     for made in 0..n {
         let Some(e) = next_engine(book, last) else {

@@ -40,7 +40,7 @@ pub data HasCalled (words : List (List ℕ)) (cloud left : SimCloud) (status : E
       (AsksFor words) (record { keeper = k; cloud = cloud }) (record { keeper = l; cloud = left }) status
       → HasCalled words cloud left status
   driven : (b : Shown Unkept SimCloud) (old new : Outside)
-      → OpensFor opens_empty words (cloud_of cloud) (cloud_of b.origin.cloud) b.opening
+      → OpensFor opens_empty words nothing_kept nothing_kept 0 0 (cloud_of cloud) (cloud_of b.origin.cloud) b.opening
       → SoundAt b.opening (cloud_of b.origin.cloud)
       → HasDriven shipped_stock nothing_kept nothing_kept (first_scene cloud_of b) (scene_of cloud_of b) b.halt old new
       status

@@ -1,4 +1,3 @@
-use Rattle.std.proofs.Common.{subst, sym}
 use Rattle.book.proofs.QuietTurns.{made_quietly}
 use Rattle.book.proofs.turning.make_quietly.Goals as goal
 

@@ -10,7 +10,7 @@ use Rattle.graph_laws.proofs.whole.Whole.{empty_openings}
 use Rattle.converge_call.proofs.laws.nothing_kept_is_sound.Goals as goal
 
 pub returns : goal.returns
-returns c = λ workers old new opening it.
+returns c = λ workers before behind faults now old new opening it.
     let bare_is = it.found.its.may in
     let found = subst (λ (s : StateData). FindsNothing (opening_at s new)) bare_is it.opened.admitted.compared in
     let (none, sound) = empty_openings new workers it.opened.some it.opened.few found in (

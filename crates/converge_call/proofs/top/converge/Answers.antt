@@ -18,8 +18,9 @@ pub returns-in-Ok-clause-opened : goal.returns-in-Ok-clause-opened
 returns-in-Ok-clause-opened g c b is = record {
   mode = c.in-Ok.mode;
   form = c.in-Ok.ensures.ok;
-  opens = subst (λ (n : ℕ). OpensWith (g.K.Keeper.may_open c.args.keeper) n (g.P.Provider.cloud c.args.cloud)
-      (g.P.Provider.cloud b.origin.cloud) b.opening) (ap (λ (s : Setup). s.workers) c.setup.ensures)
+  opens = subst (λ (n : ℕ). OpensWith (g.K.Keeper.may_open c.args.keeper) n (g.K.Keeper.shown c.args.keeper)
+      (g.K.Keeper.shown b.origin.keeper) (g.K.Keeper.faults c.args.keeper) (g.K.Keeper.faults b.origin.keeper)
+      (g.P.Provider.cloud c.args.cloud) (g.P.Provider.cloud b.origin.cloud) b.opening) (ap (λ (s : Setup). s.workers) c.setup.ensures)
       (c.run_serial.ensures.opened b is);
 }
 

@@ -1,7 +1,7 @@
 -- Over an image of the keeper's and what the cloud's list said, a book was opened or none was.
 use Rattle.std.proofs.Common.{refl}
 use Rattle.book.specs.declared.restarting.Unrestarted.TheVariants as why
-use Rattle.converge_call.proofs.Handing.{from_before, opened_over, opened_with, unopened_by}
+use Rattle.converge_call.proofs.Handing.{from_before, opened_with, unopened_by}
 use Rattle.converge_call.proofs.top.run_serial.Goals as goal
 
 pub driven-requires : goal.driven-requires
@@ -10,18 +10,15 @@ driven-requires g c =
     record { state = has.state; entries = has.entries; keeper = has.keeper_is; unhalted = has.unhalted }
 
 pub returns-in-Book-clause-opened : goal.returns-in-Book-clause-opened
-returns-in-Book-clause-opened g c b is = opened_with _ g.P.Provider.cloud _ c.args.cloud c.in-Book.book b
+returns-in-Book-clause-opened g c b is = opened_with _ g.K.Keeper.shown g.K.Keeper.faults g.P.Provider.cloud _
+    c.args.keeper c.args.cloud c.in-Book.book b
     (c.driven.ensures.same b is) (c.in-Book.ensures.book c.in-Book.book refl)
-
-pub returns-in-Book-clause-goes_on : goal.returns-in-Book-clause-goes_on
-returns-in-Book-clause-goes_on g c b is = opened_over g.K.Keeper.shown g.K.Keeper.faults c.args.keeper c.in-Book.book b
-    (c.driven.ensures.same b is) (c.in-Book.ensures.goes_on c.in-Book.book refl)
 
 pub returns-in-Book-clause-driven : goal.returns-in-Book-clause-driven
 returns-in-Book-clause-driven g c b is = from_before _ _ _ _ _ _ _ _ _ _ _ _ _ _
     (g.K.Keeper.faults c.args.keeper) (g.K.Keeper.faults b.origin.keeper) (g.K.Keeper.faults b.keeper) _
-    (opened_over g.K.Keeper.shown g.K.Keeper.faults c.args.keeper c.in-Book.book b
-    (c.driven.ensures.same b is) (c.in-Book.ensures.goes_on c.in-Book.book refl)).later
+    (opened_with _ g.K.Keeper.shown g.K.Keeper.faults g.P.Provider.cloud _ c.args.keeper c.args.cloud c.in-Book.book b
+    (c.driven.ensures.same b is) (c.in-Book.ensures.book c.in-Book.book refl)).went.goes_on.later
     (c.driven.ensures.driven b is)
 
 -- for each refusal of the opening

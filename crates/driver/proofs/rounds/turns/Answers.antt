@@ -1,6 +1,7 @@
 -- The turns so far and the last one, and the work that they have spent.
 use Rattle.std.proofs.Common.{arith, refl, subst, sym, ℕ, ◌+◌, ◌∙◌, ◌≡◌}
 use Rattle.book.specs.Quiet.{page}
+use Rattle.driver.proofs.Leavings.{leaves_begun, leaves_on}
 use Rattle.driver.proofs.Resting.{no_work_idle, still_busy}
 use Rattle.driver.proofs.Spending.{made_within, none_left, none_spent, spend_turned}
 use Rattle.driver.proofs.Stills.{halts_fault, sound_still}
@@ -16,6 +17,8 @@ loop-made-init g c = record {
   halt = refl;
   faults = omega arith;
   number = omega arith;
+  leaves = λ none tells. leaves_begun g.K.Keeper.shown g.P.Provider.cloud _ c.args.book.now
+      (g.met.K.Keeper.lawful c.args.book.now.keeper) c.promises.ensures.run c.promises.ensures.held none tells;
 }
 
 pub returns-in_default-clause-ran : goal.returns-in_default-clause-ran
@@ -68,6 +71,10 @@ loop-made-preserved g c = record {
   halt = c.turn.ensures.halt.same (λ f. let both = sym c.in-Stepped.is ∙ f in cc) ∙ c.loop-made.invariant.halt;
   faults = (let le = c.loop-made.invariant.faults in let more = c.turn.ensures.halt.later in omega (arith, le, more));
   number = (let is = c.get-last.ensures.value in let range = c.get-last.ensures.range in omega (arith, is, range.1));
+  leaves = λ none. leaves_on g.K.Keeper.shown g.P.Provider.cloud _ c.loop-made.book c.turn.new.self _ _
+      c.loop-made.invariant.same c.loop-made.invariant.so.entries (c.loop-made.invariant.leaves none)
+      c.next_engine.ensures.run c.next_engine.ensures.held c.turn.ensures.turned
+      (c.turn.ensures.records (c.loop-made.invariant.halt ∙ none));
 }
 
 pub returns-in-Some-next_engine-clause-ran : goal.returns-in-Some-next_engine-clause-ran
@@ -98,3 +105,21 @@ returns-in-None-clause-within g c = λ sound w m full is.
 pub returns-in-None-clause-settled : goal.returns-in-None-clause-settled
 returns-in-None-clause-settled g c = λ sound m is. c.in-None.ensures.settled refl
     (sound_still _ _ _ c.loop-made.invariant.same sound)
+
+pub returns-in-Worn-clause-leaves : goal.returns-in-Worn-clause-leaves
+returns-in-Worn-clause-leaves g c = λ none. leaves_on g.K.Keeper.shown g.P.Provider.cloud _ c.loop-made.book
+    c.turn.new.self _ _ c.loop-made.invariant.same c.loop-made.invariant.so.entries (c.loop-made.invariant.leaves none)
+    c.next_engine.ensures.run c.next_engine.ensures.held c.turn.ensures.turned
+    (c.turn.ensures.records (c.loop-made.invariant.halt ∙ none))
+
+pub returns-in-Memory-clause-leaves : goal.returns-in-Memory-clause-leaves
+returns-in-Memory-clause-leaves g c = λ none. leaves_on g.K.Keeper.shown g.P.Provider.cloud _ c.loop-made.book
+    c.turn.new.self _ _ c.loop-made.invariant.same c.loop-made.invariant.so.entries (c.loop-made.invariant.leaves none)
+    c.next_engine.ensures.run c.next_engine.ensures.held c.turn.ensures.turned
+    (c.turn.ensures.records (c.loop-made.invariant.halt ∙ none))
+
+pub returns-in-DiskFault-clause-leaves : goal.returns-in-DiskFault-clause-leaves
+returns-in-DiskFault-clause-leaves g c = λ none. leaves_on g.K.Keeper.shown g.P.Provider.cloud _ c.loop-made.book
+    c.turn.new.self _ _ c.loop-made.invariant.same c.loop-made.invariant.so.entries (c.loop-made.invariant.leaves none)
+    c.next_engine.ensures.run c.next_engine.ensures.held c.turn.ensures.turned
+    (c.turn.ensures.records (c.loop-made.invariant.halt ∙ none))

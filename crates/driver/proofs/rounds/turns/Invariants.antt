@@ -1,6 +1,8 @@
 use Rattle.std.proofs.Common.{◌<◌, ◌^◌, ◌≡◌, ◌≤◌}
+use Rattle.std.specs.Prelude.{None}
 use Rattle.book.specs.Kept.{IsSameBook, IsSoundOpening}
 use Rattle.book.specs.Quiet.{page}
+use Rattle.driver.specs.Leaving.{LeavesAlong}
 use Rattle.driver.proofs.Spending.{Spent}
 use Rattle.driver.proofs.Turning.{SoFar}
 use Rattle.driver.proofs.rounds.turns.Given as goal
@@ -15,4 +17,6 @@ invariant-loop-made g l = record {
   halt : l.book.halt ≡ l.initial.book.halt;
   faults : g.K.Keeper.faults l.initial.book.keeper ≤ g.K.Keeper.faults l.book.keeper;
   number : l.last < 2 ^ 62;
+  leaves : l.initial.book.halt ≡ None
+      → LeavesAlong g.K.Keeper.shown g.P.Provider.cloud l.initial.book l.book;
 }

@@ -1,5 +1,5 @@
 -- The input is closed, or nothing changes.
-use Rattle.std.proofs.Common.{ap, not, refl, sym, ◌∙◌}
+use Rattle.std.proofs.Common.{ap, not, refl, ◌∙◌}
 use Rattle.book.proofs.Crashing.{left_closed}
 use Rattle.book.proofs.Growing.{kept_closed}
 use Rattle.book.proofs.Recorded.{recorded_close}

@@ -1,4 +1,4 @@
-use Rattle.std.proofs.Common.{refl, subst, sym, ◌∙◌}
+use Rattle.std.proofs.Common.{refl, sym, ◌∙◌}
 use Rattle.book.specs.Makings.{memory}
 use Rattle.book.proofs.Doing.{kept_done, enlist_step}
 use Rattle.book.proofs.Headlines.{alone}
