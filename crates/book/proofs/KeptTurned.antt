@@ -47,7 +47,7 @@ rest_silent s e given cs es rest call t is =
     rests a b xs ys h = cc
 
 -- a call that is told alone is a step
-abbrev alone_step : (s : StateData) (e : ℕ) (k : Requests s e) (given : Answered) (cs : List Change) (es rest : List Entry)
+abbrev pub alone_step : (s : StateData) (e : ℕ) (k : Requests s e) (given : Answered) (cs : List Change) (es rest : List Entry)
     → cs ≢ [] → Turn s e (Answer given) cs es → ¬ WearsOut s e (Answer given)
     → es ≡ call_entry e k.calls.row k.asked given ∷ rest → Step s [] (call_entry e k.calls.row k.asked given ∷ [])
 alone_step s e k given cs es rest some t lasts first =

@@ -5,7 +5,7 @@ use Rattle.heat_io.specs.declared.next.Next.{Next}
 use Rattle.heat_io.specs.declared.next.Next.TheVariants as next
 use Rattle.heat_io.specs.Lines.{cut_lines, most_read}
 use Rattle.heat_io.specs.Reading as reading
-use Rattle.heat_io.specs.Reading.{Gave, HasNoEnd, HoldsFew, IsNext, IsNextOf, Reads}
+use Rattle.heat_io.specs.Reading.{Gave, HasNoEnd, HoldsFew, IsNext, IsNextOf, Reads, StopsAtEnd}
 use Rattle.heat_io.specs.Streams.{ahead}
 use Rattle.heat_io.proofs.Runs.{are_lines}
 use Rattle.converge_call.specs.Sources.{AllRead, AreRead, FirstRead, JustRead, LimitRead, PassesLimit, UnendedRead}
@@ -71,10 +71,10 @@ module _ (left_old : Option (List ℕ)) (held : List ℕ) (left : Option (List �
     Sees it = IsNext given (held ++ taken) it held_new given_new
 
     -- one line more
-    pub line_read : (line : List ℕ) → Tells (next.Line line) → Sees (next.Line line) → HoldsFew held held_new
-        → IsAt left_old held_new left_new (lines ++ line ∷ []) given_new
-    line_read line tells sees few = record {
-      gave = reading.adds lines held given taken line (lines ++ line ∷ []) held_new given_new at.gave sees refl;
+    pub line_read : (line : List ℕ) → Tells (next.Line line) → Sees (next.Line line) → StopsAtEnd held taken
+        → HoldsFew held held_new → IsAt left_old held_new left_new (lines ++ line ∷ []) given_new
+    line_read line tells sees stops few = record {
+      gave = reading.adds lines held given taken line (lines ++ line ∷ []) held_new given_new at.gave stops sees refl;
       few = by few;
       told = λ bytes is.
           let (ahead_now, front, read) = at.told bytes is in

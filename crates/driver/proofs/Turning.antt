@@ -133,18 +133,18 @@ module _ (old : Page) (made last e : ℕ) (mid new : Scene) (so : SoFar old (pag
 
     lacks : (es : List Entry) → Lacks e mid.state new.state es turn.Memory → new.entries ≡ mid.entries ++ es
         → HasRan n old (page_of new) ran.Memory
-    lacks es lacking entries = record {
+    lacks es unable entries = record {
       added = so.added ++ es;
       entries = entries ∙ ap (λ (all : List Entry). all ++ es) so.entries ∙ append_assoc old.entries so.added es;
-      ended = to.memory so.by e mid.state so.added es room so.turns its lacking refl refl;
+      ended = to.memory so.by e mid.state so.added es room so.turns its unable refl refl;
     }
 
     faults : (es : List Entry) → Lacks e mid.state new.state es turn.DiskFault → new.entries ≡ mid.entries ++ es
         → HasRan n old (page_of new) ran.DiskFault
-    faults es lacking entries = record {
+    faults es unable entries = record {
       added = so.added ++ es;
       entries = entries ∙ ap (λ (all : List Entry). all ++ es) so.entries ∙ append_assoc old.entries so.added es;
-      ended = to.fault so.by e mid.state so.added es room so.turns its lacking refl refl;
+      ended = to.fault so.by e mid.state so.added es room so.turns its unable refl refl;
     }
 
     pub broken_off : (result : turn_type) → Turned e mid new result → result ≡ turn.Memory

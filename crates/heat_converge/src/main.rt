@@ -14,6 +14,7 @@ mod kept_cloud;
 mod kept_cloud_tests;
 mod said;
 
+use converge_call::laws::nothing_kept_is_sound;
 use converge_call::{Exit, Outcome, Unkept, WordsFault, converge_shipped, words_of};
 use ended::Ended;
 use file_fault::{FileFault, line_for};
@@ -68,6 +69,7 @@ fn cloud_path(alloc: Global, words: &[Text]) -> Result<Option<Text>, AllocError>
 fn call(rt: &HostRuntime, words: &[Text], cloud: SimCloud) -> (Exit, SimCloud)
     ensures { HasCalled words.now cloud result.1 result.0 }
 {
+    nothing_kept_is_sound();
     let mut source = StdSource::new(rt.reader());
     let mut sink = StdSink::new(io::writer(rt));
     let Outcome { status, end } = converge_shipped(

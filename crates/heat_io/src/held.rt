@@ -1,11 +1,11 @@
 //! The bytes that were read and not given yet: at most a line and one read.
-ghost use Rattle.std.specs.Prelude.{◌<◌, ◌≡◌, ℕ, ◌+◌, ◌≤◌, List, [], ◌++◌, length, take};
+ghost use Rattle.std.specs.Prelude.{◌≡◌, ℕ, ◌+◌, ◌≤◌, List, [], ◌++◌, length, take};
 ghost use Rattle.std.specs.Prelude.{drop, vec_len, vec_capacity, IfOk, OnOk, OnErr};
 ghost use Rattle.std.specs.List.{position};
 ghost use Rattle.heat_value.specs.Counts.{Rose};
 ghost use Rattle.heat_io.specs.Streams.{ahead};
-ghost use Rattle.heat_io.specs.Lines.{is_lf, length_of_line, line_limit, most_held, most_read};
-ghost use Rattle.heat_io.specs.Reading.{HasNoEnd};
+ghost use Rattle.heat_io.specs.Lines.{is_lf, length_of_line, line_limit, most_held};
+ghost use Rattle.heat_io.specs.Reading.{HasEnd, HasNoEnd, StopsAtEnd};
 ghost use Rattle.heat_io.specs.Held.{IsFilled, IsFound};
 
 use crate::source::{Got, Source};
@@ -105,10 +105,8 @@ impl HeldBytes {
         ensures room { length self.new ≤ most_held }
         ensures found { IsFound result self.new (S.left source.new) }
         ensures all { ahead self.new (S.left source.new) ≡ ahead self.old (S.left source.old) }
-        ensures grows { (taken : List ℕ) × (self.new ≡ self.old ++ taken) }
-        ensures unread { length_of_line self.old < length self.old
-            → (self.new ≡ self.old) × (source.new ≡ source.old) }
-        ensures last { length_of_line self.old ≡ length self.old → length self.new ≤ length_of_line self.new + most_read }
+        ensures grows { (taken : List ℕ) × (self.new ≡ self.old ++ taken) × StopsAtEnd self.old taken }
+        ensures unread { HasEnd self.old → source.new ≡ source.old }
         ensures unended { result ≡ Found.ReadFault → HasNoEnd self.new }
         ensures later { S.faults source.old ≤ S.faults source.new }
         ensures cause { result ≡ Found.ReadFault →
@@ -148,7 +146,6 @@ impl HeldBytes {
         requires { length self.old ≤ line_limit }
         ensures room { length self.new ≤ most_held }
         ensures filled { IsFilled result self.old self.new (S.left source.old) (S.left source.new) }
-        ensures few { length self.new ≤ length self.old + most_read }
         ensures later { S.faults source.old ≤ S.faults source.new }
         ensures cause { result ≡ Filled.ReadFault →
             Rose (S.faults source.old) (S.faults source.new) }

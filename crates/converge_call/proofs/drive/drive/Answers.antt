@@ -50,7 +50,7 @@ loop-number-preserved g c = record {
       (stock (map (λ t. t.test) c.args.registry.now.customs) c.answer.new.catalog) _
       (line_end (g.P.Provider.cloud c.answer.new.book.cloud) c.answer.new.book.halt) _ _
       (line_read _ _ _ _ _ c.loop-number.invariant.so.at _ c.in-Line.ensures.seen.0 _ _ c.in-Line.line
-      c.in-Line.ensures.told c.in-Line.ensures.seen.1 (c.in-Line.ensures.behind c.in-Line.line refl))
+      c.in-Line.ensures.told c.in-Line.ensures.seen.1 c.in-Line.ensures.seen.2 (c.in-Line.ensures.behind c.in-Line.line refl))
       c.in-Line.ensures.seen.1.rises c.in-Line.ensures.seen.1.within
       (answered_as _ _ c.in-Line.line _ _ _ _ _ _ _ _ _ _ _ c.as_slice.ensures
       (same_opening g.P.Provider.cloud _ _ c.loop-number.invariant.carried.same)
@@ -168,7 +168,7 @@ pub returns-in-Err-answer-clause-drove : goal.returns-in-Err-answer-clause-drove
 returns-in-Err-answer-clause-drove g c = ends_at _ _ _ _ _ _ _ _ _ _ _ c.loop-number.invariant.so _ _
     c.next.new.self.given c.in-Line.line _ _ _ _ c.in-Err-answer.exit
     (line_read _ _ _ _ _ c.loop-number.invariant.so.at _ c.in-Line.ensures.seen.0 _ _ c.in-Line.line
-    c.in-Line.ensures.told c.in-Line.ensures.seen.1 (c.in-Line.ensures.behind c.in-Line.line refl))
+    c.in-Line.ensures.told c.in-Line.ensures.seen.1 c.in-Line.ensures.seen.2 (c.in-Line.ensures.behind c.in-Line.line refl))
     (answered_as _ _ c.in-Line.line _ _ _ _ _ _ _ _ _ _ _ c.as_slice.ensures
     (same_opening g.P.Provider.cloud _ _ c.loop-number.invariant.carried.same)
     (recalls_same g.K.Keeper.shown _ _ c.loop-number.invariant.carried.same) c.answer.ensures.answered)
@@ -199,7 +199,7 @@ returns-in-Err-shorten-clause-drove g c =
     (stock (map (λ t. t.test) c.args.registry.now.customs) c.answer.new.catalog) _
     (line_end (g.P.Provider.cloud c.answer.new.book.cloud) c.answer.new.book.halt) _ _
     (line_read _ _ _ _ _ c.loop-number.invariant.so.at _ c.in-Line.ensures.seen.0 _ _ c.in-Line.line
-    c.in-Line.ensures.told c.in-Line.ensures.seen.1 (c.in-Line.ensures.behind c.in-Line.line refl))
+    c.in-Line.ensures.told c.in-Line.ensures.seen.1 c.in-Line.ensures.seen.2 (c.in-Line.ensures.behind c.in-Line.line refl))
     c.in-Line.ensures.seen.1.rises c.in-Line.ensures.seen.1.within
     (answered_as _ _ c.in-Line.line _ _ _ _ _ _ _ _ _ _ _ c.as_slice.ensures
     (same_opening g.P.Provider.cloud _ _ c.loop-number.invariant.carried.same)
