@@ -36,7 +36,7 @@ use Rattle.converge_call.specs.Sources.{LimitRead, StaysWithin}
 use Rattle.converge_call.specs.Drives.{Drove, line_end}
 use Rattle.converge_call.specs.Drives as drives
 use Rattle.converge_call.specs.Ends.{Outside, streams_of, HasFailedList, IsCalm, EndsCalmly, opening_in}
-use Rattle.converge_call.proofs.Finding.{found_not}
+use Rattle.converge_call.proofs.Differing.{found_not}
 
 -- Over a state that is sound with the last cloud: where no number is worn out, no list failed and the keeper recalls, what
 -- broke a line off is want of memory, or a fault of the keeper.

@@ -31,7 +31,7 @@ use Rattle.converge_call.specs.Drives as drives
 use Rattle.converge_call.specs.Shortening.{Shortens}
 use Rattle.converge_call.specs.Shortening as shortening
 use Rattle.converge_call.proofs.Noting.{append-none}
-use Rattle.converge_call.proofs.Shortening.{shortened_entries, shortened_state}
+use Rattle.converge_call.proofs.Compacting.{shortened_entries, shortened_state}
 use Rattle.converge_call.proofs.Sourcing.{IsAt, at_first, just_read}
 
 -- a drive so far, before the line of this number: what the reader holds, and what the source has left

@@ -1,7 +1,7 @@
 pub mod Noting
 pub mod Carrying
 pub mod Halting
-pub mod Shortening
+pub mod Compacting
 pub mod Ordering
 pub mod Showing
 pub mod Restarting
@@ -11,7 +11,7 @@ pub mod Reporting
 pub mod Answering
 pub mod Sourcing
 pub mod Driving
-pub mod Finding
+pub mod Differing
 pub mod Completing
 pub mod Stopping
 pub mod Handing

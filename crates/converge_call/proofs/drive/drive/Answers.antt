@@ -15,8 +15,8 @@ use Rattle.converge_call.proofs.Carrying.{carries_none, carries_then, recalls_sa
 use Rattle.converge_call.proofs.Driving.{ends_at, ends_lacking, ends_long, ends_shortened, ends_unbegun, ends_unread}
 use Rattle.converge_call.proofs.Driving.{ends_well, first_is, goes_on, starts, still_so}
 use Rattle.converge_call.proofs.Sourcing.{all_read, lacking_read, limit_read, line_read, unended_read}
-use Rattle.converge_call.proofs.Shortening.{shortened_entries, shortened_halt, shortened_never, shortened_opening}
-use Rattle.converge_call.proofs.Shortening.{shortened_short, shortened_state}
+use Rattle.converge_call.proofs.Compacting.{shortened_entries, shortened_halt, shortened_never, shortened_opening}
+use Rattle.converge_call.proofs.Compacting.{shortened_short, shortened_state}
 use Rattle.converge_call.proofs.drive.drive.Goals as goal
 
 pub loop-number-init : goal.loop-number-init

@@ -2,7 +2,7 @@
 use Rattle.std.proofs.Common.{refl}
 use Rattle.converge_call.specs.Shortening.{done}
 use Rattle.converge_call.proofs.Carrying.{carries_none}
-use Rattle.converge_call.proofs.Shortening.{compacted_carries, compacted_done, compacted_failed, compacted_lacks}
+use Rattle.converge_call.proofs.Compacting.{compacted_carries, compacted_done, compacted_failed, compacted_lacks}
 use Rattle.converge_call.proofs.shortening.shorten.Goals as goal
 
 pub returns-then-not-is_long-clause-shortens : goal.returns-then-not-is_long-clause-shortens
