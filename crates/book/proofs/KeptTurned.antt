@@ -1,5 +1,5 @@
 -- What a book keeps, and what a crash may leave, through a turn.
-use Rattle.std.proofs.Common.{List, [], ap, append-nil, refl, subst, sym, ℕ, ◌++◌, ◌∙◌, ◌∷◌, ◌≡◌}
+use Rattle.std.proofs.Common.{List, [], append-nil, refl, subst, sym, ℕ, ◌++◌, ◌∙◌, ◌∷◌, ◌≡◌}
 use Rattle.std.specs.Prelude.{None, Option, ◌≢◌}
 use Rattle.heat_plan.specs.declared.calls.Answered.{Answered}
 use Rattle.provider.proofs.Lists.{here}
@@ -11,9 +11,8 @@ use Rattle.core_state.specs.State.{StateData}
 use Rattle.core_state.specs.declared.change.Change.{Change}
 use Rattle.core_state.specs.declared.entry.Actor.TheVariants.{Engine}
 use Rattle.core_state.specs.declared.entry.Entry.{Entry}
-use Rattle.core_state.specs.declared.entry.What.TheVariants as what
 use Rattle.step_relation.specs.Could.{Allows}
-use Rattle.step_relation.specs.Given.{Answer, Given}
+use Rattle.step_relation.specs.Given.{Answer}
 use Rattle.step_relation.specs.Laws.{opening_at}
 use Rattle.step_relation.specs.Rows.{token_of}
 use Rattle.step_relation.specs.Runs as tied
@@ -22,10 +21,10 @@ use Rattle.step_relation.specs.Steps as step
 use Rattle.step_relation.specs.Steps.{Step}
 use Rattle.step_relation.specs.Turns.{Turn, WearsOut}
 use Rattle.step_relation.specs.Writes.{call_entry}
-use Rattle.book.specs.Behind.{alone_changes, tried_by}
-use Rattle.book.specs.Kept.{IsKept, registries, unjudged}
-use Rattle.book.specs.Recording.{IsStepTo, StepsTo, none, one}
-use Rattle.book.specs.Scenes.{Makes, Scene}
+use Rattle.book.specs.Behind.{tried_by}
+use Rattle.book.specs.Kept.{IsKept, unjudged}
+use Rattle.book.specs.Recording.{StepsTo, none, one}
+use Rattle.book.specs.Scenes.{Scene}
 use Rattle.book.specs.Turned.{Requests, Turned, WhyAlone, failed, lacking}
 use Rattle.book.specs.Turned as turned
 use Rattle.book.specs.declared.halting.Halt.{Halt}

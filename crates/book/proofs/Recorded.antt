@@ -1,6 +1,6 @@
 -- What a call of one step leaves with the keeper, at each of its moments.
-use Rattle.std.proofs.Common.{List, [], ap, append-nil, refl, subst, sym, ℕ, ◌++◌, ◌∙◌, ◌∷◌, ◌≡◌}
-use Rattle.std.specs.Prelude.{Err, None, Option, Result, Some, ◌≢◌}
+use Rattle.std.proofs.Common.{List, [], append-nil, refl, subst, sym, ℕ, ◌++◌, ◌∙◌, ◌∷◌, ◌≡◌}
+use Rattle.std.specs.Prelude.{Err, Result, Some, ◌≢◌}
 use Rattle.heat_plan.specs.declared.refusal.Refusal.{Refusal}
 use Rattle.heat_plan.specs.declared.refusal.Refusal.TheVariants as refusal
 use Rattle.provider.proofs.States.{state-stays}
@@ -14,7 +14,6 @@ use Rattle.core_state.specs.declared.entry.What.TheVariants as what
 use Rattle.core_state.specs.declared.entry.What.{What}
 use Rattle.step_relation.specs.Could.{Allows}
 use Rattle.step_relation.specs.Opening.{first_of}
-use Rattle.step_relation.specs.Runs.{ClosesOnce}
 use Rattle.step_relation.specs.Steps.{IsNote, close, note}
 use Rattle.step_relation.specs.Writes.{entry_of}
 use Rattle.check_steps.specs.declared.looks.Work.{Work}
@@ -25,13 +24,12 @@ use Rattle.book.specs.Closing.{Closes}
 use Rattle.book.specs.Closing as closing
 use Rattle.book.specs.Commits.{Commits}
 use Rattle.book.specs.Commits as commits
-use Rattle.book.specs.Keeping.{IsReady, KeptBy}
+use Rattle.book.specs.Keeping.{KeptBy}
 use Rattle.book.specs.Kept.{Shown, opening_of}
 use Rattle.book.specs.Makings.{DoesSo, tried_to}
 use Rattle.book.specs.Quiet.{page}
-use Rattle.book.specs.Recording.{Records, StepsTo, none}
+use Rattle.book.specs.Recording.{Records, none}
 use Rattle.book.specs.Scenes.{Scene, scene_of}
-use Rattle.book.specs.Turned.{Turned}
 use Rattle.book.specs.declared.halting.Halt.TheVariants as halt
 use Rattle.book.specs.declared.turning.Turn.TheVariants.{DiskFault}
 use Rattle.book.specs.declared.turning.Turn.{Turn as Turn_answer}

@@ -32,7 +32,7 @@ use Rattle.book.specs.declared.halting.Halt.TheVariants as halt
 use Rattle.book.specs.declared.halting.Halt.{Halt}
 use Rattle.book.specs.declared.restarting.Unrestarted.TheVariants as why
 use Rattle.book.specs.declared.restarting.Unrestarted.{Unrestarted}
-use Rattle.book.proofs.Growing.{grows, stays, whole_trace}
+use Rattle.book.proofs.Growing.{grows, whole_trace}
 use Rattle.book.proofs.Histories.{silence_allows}
 use Rattle.book.proofs.KeptTurned.{step_to}
 

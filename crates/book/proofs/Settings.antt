@@ -1,6 +1,6 @@
 -- A turn behind what was prepared for it, and one for which nothing was.
-use Rattle.std.proofs.Common.{List, [], refl, subst, sym, ℕ, ◌≡◌}
-use Rattle.std.specs.Prelude.{Err, IfErr, Result, ◌≢◌}
+use Rattle.std.proofs.Common.{List, refl, subst, sym, ℕ, ◌≡◌}
+use Rattle.std.specs.Prelude.{Err, IfErr, Result}
 use Rattle.heat_plan.specs.declared.refusal.Refusal.{Refusal}
 use Rattle.heat_plan.specs.declared.refusal.Refusal.TheVariants.{Worn}
 use Rattle.provider.specs.Changes.{IsAsBefore}
@@ -20,7 +20,6 @@ use Rattle.book.specs.Turned as turned
 use Rattle.book.specs.WorkableOver.{IsWorkableOver}
 use Rattle.book.specs.declared.turning.Turn.TheVariants as turn
 use Rattle.book.specs.declared.turning.Turn.{Turn as Turn_answer}
-use Rattle.book.proofs.Growing.{unasked}
 use Rattle.book.proofs.Keepers.{kept_after, same_ready, untouched}
 
 -- what was prepared has changed nothing

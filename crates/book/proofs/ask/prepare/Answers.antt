@@ -20,10 +20,12 @@ pub returns-in_err-make_room-2-clause-shown : goal.returns-in_err-make_room-2-cl
 returns-in_err-make_room-2-clause-shown g c = same_then _ _ _ c.make_room.ensures.shown c.make_room-2.ensures.shown
 
 pub returns-in_err-make_room-3-clause-shown : goal.returns-in_err-make_room-3-clause-shown
-returns-in_err-make_room-3-clause-shown g c = same_then _ _ _ (same_then _ _ _ c.make_room.ensures.shown c.make_room-2.ensures.shown) c.make_room-3.ensures.shown
+returns-in_err-make_room-3-clause-shown g c = same_then _ _ _
+    (same_then _ _ _ c.make_room.ensures.shown c.make_room-2.ensures.shown) c.make_room-3.ensures.shown
 
 pub returns-clause-shown : goal.returns-clause-shown
-returns-clause-shown g c = same_then _ _ _ (same_then _ _ _ c.make_room.ensures.shown c.make_room-2.ensures.shown) c.make_room-3.ensures.shown
+returns-clause-shown g c = same_then _ _ _
+    (same_then _ _ _ c.make_room.ensures.shown c.make_room-2.ensures.shown) c.make_room-3.ensures.shown
 
 pub returns-clause-room : goal.returns-clause-room
 returns-clause-room g c =
@@ -32,7 +34,8 @@ returns-clause-room g c =
     let a3 = c.make_room-3.ensures.keeps in
     let b3 = c.make_room-3.ensures.keeps_pages in
     record {
-      begun = room_stays _ _ _ _ _ _ _ (λ cs r. c.make_room-3.ensures.keeps_records cs (c.make_room-2.ensures.keeps_records cs r))
+      begun = room_stays _ _ _ _ _ _ _
+          (λ cs r. c.make_room-3.ensures.keeps_records cs (c.make_room-2.ensures.keeps_records cs r))
           (omega (arith, a2, a3)) (omega (arith, b2, b3)) c.in_ok-make_room.ensures.room;
       quota = room_stays _ _ _ _ _ _ _ (λ cs r. c.make_room-3.ensures.keeps_records cs r)
           (omega (arith, a3)) (omega (arith, b3)) c.in_ok-make_room-2.ensures.room;

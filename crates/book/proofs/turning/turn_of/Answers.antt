@@ -37,7 +37,8 @@ returns-in-Ending g c = quietly c.args.e c.finish-made.result _ _ _ _ _ _ _ _ _ 
     (nothing_refused _ _ c.finish-made.result c.finish-made.ensures.cause)
 
 pub make_quietly-requires-clause-storable : goal.make_quietly-requires-clause-storable
-make_quietly-requires-clause-storable g c = quiet_storable _ (workable_of _ _ _ c.requires.workable) c.args.e c.take-made.result
+make_quietly-requires-clause-storable g c =
+    quiet_storable _ (workable_of _ _ _ c.requires.workable) c.args.e c.take-made.result
     (nothing_made _ _ c.take-made.result c.take-made.ensures.made)
 
 pub make_quietly-requires-clause-honest : goal.make_quietly-requires-clause-honest
@@ -45,7 +46,8 @@ make_quietly-requires-clause-honest g c = quiet_honest _ c.args.e c.take-made.re
     (nothing_refused _ _ c.take-made.result c.take-made.ensures.cause)
 
 pub make_quietly-requires-in-TakeOver-clause-storable : goal.make_quietly-requires-in-TakeOver-clause-storable
-make_quietly-requires-in-TakeOver-clause-storable g c = quiet_storable _ (workable_of _ _ _ c.requires.workable) c.args.e c.takeover-made.result
+make_quietly-requires-in-TakeOver-clause-storable g c =
+    quiet_storable _ (workable_of _ _ _ c.requires.workable) c.args.e c.takeover-made.result
     (nothing_made _ _ c.takeover-made.result c.takeover-made.ensures.made)
 
 pub make_quietly-requires-in-TakeOver-clause-honest : goal.make_quietly-requires-in-TakeOver-clause-honest
@@ -53,7 +55,8 @@ make_quietly-requires-in-TakeOver-clause-honest g c = quiet_honest _ c.args.e c.
     (nothing_refused _ _ c.takeover-made.result c.takeover-made.ensures.cause)
 
 pub make_quietly-requires-in-Taken-clause-storable : goal.make_quietly-requires-in-Taken-clause-storable
-make_quietly-requires-in-Taken-clause-storable g c = quiet_storable _ (workable_of _ _ _ c.requires.workable) c.args.e c.begin_job-made.result
+make_quietly-requires-in-Taken-clause-storable g c =
+    quiet_storable _ (workable_of _ _ _ c.requires.workable) c.args.e c.begin_job-made.result
     c.begin_job-made.ensures.made
 
 pub make_quietly-requires-in-Taken-clause-honest : goal.make_quietly-requires-in-Taken-clause-honest
@@ -61,7 +64,8 @@ make_quietly-requires-in-Taken-clause-honest g c = quiet_honest _ c.args.e c.beg
     c.begin_job-made.ensures.cause
 
 pub make_quietly-requires-in-Ending-clause-storable : goal.make_quietly-requires-in-Ending-clause-storable
-make_quietly-requires-in-Ending-clause-storable g c = quiet_storable _ (workable_of _ _ _ c.requires.workable) c.args.e c.finish-made.result
+make_quietly-requires-in-Ending-clause-storable g c =
+    quiet_storable _ (workable_of _ _ _ c.requires.workable) c.args.e c.finish-made.result
     (nothing_made _ _ c.finish-made.result c.finish-made.ensures.made)
 
 pub make_quietly-requires-in-Ending-clause-honest : goal.make_quietly-requires-in-Ending-clause-honest

@@ -11,8 +11,8 @@ use Rattle.book.proofs.Unhalted.{held_unhalted, is_halted, kept_unhalted, left_u
 use Rattle.book.proofs.book.Book.commit.Goals as goal
 
 pub commit_of-turn-requires-clause-drawn : goal.commit_of-turn-requires-clause-drawn
-commit_of-turn-requires-clause-drawn g c = subst (λ (b : Shown g.row.K.Denot g.row.P.Denot). c.args.e < b.state.next.engine)
-    (sym c.self.view_is) c.requires.drawn
+commit_of-turn-requires-clause-drawn g c =
+    subst (λ (b : Shown g.row.K.Denot g.row.P.Denot). c.args.e < b.state.next.engine) (sym c.self.view_is) c.requires.drawn
 
 pub commit_of-turn-requires-clause-workable : goal.commit_of-turn-requires-clause-workable
 commit_of-turn-requires-clause-workable g c = over _ _ _ _ _ _ c.self.invariant.0
@@ -25,13 +25,15 @@ pub invariant_of-self : goal.invariant_of-self
 invariant_of-self g c =
     let none = sym c.is_some.ensures ∙ c.if-is_some.false in
     let t = c.commit_of-turn.ensures.committed in
-    let held = turned_held _ _ _ _ _ _ _ _ _ _ (held_unhalted _ _ _ _ _ _ none c.self.invariant.1.0) _ c.halt_by-self-inside.ensures t.kept in (
-      kept_committed _ _ c.args.e c.args.work _ _ _ _ (kept_unhalted _ _ _ _ _ _ none c.self.invariant.0) t.committed,
+    let kept = kept_unhalted _ _ _ _ _ _ none c.self.invariant.0 in
+    let held = turned_held _ _ _ _ _ _ _ _ _ _ (held_unhalted _ _ _ _ _ _ none c.self.invariant.1.0) _
+    c.halt_by-self-inside.ensures t.kept in (
+      kept_committed _ _ c.args.e c.args.work _ _ _ _ kept t.committed,
       (
         held.0,
         (
           held.1,
-          left_committed _ _ _ _ _ _ (g.met.K.Keeper.lawful _) c.args.e c.args.work _ _ _ _ _ _ c.halt_by-self-inside.ensures (kept_unhalted _ _ _ _ _ _ none c.self.invariant.0)
+          left_committed _ _ _ _ _ _ (g.met.K.Keeper.lawful _) c.args.e c.args.work _ _ _ _ _ _ c.halt_by-self-inside.ensures kept
               (left_unhalted _ _ _ _ _ _ _ _ none c.self.invariant.1.1.1) t,
         ),
       ),
@@ -48,9 +50,8 @@ pub returns-clause-committed : goal.returns-clause-committed
 returns-clause-committed g c = rw (← c.self.view_is) c.commit_of-turn.ensures.committed.committed
 
 pub returns-clause-records : goal.returns-clause-records
-returns-clause-records g c = rw (← c.self.view_is) (λ none. recorded_commit _ _ _ _ c.self.invariant.0.agrees c.args.e _ _
-    c.args.work _
-    c.commit_of-turn.ensures.committed (λ ne. fine_turn _ (λ same. ne (c.halt_by-self-inside.ensures ∙ same))))
+returns-clause-records g c = rw (← c.self.view_is) (λ none. recorded_commit _ _ _ _ c.self.invariant.0.agrees
+    c.args.e _ _ c.args.work _ c.commit_of-turn.ensures.committed (λ ne. fine_turn _ (λ same. ne (c.halt_by-self-inside.ensures ∙ same))))
 
 pub returns-clause-live : goal.returns-clause-live
 returns-clause-live g c = rw (← c.self.view_is)
@@ -58,8 +59,8 @@ returns-clause-live g c = rw (← c.self.view_is)
 
 pub returns-clause-halt : goal.returns-clause-halt
 returns-clause-halt g c = rw (← c.self.view_is) (turned_halts _ _ _
-    (unhalted c.self.inside.halt (sym c.is_some.ensures ∙ c.if-is_some.false)) _ _ _ _ _ _ c.halt_by-self-inside.ensures
-    c.commit_of-turn.ensures.committed.kept)
+    (unhalted c.self.inside.halt (sym c.is_some.ensures ∙ c.if-is_some.false)) _ _ _ _ _ _
+    c.halt_by-self-inside.ensures c.commit_of-turn.ensures.committed.kept)
 
 pub returns-then-is_some-clause-halted : goal.returns-then-is_some-clause-halted
 returns-then-is_some-clause-halted g c = rw (← c.self.view_is) (λ halted. (refl, refl))

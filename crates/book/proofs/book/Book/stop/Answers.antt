@@ -19,13 +19,16 @@ pub invariant_of-self : goal.invariant_of-self
 invariant_of-self g c =
     let none = sym c.is_some.ensures ∙ c.if-is_some.false in
     let t = c.make_stop-done.ensures in
-    let held = stepped_held _ _ _ _ _ _ _ _ _ _ (held_unhalted _ _ _ _ _ _ none c.self.invariant.1.0) _ c.halt_after-self-inside.ensures t.kept in (
-      kept_done _ _ _ _ _ _ _ _ _ _ _ _ (kept_unhalted _ _ _ _ _ _ none c.self.invariant.0) (λ cs es k. stop_step _ c.args.e cs es k) t.does,
+    let kept = kept_unhalted _ _ _ _ _ _ none c.self.invariant.0 in
+    let held = stepped_held _ _ _ _ _ _ _ _ _ _ (held_unhalted _ _ _ _ _ _ none c.self.invariant.1.0) _
+    c.halt_after-self-inside.ensures t.kept in (
+      kept_done _ _ _ _ _ _ _ _ _ _ _ _ kept (λ cs es k. stop_step _ c.args.e cs es k) t.does,
       (
         held.0,
         (
           held.1,
-          left_done _ _ _ _ _ _ (g.met.K.Keeper.lawful _) _ _ _ _ _ _ _ _ _ (λ cs es k. stop_step _ c.args.e cs es k) _ _ _ c.halt_after-self-inside.ensures (kept_unhalted _ _ _ _ _ _ none c.self.invariant.0)
+          left_done _ _ _ _ _ _ (g.met.K.Keeper.lawful _) _ _ _ _ _ _ _ _ _ (λ cs es k. stop_step _ c.args.e cs es k) _ _ _
+              c.halt_after-self-inside.ensures kept
               (left_unhalted _ _ _ _ _ _ _ _ none c.self.invariant.1.1.1) t,
         ),
       ),
@@ -37,12 +40,13 @@ returns-then-is_some-clause-records g c = rw (← c.self.view_is)
 
 pub returns-clause-records : goal.returns-clause-records
 returns-clause-records g c = rw (← c.self.view_is) (λ none. recorded_done _ _ _ _ c.self.invariant.0.agrees _ _ _ _ _ _
-    (λ cs es k. stop_step _ c.args.e cs es k) c.make_stop-done.ensures (λ ne. fine_step _ (λ same. ne (c.halt_after-self-inside.ensures ∙ same))) refl)
+    (λ cs es k. stop_step _ c.args.e cs es k) c.make_stop-done.ensures
+    (λ ne. fine_step _ (λ same. ne (c.halt_after-self-inside.ensures ∙ same))) refl)
 
 pub returns-clause-halt : goal.returns-clause-halt
 returns-clause-halt g c = rw (← c.self.view_is) (stepped_halts _ _ _
-    (unhalted c.self.inside.halt (sym c.is_some.ensures ∙ c.if-is_some.false)) _ _ _ _ _ _ c.halt_after-self-inside.ensures
-    c.make_stop-done.ensures.kept)
+    (unhalted c.self.inside.halt (sym c.is_some.ensures ∙ c.if-is_some.false)) _ _ _ _ _ _
+    c.halt_after-self-inside.ensures c.make_stop-done.ensures.kept)
 
 pub returns-then-is_some-clause-halted : goal.returns-then-is_some-clause-halted
 returns-then-is_some-clause-halted g c = rw (← c.self.view_is) (λ halted. (refl, refl))
