@@ -92,7 +92,7 @@ breaks_at recalls count s t h i c d _ (of_book.foreign unfit same) = of_book.for
 breaks_at recalls count s t h i c d _ (of_book.disagree all token finding lists found) =
     of_book.disagree all token finding lists found
 breaks_at recalls count s t h i c d _ (of_book.cloud_fault none) = of_book.cloud_fault none
-breaks_at recalls count s t h i c d _ (of_book.worn all lists over) = of_book.worn all lists over
+breaks_at recalls count s t h i c d _ (of_book.worn all lists nothing over) = of_book.worn all lists nothing over
 breaks_at recalls count s t h i c d _ (of_book.disk_fault may) = of_book.disk_fault may
 breaks_at recalls count s t h i c d _ (of_book.memory may) = of_book.memory may
 

@@ -1,5 +1,5 @@
 -- An engine that was enlisted, and one that may not be.
-use Rattle.std.proofs.Common.{ap, refl}
+use Rattle.std.proofs.Common.{Ok, ap, refl}
 use Rattle.driver.specs.Quiet.{page}
 use Rattle.converge_call.proofs.Carrying.{carries_grown, carries_step}
 use Rattle.converge_call.proofs.Halting.{halts_else, halts_refused}
@@ -21,8 +21,8 @@ returns-in-Ok-clause-carries g c =
     c.promises.ensures.held.goes_on c.enlist.ensures.same grows c.enlist.ensures.records
 
 pub returns-in-Ok-clause-halt : goal.returns-in-Ok-clause-halt
-returns-in-Ok-clause-halt g c = halts_else g.K.Keeper.faults _ _ c.args.book.now c.enlist.new.self _ c.in-Ok.ensures.halt
-    (λ e. cc) refl
+returns-in-Ok-clause-halt g c = halts_else g.K.Keeper.faults _ _ c.args.book.now c.enlist.new.self (Ok tt)
+    c.in-Ok.ensures.halt (λ e. cc) refl
 
 pub returns-in-Err-clause-done : goal.returns-in-Err-clause-done
 returns-in-Err-clause-done g c =

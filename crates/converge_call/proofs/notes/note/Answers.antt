@@ -1,5 +1,6 @@
 -- One entry more, or nothing.
-use Rattle.std.proofs.Common.{◌∷◌, [], ap, refl}
+use Rattle.std.proofs.Common.{Err, Ok, ◌∷◌, [], ap, refl}
+use Rattle.converge_call.specs.declared.exit.Exit.TheVariants as exit
 use Rattle.converge_call.specs.Notes.{by_main}
 use Rattle.converge_call.proofs.Carrying.{carries_noted, carries_still}
 use Rattle.converge_call.proofs.Halting.{halts_not}
@@ -17,7 +18,7 @@ returns-in-Ok-clause-carries g c = carries_noted g.K.Keeper.shown g.P.Provider.c
     (by_main c.args.what ∷ []) c.in-Ok.ensures.noted
 
 pub returns-in-Ok-clause-halt : goal.returns-in-Ok-clause-halt
-returns-in-Ok-clause-halt g c = halts_not _ _ _ (ap (λ b. b.halt) c.in-Ok.ensures.noted) refl
+returns-in-Ok-clause-halt g c = halts_not _ _ (Ok tt) (ap (λ b. b.halt) c.in-Ok.ensures.noted) refl
 
 pub returns-in-Err-clause-done : goal.returns-in-Err-clause-done
 returns-in-Err-clause-done g c = note_not_made c.args.book.now c.note.new.self c.args.what c.in-Err.ensures.err
@@ -30,4 +31,5 @@ returns-in-Err-clause-carries g c = carries_still g.K.Keeper.shown g.P.Provider.
     c.in-Err.ensures.err
 
 pub returns-in-Err-clause-halt : goal.returns-in-Err-clause-halt
-returns-in-Err-clause-halt g c = halts_not _ _ _ (ap (λ b. b.halt) c.in-Err.ensures.err) refl
+returns-in-Err-clause-halt g c = halts_not _ _ (Err exit.Memory)
+    (ap (λ b. b.halt) c.in-Err.ensures.err) refl
