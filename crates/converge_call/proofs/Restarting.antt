@@ -18,9 +18,9 @@ use Rattle.book.specs.Restarts.{IsHaltedBy, halt_of, restart_entry}
 use Rattle.book.specs.Restarts as of_book
 use Rattle.book.specs.declared.restarting.Unrestarted.{Unrestarted}
 use Rattle.book.specs.declared.restarting.Unrestarted.TheVariants as why
-use Rattle.driver.specs.Kept.{HasImage, HasRun, IsOpenedFrom, Shown, opening_of}
+use Rattle.driver.specs.Kept.{HasImage, HasRun, Shown, opening_of}
 use Rattle.driver.specs.Quiet.{page}
-use Rattle.driver.specs.Scenes.{Scene, scene, scene_of}
+use Rattle.driver.specs.Scenes.{scene, scene_of}
 use Rattle.converge_call.specs.declared.exit.Exit.{Exit}
 use Rattle.converge_call.specs.Exits.{exit_of}
 use Rattle.converge_call.specs.Halting.{halt_refused}

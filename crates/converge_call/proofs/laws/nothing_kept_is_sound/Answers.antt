@@ -1,8 +1,7 @@
 -- The only image is the empty state, over which the comparison found nothing.
-use Rattle.std.proofs.Common.{◌≡◌, ◌∙◌, List, [], sym, ap, subst}
+use Rattle.std.proofs.Common.{◌∙◌, sym, ap, subst}
 use Rattle.core_state.specs.Changes.{applied}
 use Rattle.core_state.specs.State.{StateData}
-use Rattle.provider.specs.declared.alive.Alive.{Alive}
 use Rattle.step_relation.specs.Compared.{FindsNothing}
 use Rattle.step_relation.specs.Laws.{SoundAt, opening_at}
 use Rattle.step_relation.specs.Steps.{restart_changes}
