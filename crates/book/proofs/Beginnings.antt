@@ -1,7 +1,7 @@
 -- What a job at Taken begins at, and that its begin is a turn that asks nobody.
-use Rattle.std.proofs.Common.{subst, ℕ, ◌≡◌, ◌≢◌}
+use Rattle.std.proofs.Common.{refl, subst, sym, ℕ, ◌≡◌, ◌≢◌}
 use Rattle.std.proofs.lemmas.Result.{IfErr-weaker, IfOk-weaker}
-use Rattle.std.specs.Prelude.{IfErr, IfOk, List, Option, Result}
+use Rattle.std.specs.Prelude.{IfErr, IfOk, IsSome, List, Option, Result}
 use Rattle.heat_plan.specs.declared.refusal.Refusal.{Refusal}
 use Rattle.traversal_graph.specs.declared.shape.Node.TheVariants.{U}
 use Rattle.traversal_graph.specs.declared.shape.Node.{Node}
@@ -13,8 +13,7 @@ use Rattle.core_state.specs.declared.graph.Graph.{Graph}
 use Rattle.core_state.specs.declared.made.Made.{Made}
 use Rattle.core_state.specs.declared.stack.Stack.{Stack}
 use Rattle.step_relation.specs.Nexts.{Works}
-use Rattle.step_relation.specs.Sound.{Standing}
-use Rattle.next_laws.proofs.Finds.{points_stand}
+use Rattle.workable_laws.specs.Workable.{AreWhole}
 use Rattle.step_parts.specs.Turns.{IsTurn, IsTurnRefusal}
 use Rattle.step_parts.specs.Turns as step
 use Rattle.step_reads.specs.Work.{IsFreshOf}
@@ -43,11 +42,13 @@ quiet_prepared Memory a is = cc
 pub not_plain : (w : BeginWork) (p : Prepared) → IsBeginPrepared w p → p ≢ Plain
 not_plain w p given is = subst (λ (x : Prepared). IsBeginPrepared w x) is given
 
--- in a sound state the node of a job has its point
-pub has_point : (s : StateData) (e : ℕ) → Standing s → HasPoint s e
-has_point s e x j stack graph node its names = points_stand s j.letter stack graph node x names
+-- where graphs are whole the node of a job has its point
+pub has_point : (s : StateData) (e : ℕ) → AreWhole s → HasPoint s e
+has_point s e x j stack graph node its names =
+    (x j.letter.stack graph (subst (λ (st : Option Stack). IsSome st) (sym names.in_table) refl) names.its_graph).points
+    j.letter.node node names.its_node
 
-pub at_update : (s : StateData) (x : Standing s) (e : ℕ) (j : Job) (works : Works s e j Taken) (stack : Stack)
+pub at_update : (s : StateData) (x : AreWhole s) (e : ℕ) (j : Job) (works : Works s e j Taken) (stack : Stack)
     (graph : Graph) (node : Node) (row : Option Row) (name : List ℕ) (chosen : ℕ) → node ≡ U name chosen
     → IsFreshOf s j.letter j.row stack graph node row → AtUpdate s e j
 at_update s x e j works stack graph node row name chosen is k =

@@ -1,6 +1,6 @@
 -- A call of the cloud and the step of its answer, as a turn.
 use Rattle.std.proofs.Common.{List, [], ap, arith, refl, subst, sym, ℕ, ◌++◌, ◌∙◌, ◌∷◌, ◌≡◌}
-use Rattle.std.specs.Prelude.{length, ◌≢◌, ◌≤◌}
+use Rattle.std.specs.Prelude.{length, take, ◌≢◌, ◌≤◌}
 use Rattle.heat_value.specs.Data.{Members}
 use Rattle.heat_plan.specs.declared.calls.Answered.{Answered}
 use Rattle.heat_plan.specs.declared.calls.Request.{Request}
@@ -13,40 +13,48 @@ use Rattle.row_table.specs.declared.row.Row.{Row}
 use Rattle.mail_table.specs.declared.mail.Job.{Job}
 use Rattle.mail_table.specs.declared.mail.Stage.{Stage}
 use Rattle.mail_table.specs.declared.mail.Stage.TheVariants.{Asking, Polling}
-use Rattle.core_state.specs.Changes.{applied}
 use Rattle.core_state.specs.State.{StateData}
+use Rattle.core_state.specs.declared.change.Change.{Change}
 use Rattle.core_state.specs.declared.entry.Entry.{Entry}
 use Rattle.core_state.specs.declared.made.Made.{Made}
 use Rattle.step_relation.specs.Asks.{Asks, Calls, Polls}
 use Rattle.step_relation.specs.Asks as call
-use Rattle.step_relation.specs.Given.{Answer, answers}
+use Rattle.step_relation.specs.Given.{Answer, Given, answers}
 use Rattle.step_relation.specs.Nexts.{Works}
 use Rattle.step_relation.specs.Rows.{token_of}
-use Rattle.step_relation.specs.Turns.{IsWorn}
+use Rattle.step_relation.specs.Turns.{IsWorn, Turn, WearsOut}
 use Rattle.step_relation.specs.MailFits as under
-use Rattle.step_relation.specs.Sound.{Standing}
+use Rattle.step_relation.specs.Steps as step
+use Rattle.workable_laws.proofs.Applied.{steps_apply}
+use Rattle.workable_laws.proofs.Keepable.{steps_are_keepable}
+use Rattle.workable_laws.specs.Workable.{IsCalledAct, JobsStand}
+use Rattle.workable_laws.specs.Workable as row_at_work
 use Rattle.history_laws.proofs.tables.Rows.{same_some}
 use Rattle.next_laws.proofs.Parts.{AtJob, at_job, kind_one}
-use Rattle.next_laws.proofs.Finds.{calls_stand}
-use Rattle.next_laws.specs.Found.{CallStands, IsAskedAt}
+use Rattle.next_laws.specs.Found.{IsAskedAt}
 use Rattle.next_laws.specs.Found as asked_at
 use Rattle.takeover_steps.specs.Answers.{AnswersPoll, IsAsking}
 use Rattle.takeover_steps.specs.Answers as asking
 use Rattle.heat_plan.specs.declared.calls.Request.TheVariants as request
 use Rattle.takeover_steps.specs.Lost.{IsOfUnknownSize}
 use Rattle.takeover_steps.specs.Lost as lost
-use Rattle.book.specs.Learning.{HasLearned, stored}
+use Rattle.book.specs.Learning.{HasLearned, Learns, stored, tried_in}
 use Rattle.book.specs.Learning.{told as told_alone}
 use Rattle.book.specs.Outcomes.{IsAnswered, IsCalled}
 use Rattle.book.specs.Quiet.{page}
 use Rattle.book.specs.Scenes.{Told, scene}
-use Rattle.book.specs.SoundOver.{IsSoundOver}
-use Rattle.book.specs.Turned.{Requests, Turned}
+use Rattle.book.specs.WorkableOver.{IsWorkable, IsWorkableOver}
+use Rattle.record_keeper.specs.Shown.{ShownKeeper}
+use Rattle.book.specs.Keeping.{IsStorable, KeptBy}
+use Rattle.book.specs.Makings.{Answers, AnswersAs}
+use Rattle.book.specs.Makings as made_as
+use Rattle.book.specs.Behind.{Turns}
+use Rattle.book.specs.Turned.{Requests}
 use Rattle.book.specs.Turned as turned
-use Rattle.book.specs.declared.turning.Turn.TheVariants.{Stepped}
+use Rattle.book.specs.declared.turning.Turn.TheVariants.{DiskFault}
 use Rattle.book.specs.declared.turning.Turn.{Turn as Turn_answer}
 use Rattle.book.proofs.Conditions.{alive_at_poll, alive_at_update, going_at_gone}
-use Rattle.book.proofs.Telling.{turn_calls}
+use Rattle.book.proofs.Telling.{FirstCall, turn_calls}
 
 module _ (s : StateData) (e : ℕ) where
   -- a job that asks doesn't poll
@@ -99,35 +107,59 @@ module _ (s : StateData) (e : ℕ) where
       asks = asked_at.polls request.Gone (call.looks (ap (λ (r : Row). r.act) (called Polling k) ∙ goes));
     }
 
-    -- the answer's step was made, and the call is told
-    pub answered : (t : StateData) (h i : List Entry) (c d : Cloud) (token : Token) (given : Answered) (made : Made)
-        → token ≡ token_of row
-        → IsAnswered s e given made → t ≡ applied made.changes s → i ≡ h ++ made.entries
-        → ((k : Requests s e) → Told token k.asked given c d) → Turned e (scene s h c) (scene t i d) Stepped
-    answered t h i c d token given made its turn is_t is_i told =
-        let k = turn_calls s e given made.changes made.entries turn.turn in
-        let q : Requests s e = record { stage = k.stage; calls = k.calls; asked = k.asked; asks = k.asks } in
-        let same : token ≡ token_of k.calls.row = its ∙ ap token_of (sym (called k.stage k.calls)) in
-        turned.called q given made.changes made.entries k.rest refl turn.turn turn.lasts k.entries
-        (record { state = is_t; entries = is_i })
-        (subst (λ (x : Token). Told x k.asked given c d) same (told q))
+    -- the answer's step was made, and the call is told; or the keeper failed, and the call is told alone
+    pub answered : (t : StateData) (h i : List Entry) (c d : Cloud) (before after : ShownKeeper) (faults now : ℕ)
+        (token : Token) (given : Answered) (made : Made) (result : Turn_answer) → token ≡ token_of row
+        → IsAnswered s e given made → Answers made (page s h) (page t i) before after faults now result
+        → ((k : Requests s e) → Told token k.asked given c d)
+        → Turns e (scene s h c) (scene t i d) before after faults now result
+    answered t h i c d before after faults now token given made result its turn it told =
+        by it.does it.kept where
+          k : FirstCall s e given made.entries
+          k = turn_calls s e given made.changes made.entries turn.turn
+
+          q : Requests s e
+          q = record { stage = k.stage; calls = k.calls; asked = k.asked; asks = k.asks }
+
+          same : token ≡ token_of k.calls.row
+          same = its ∙ ap token_of (sym (called k.stage k.calls))
+
+          its_told : Told (token_of k.calls.row) k.asked given c d
+          its_told = subst (λ (x : Token). Told x k.asked given c d) same (told q)
+
+          by : AnswersAs made (page s h) (page t i) result
+              → KeptBy before after faults now s t made.changes (result ≡ DiskFault)
+              → Turns e (scene s h c) (scene t i d) before after faults now result
+          by (made_as.stepped writes is) kept = record {
+            turned = turned.called q given made.changes made.entries k.rest is turn.turn turn.lasts k.entries
+                (record { state = writes.state; entries = writes.entries }) its_told;
+            kept = kept;
+          }
+          by (made_as.alone some writes is) kept = record {
+            turned = turned.alone q given made.changes made.entries k.rest (turned.failed is) some turn.turn turn.lasts
+                k.entries
+                (record {
+                  state = writes.state;
+                  entries = writes.entries ∙ ap (λ (es : List Entry). h ++ take 1 es) k.entries;
+                })
+                its_told;
+            kept = kept;
+          }
 
   -- a job that asks has a row at CREATE, UPDATE or DELETE
-  pub asking_of : Standing s → (k : Calls s e Asking) → IsAsking k.row.act
-  asking_of x k = by it.asked it.is_asked where
-    it : CallStands s k.job Asking
-    it = calls_stand s e k.job Asking x under.asks k.works
+  pub asking_of : JobsStand s → (k : Calls s e Asking) → IsAsking k.row.act
+  asking_of x k = by it.row.act it.act (ap (λ (r : Row). r.act) (same_some it.row k.row it.found k.found)) where
+    it : row_at_work.IsCalled s k.job
+    it = x.called e k.job k.works.live k.works.its
+        (subst (λ (st : Stage). under.IsUnderWay st) (sym k.works.stage_is) under.asks)
 
-    same : it.row ≡ k.row
-    same = same_some it.row k.row it.found k.found
-
-    by : (asked : Request) → IsAskedAt it.row Asking asked → IsAsking k.row.act
-    by _ (asked_at.asks _ (call.creates act)) = asking.creates (ap (λ (r : Row). r.act) (sym same) ∙ act)
-    by _ (asked_at.asks _ (call.updates act)) = asking.updates (ap (λ (r : Row). r.act) (sym same) ∙ act)
-    by _ (asked_at.asks _ (call.deletes act)) = asking.deletes (ap (λ (r : Row). r.act) (sym same) ∙ act)
+    by : (act : Act) → IsCalledAct act → act ≡ k.row.act → IsAsking k.row.act
+    by _ row_at_work.creates is = asking.creates (sym is)
+    by _ row_at_work.updates is = asking.updates (sym is)
+    by _ row_at_work.deletes is = asking.deletes (sym is)
 
   -- and something is asked for it
-  pub request_of : Standing s → (k : Calls s e Asking) → (asked : Request) × Asks k.row asked
+  pub request_of : JobsStand s → (k : Calls s e Asking) → (asked : Request) × Asks k.row asked
   request_of x k = by (asking_of x k) where
     by : IsAsking k.row.act → (asked : Request) × Asks k.row asked
     by (asking.creates act) = (_, call.creates act)
@@ -135,30 +167,30 @@ module _ (s : StateData) (e : ℕ) where
     by (asking.deletes act) = (_, call.deletes act)
 
 -- the provider's conditions, of the row that is called
-module _ (s : StateData) (h : List Entry) (c : Cloud) (x : IsSoundOver s h c) (e : ℕ) (row : Row)
+module _ (s : StateData) (h : List Entry) (c : Cloud) (x : IsWorkableOver s h c) (e : ℕ) (row : Row)
     (called : IsCalled s e row)
     (token : Token) (its : token ≡ token_of row) where
   pub alive_to_update : (k : Calls s e Asking) → row.act ≡ Update → IsAlive c token
   alive_to_update k act =
       let own : k.row.act ≡ Update = ap (λ (r : Row). r.act) (called Asking k) ∙ act in
-      let is = alive_at_update x.opening h s x.sound c x.shows e
+      let is = alive_at_update x.opening h s x.workable c x.shows e
       (record { stage = Asking; calls = k; asked = _; asks = asked_at.asks _ (call.updates own) }) _ refl in
       subst (IsAlive c) (ap token_of (called Asking k) ∙ sym its) is
 
   pub alive_to_poll : (k : Calls s e Polling) → row.act ≢ Delete → IsAlive c token
   alive_to_poll k stays = subst (IsAlive c) (ap token_of (called Polling k) ∙ sym its)
-      (alive_at_poll x.opening h s x.sound c x.shows e (poll_of s e row called k stays) refl)
+      (alive_at_poll x.opening h s x.workable c x.shows e (poll_of s e row called k stays) refl)
 
   pub going_to_look : (k : Calls s e Polling) → row.act ≡ Delete → MayGo c token
   going_to_look k goes = subst (MayGo c) (ap token_of (called Polling k) ∙ sym its)
-      (going_at_gone x.opening h s x.sound c x.shows e (look_of s e row called k goes) refl)
+      (going_at_gone x.opening h s x.workable c x.shows e (look_of s e row called k goes) refl)
 
 -- a job that works at this stage
-pub calling : (s : StateData) → Standing s → (e : ℕ) (j : Job) (stage : Stage) → under.IsUnderWay stage
+pub calling : (s : StateData) → JobsStand s → (e : ℕ) (j : Job) (stage : Stage) → under.IsUnderWay stage
     → Works s e j j.stage → j.stage ≡ stage → Calls s e stage
 calling s x e j stage way works is =
     let own : Works s e j stage = record { live = works.live; its = works.its; stage_is = is } in
-    let it = calls_stand s e j stage x way own in
+    let it = x.called e j works.live works.its (subst (λ (st : Stage). under.IsUnderWay st) (sym is) way) in
     record { job = j; row = it.row; works = own; found = it.found }
 
 -- only a create is refused by a quota
@@ -185,22 +217,57 @@ unworn s e given made t worn = t.lasts (record {
   worn = worn;
 })
 
-module _ (s t : StateData) (h i : List Entry) (c d : Cloud) (e : ℕ) (row : Row) (called : IsCalled s e row) where
+module _ (s t : StateData) (h i : List Entry) (c d : Cloud) (before after : ShownKeeper) (faults now : ℕ) (e : ℕ)
+    (row : Row) (called : IsCalled s e row) where
   -- what was learned from a poll, as a turn
   pub learned : (token : Token) (given : Answered) (result : Turn_answer) → token ≡ token_of row → Calls s e Polling
-      → row.act ≢ Delete → IsOfUnknownSize given
-      → HasLearned e given (page s h) (page t i) result → Told token request.Poll given c d
-      → Turned e (scene s h c) (scene t i d) result
-  learned token given result its q stays size (stored k is) told =
-      subst (λ (r : Turn_answer). Turned e (scene s h c) (scene t i d) r) (sym is)
-      (answered s e row called t h i c d token given k.made its k.turn k.writes.state k.writes.entries
-      (λ r. subst (λ (a : Request). Told token a given c d) (sym (polls_now s e row called q stays r)) told))
-  learned token given result its q stays size (told_alone k alone writes is) told =
-      turned.unstored (poll_of s e row called k stays) given is size alone
-      (record { state = writes.state; entries = writes.entries })
-      (subst (λ (x : Token). Told x request.Poll given c d) (its ∙ ap token_of (sym (called Polling k))) told)
+      → row.act ≢ Delete → Learns e given (page s h) (page t i) before after faults now result
+      → Told token request.Poll given c d
+      → Turns e (scene s h c) (scene t i d) before after faults now result
+  learned token given result its q stays it told = by it.learned it.kept where
+    by : (l : HasLearned e given (page s h) (page t i) result)
+        → KeptBy before after faults now s t (tried_in l) (result ≡ DiskFault)
+        → Turns e (scene s h c) (scene t i d) before after faults now result
+    by (stored k is) kept =
+        let f = turn_calls s e given k.made.changes k.made.entries k.turn.turn in
+        let r : Requests s e = record { stage = f.stage; calls = f.calls; asked = f.asked; asks = f.asks } in
+        let same : token ≡ token_of f.calls.row = its ∙ ap token_of (sym (called f.stage f.calls)) in record {
+          turned = turned.called r given k.made.changes k.made.entries f.rest is k.turn.turn k.turn.lasts f.entries
+              (record { state = k.writes.state; entries = k.writes.entries })
+              (subst (λ (x : Token). Told x f.asked given c d) same
+              (subst (λ (a : Request). Told token a given c d) (sym (polls_now s e row called q stays r)) told));
+          kept = kept;
+        }
+    by (told_alone k cs es rest why some it_ lasts first writes) kept = record {
+      turned = turned.alone (poll_of s e row called k stays) given cs es rest why some it_ lasts first
+          (record { state = writes.state; entries = writes.entries })
+          (subst (λ (x : Token). Told x request.Poll given c d) (its ∙ ap token_of (sym (called Polling k))) told);
+      kept = kept;
+    }
+
+-- the changes of a turn may be kept and made
+pub turn_storable : (s : StateData) → IsWorkable s → (e : ℕ) (given : Given) (cs : List Change) (es : List Entry)
+    → Turn s e given cs es → ¬ WearsOut s e given → IsStorable s cs
+turn_storable s x e given cs es t lasts =
+    let it = step.turn e given t lasts in record {
+      applies = steps_apply x.opening x.history s cs es x.workable it;
+      keepable = steps_are_keepable x.opening x.history s cs es x.workable it;
+    }
+
+pub answer_storable : (s : StateData) → IsWorkable s → (e : ℕ) (given : Answered) (made : Made)
+    → IsAnswered s e given made → IsStorable s made.changes
+answer_storable s x e given made t = turn_storable s x e (Answer given) made.changes made.entries t.turn t.lasts
+
+-- what is workable over a cloud is
+pub workable_of : (s : StateData) (h : List Entry) (c : Cloud) → IsWorkableOver s h c → IsWorkable s
+workable_of s h c x = record { opening = x.opening; history = h; workable = x.workable }
 
 -- a turn that was answered tells something
+pub tells_some : (s : StateData) (e : ℕ) (given : Answered) (made : Made) → IsAnswered s e given made
+    → made.entries ≢ []
+tells_some s e given made t none =
+    let is = (turn_calls s e given made.changes made.entries t.turn).entries in let both = sym none ∙ is in cc
+
 pub tells_one : (s : StateData) (e : ℕ) (given : Answered) (made : Made) → IsAnswered s e given made
     → 1 ≤ length made.entries
 tells_one s e given made t = by made.entries (turn_calls s e given made.changes made.entries t.turn).entries where

@@ -1,4 +1,4 @@
--- What the provider asks of its callers holds in a sound state over a cloud that its history allows.
+-- What the provider asks of its callers holds in a workable state over a cloud that its history allows.
 use Rattle.std.proofs.Common.{refl, subst, sym}
 use Rattle.std.proofs.lemmas.List.Elements.{All-contains}
 use Rattle.std.specs.Prelude.{IsSome, List, None, Option, Some, option_map, true, ℕ, ◌≡◌}
@@ -16,8 +16,8 @@ use Rattle.step_relation.specs.Could.{Allows, could_of}
 use Rattle.step_relation.specs.Opening.{Opening, first_of}
 use Rattle.step_relation.specs.Agrees.{IsGoing, absent, leaves}
 use Rattle.step_relation.specs.Headline.{MayBeAsked, create, delete, gone, poll, update}
-use Rattle.step_relation.specs.Sound.{Sound}
-use Rattle.next_laws.proofs.Finds.{calls_may_be_made}
+use Rattle.workable_laws.proofs.Openings.{may_ask}
+use Rattle.workable_laws.specs.Workable.{Workable}
 use Rattle.heat_plan.specs.declared.calls.Request.TheVariants as request
 use Rattle.book.specs.Turned.{Requests}
 
@@ -38,10 +38,10 @@ goes c t h alive = by (entry_of c t) alive (state_of c t) refl h where
   by (Some a) i _ is (leaves it left) = let same : living_of (c.leaving t) a ≡ it = cc in subst
       (λ (l : _). l.leaving ≡ true) (sym same) left
 
-module _ (o : Opening) (h : List Entry) (s : StateData) (x : Sound o h s) (c : Cloud) (shows : Allows (first_of o) h c)
+module _ (o : Opening) (h : List Entry) (s : StateData) (x : Workable o h s) (c : Cloud) (shows : Allows (first_of o) h c)
     (e : ℕ) (k : Requests s e) where
   may : MayBeAsked (could_of o h (token_of k.calls.row)) k.asked
-  may = calls_may_be_made o h s e k.calls.job k.calls.row k.stage k.asked x k.calls.works k.calls.found k.asks
+  may = may_ask o h s e k.calls.job k.calls.row k.stage k.asked x k.calls.works k.calls.found k.asks
 
   -- a resource that is updated or polled is alive
   pub alive_at_update : (props : Members) → k.asked ≡ request.Update props → IsAlive c (token_of k.calls.row)

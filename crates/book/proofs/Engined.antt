@@ -228,8 +228,10 @@ turned_live e old new result (turned.quiet given cs es is quiet t lasts its make
 turned_live e old new result (turned.called k given cs es rest is t lasts entries makes told) =
     ap (λ (x : StateData). x.live) makes.state ∙ applied-live cs old.state
     (turn_still old.state e (Answer given) cs es t)
-turned_live e old new result (turned.unstored k given is size alone makes told) = ap
+turned_live e old new result (turned.alone k given cs es rest why some t lasts entries makes told) = ap
     (λ (x : StateData). x.live) makes.state
+turned_live e old new result (turned.unkept given cs es is quiet some t lasts its same) = ap
+    (λ (x : StateData). x.live) same.state
 turned_live e old new result (turned.unmade is same) = ap (λ (x : StateData). x.live) same.state
 turned_live e old new result (turned.idle is none same) = ap (λ (x : StateData). x.live) same.state
 turned_live e old new result (turned.lost is none same) = ap (λ (x : StateData). x.live) same.state

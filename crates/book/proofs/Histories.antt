@@ -9,11 +9,10 @@ use Rattle.provider.specs.Cloud.{Cloud, state_of}
 use Rattle.provider.specs.Moves.{Answers}
 use Rattle.core_state.specs.declared.entry.Actor.{Actor}
 use Rattle.core_state.specs.declared.entry.Entry.{Entry}
-use Rattle.core_state.specs.declared.entry.What.{What}
 use Rattle.step_relation.specs.Writes.{entry_of}
 use Rattle.step_relation.specs.Could.{Allows, could_of}
 use Rattle.step_relation.specs.Opening.{Opening, first_of}
-use Rattle.history_laws.proofs.tells.Silence.{AreUncalling, IsUncalling, could-silent}
+use Rattle.history_laws.proofs.tells.Silence.{AreUncalling, could-silent}
 use Rattle.next_laws.proofs.WorkBelow.{could_else, could_here}
 use Rattle.next_laws.proofs.WorkBelow.{token_or_not}
 use Rattle.book.specs.Kept.{call_of, calls_of}
@@ -22,25 +21,6 @@ use Rattle.core_state.specs.declared.entry.What.TheVariants as what
 pub calls_of-append : (h g : List Entry) → calls_of (h ++ g) ≡ calls_of h ++ calls_of g
 calls_of-append [] g = refl
 calls_of-append (e ∷ h) g = rw (calls_of-append h g) (sym (append_assoc (call_of e.what) (calls_of h) (calls_of g)))
-
-call_of-silent : (w : What) → IsUncalling w → call_of w ≡ []
-call_of-silent (what.Call token asked given) silent = absurd silent
-call_of-silent (what.Command stack trav act plan rollback) silent = refl
-call_of-silent (what.Release token) silent = refl
-call_of-silent (what.Mark stack trav act cause) silent = refl
-call_of-silent (what.Rows writes) silent = refl
-call_of-silent (what.Mail writes) silent = refl
-call_of-silent (what.Engine change) silent = refl
-call_of-silent (what.Show it stack) silent = refl
-call_of-silent (what.Note line code path) silent = refl
-call_of-silent (what.Ran idle turns) silent = refl
-call_of-silent (what.Turned engine lost) silent = refl
-call_of-silent (what.Preview stack forecast) silent = refl
-call_of-silent what.Closed silent = refl
-
-pub calls_of-silent : (es : List Entry) → AreUncalling es → calls_of es ≡ []
-calls_of-silent [] h = refl
-calls_of-silent (e ∷ es) h = rw (call_of-silent e.what h.0) (calls_of-silent es h.1)
 
 module _ (o : Opening) (h : List Entry) (c d : Cloud) (allows : Allows (first_of o) h c) where
   -- entries without a call, and no token's state has changed

@@ -6,7 +6,7 @@ use Rattle.heat_plan.specs.declared.calls.Answered.TheVariants as answer
 use Rattle.heat_plan.specs.declared.calls.Request.{Request}
 use Rattle.heat_plan.specs.declared.calls.Request.TheVariants.{Create, Delete, Gone, Poll, Update}
 use Rattle.heat_plan.specs.declared.token.Token.{Token}
-use Rattle.provider.specs.Calls.{HasFailed, IsGone, Lingers, Waits}
+use Rattle.provider.specs.Calls.{HasFailed, IsGone}
 use Rattle.provider.specs.Changes.{KeepsOthers, Lowers, Stays, Takes}
 use Rattle.provider.specs.Cloud.{Cloud}
 use Rattle.book.specs.Scenes.{Polls}

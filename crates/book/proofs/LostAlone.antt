@@ -1,4 +1,4 @@
--- A poll's answer of unknown size that is told alone is a step.
+-- The turn of a poll's answer of unknown size, whose call may be told alone.
 use Rattle.std.proofs.Common.{List, [], ap, refl, subst, sym, ℕ, ◌++◌, ◌∙◌, ◌∷◌, ◌≡◌}
 use Rattle.std.specs.Prelude.{Option, Some, ◌≢◌}
 use Rattle.heat_plan.specs.declared.calls.Answered.{Answered}
@@ -18,8 +18,7 @@ use Rattle.core_state.specs.declared.stack.Stack.{Stack}
 use Rattle.step_relation.specs.Asks.{Calls}
 use Rattle.step_relation.specs.Asks as call
 use Rattle.step_relation.specs.Given.{Answer}
-use Rattle.step_relation.specs.Steps.{Step, unstored}
-use Rattle.step_relation.specs.Turns.{IsWorn, Turn}
+use Rattle.step_relation.specs.Turns.{IsWorn, Turn, WearsOut}
 use Rattle.step_relation.specs.Writes.{call_entry, draw_letters}
 use Rattle.history_laws.proofs.tables.Rows.{same_some}
 use Rattle.next_laws.proofs.Parts.{Kind, Part, begins, goes, placed, readies, refuses, waits}
@@ -33,7 +32,7 @@ use Rattle.heat_plan.specs.declared.calls.Request.TheVariants as request
 use Rattle.next_laws.proofs.Turning.{turn_exists}
 use Rattle.book.specs.Outcomes.{IsCalled}
 use Rattle.book.proofs.Calling.{polls_now}
-use Rattle.book.proofs.Telling.{turn_calls}
+use Rattle.book.proofs.Telling.{FirstCall, turn_calls}
 
 -- an engine calls for one row
 called_once : (s : StateData) (e : ℕ) (a b : Stage) (q : Calls s e a) (k : Calls s e b) → q.row ≡ k.row
@@ -90,33 +89,54 @@ module _ (s : StateData) (e : ℕ) where
   may_answer _ (lost.ready facts) = suits.poll_ready facts
   may_answer _ (lost.broken code) = suits.poll_broken code
 
-  -- where the step of a failure was made and wears nothing out, such an answer that is told alone is a step
-  pub lost_alone : (k : Calls s e Polling) (given : Answered) → k.row.act ≢ Delete → IsOfUnknownSize given
+  -- the turn of such an answer, which changes something, and tells of the poll first
+  pub record LostTurn (k : Calls s e Polling) (given : Answered) : Type 0 where
+    pub changes : List Change
+    pub all : List Entry
+    pub rest : List Entry
+    pub some : changes ≢ []
+    pub turn : Turn s e (Answer given) changes all
+    pub lasts : ¬ WearsOut s e (Answer given)
+    pub entries : all ≡ call_entry e k.row request.Poll given ∷ rest
+
+  -- the first entry of a poll's turn
+  pub poll_first : (k : Calls s e Polling) (given : Answered) → k.row.act ≢ Delete → (cs : List Change)
+      (es : List Entry) → Turn s e (Answer given) cs es
+      → (rest : List Entry) × (es ≡ call_entry e k.row request.Poll given ∷ rest)
+  poll_first k given stays cs es t = (
+    first.rest,
+    first.entries ∙ ap (λ (c : Entry). c ∷ first.rest)
+        (same_call first.stage first.calls first.asked (polls_now s e k.row one_row k stays (record {
+          stage = first.stage;
+          calls = first.calls;
+          asked = first.asked;
+          asks = first.asks;
+        }))),
+  ) where
+    first : FirstCall s e given es
+    first = turn_calls s e given cs es t
+
+    one_row : IsCalled s e k.row
+    one_row stage q = called_once s e stage Polling q k
+
+    same_call : (stage : Stage) (q : Calls s e stage) (asked : Request) → asked ≡ request.Poll
+        → call_entry e q.row asked given ≡ call_entry e k.row request.Poll given
+    same_call stage q asked is = ap (λ (r : Row). call_entry e r asked given) (called_once s e stage Polling q k)
+        ∙ ap (λ (a : Request). call_entry e k.row a given) is
+
+  -- where the step of a failure was made and wears nothing out, there is such a turn
+  pub lost_turn : (k : Calls s e Polling) (given : Answered) → k.row.act ≢ Delete → IsOfUnknownSize given
       → (cs : List Change) (es : List Entry) → Turn s e (Answer answer.Failed) cs es → ¬ IsWorn cs
-      → Step s [] (call_entry e k.row request.Poll given ∷ [])
-  lost_alone k given stays size cs es t unworn =
+      → LostTurn k given
+  lost_turn k given stays size cs es t unworn =
       let (changes, all, u) = turn_exists s e (Answer given)
       (suits.polls k request.Poll given (call.polls stays) (may_answer given size)) in
-      let first = turn_calls s e given changes all u in
-      unstored e given changes all (call_entry e k.row request.Poll given) u (turn_some given changes all size u)
-      (call_not_worn s e cs es t unworn given)
-      (record {
-        rest = first.rest;
-        entries = first.entries ∙ ap (λ (c : Entry). c ∷ first.rest)
-            (same_call first.stage first.calls first.asked (polls_now s e k.row (one_row k) k stays (record {
-              stage = first.stage;
-              calls = first.calls;
-              asked = first.asked;
-              asks = first.asks;
-            })));
-        is_call = (_, request.Poll, given, refl);
-      })
-      refl refl
-    where
-      one_row : (k : Calls s e Polling) → IsCalled s e k.row
-      one_row k stage q = called_once s e stage Polling q k
-
-      same_call : (stage : Stage) (q : Calls s e stage) (asked : Request) → asked ≡ request.Poll
-          → call_entry e q.row asked given ≡ call_entry e k.row request.Poll given
-      same_call stage q asked is = ap (λ (r : Row). call_entry e r asked given) (called_once s e stage Polling q k)
-          ∙ ap (λ (a : Request). call_entry e k.row a given) is
+      let (rest, is) = poll_first k given stays changes all u in record {
+        changes = changes;
+        all = all;
+        rest = rest;
+        some = turn_some given changes all size u;
+        turn = u;
+        lasts = call_not_worn s e cs es t unworn given;
+        entries = is;
+      }

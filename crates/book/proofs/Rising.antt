@@ -1,6 +1,6 @@
 -- In every run the live engines stand by rising number.
-use Rattle.std.proofs.Common.{arith, inl, inr, refl, subst, sym, ap, ◌∙◌, ◌⊎◌}
-use Rattle.std.specs.Prelude.{Bool, Contains, List, [], cond, false, filter, length, map, nat_eq, not, suc, true, zero}
+use Rattle.std.proofs.Common.{arith, inl, inr, refl, subst, sym, ◌∙◌, ◌⊎◌}
+use Rattle.std.specs.Prelude.{Bool, Contains, List, [], cond, false, filter, map, nat_eq, not, suc, true, zero}
 use Rattle.std.specs.Prelude.{ℕ, ◌++◌, ◌+◌, ◌<◌, ◌∷◌, ◌≡◌, ◌≤◌}
 use Rattle.std.specs.List.{slice_index_or}
 use Rattle.std.proofs.lemmas.List.{get_or_default}
@@ -15,15 +15,14 @@ use Rattle.core_state.specs.declared.change.Change.TheVariants.{Enlist, Numbers,
 use Rattle.core_state.specs.declared.entry.Entry.{Entry}
 use Rattle.step_relation.specs.Orders.{Command}
 use Rattle.step_relation.specs.Orders as order
-use Rattle.step_relation.specs.Runs.{IsTiedStep, Judges, Run, begins, goes_on}
+use Rattle.step_relation.specs.Runs.{Judges, Run, begins, goes_on}
 use Rattle.step_relation.specs.Steps.{Step, engines_from, past_engines, restart_changes}
 use Rattle.step_relation.specs.Steps as step
-use Rattle.step_relation.specs.Could.{IsPossible}
 use Rattle.step_relation.specs.Opening.{Opening}
 use Rattle.step_relation.specs.Numbered.{AllBelow}
-use Rattle.step_relation.specs.Sound.{Sound}
-use Rattle.next_laws.proofs.WorkBelow.{possible_before}
-use Rattle.graph_laws.proofs.whole.Whole.{runs_sound}
+use Rattle.workable_laws.proofs.Runs.{runs_stay}
+use Rattle.workable_laws.specs.Admitted.{IsAdmitted}
+use Rattle.workable_laws.specs.Admitted.{restarted as restarted_from}
 use Rattle.book.proofs.Engined.{AreStill, applied-live, laid_still, turn_still}
 
 abbrev pub AreAbove : ℕ → List ℕ → Type 0
@@ -165,12 +164,24 @@ step_rises s cs es it below h = by it where
   by (step.note it noted c d) = none c
   by (step.close c d) = none c
 
+-- where others are enlisted in the place of all
+pub restarted_rise : (s : StateData) (count : ℕ) → Rises (applied (restart_changes s count) s).live
+restarted_rise s count =
+    let (t, is, rises, were) = stops_live s.live (map Enlist (engines_from s.next.engine count))
+    (apply (Numbers (past_engines s.next count)) s) in
+    let none : (y : ℕ) → ¬ Contains t.live y = (λ y c. let (was, not) = were y c in not was) in
+    subst (λ (x : StateData). Rises x.live) (sym is)
+    (enlists_rise s.next.engine count t (nobody t.live none) (λ y c. absurd (none y c)))
+  where
+    nobody : (xs : List ℕ) → ((y : ℕ) → ¬ Contains xs y) → Rises xs
+    nobody [] h = tt
+    nobody (x ∷ xs) h = absurd (h x (in_head xs x))
+
 -- all of a run
-module _ (registries : List Judges) (o : Opening) (sound : Sound o [] o.state) (rises : Rises o.state.live) where
-  pub run_rises : (s : StateData) (h : List Entry) → Run registries o.state s h → IsPossible o h → Rises s.live
-  run_rises s h (begins _ _ is none) possible = subst (λ (x : StateData). Rises x.live) (sym is) rises
-  run_rises s h (goes_on judges mid _ cs before after _ run it among tied once is all) possible =
-      let earlier = possible_before o before after (subst (IsPossible o) all possible) in
-      let standing = runs_sound registries o mid before sound run earlier in
+module _ (registries : List Judges) (o : Opening) (count : ℕ) (admitted : IsAdmitted o) where
+  pub run_rises : (s : StateData) (h : List Entry) → Run registries (restarted_from o count).state s h → Rises s.live
+  run_rises s h (begins _ _ is none) = subst (λ (x : StateData). Rises x.live) (sym is) (restarted_rise o.state count)
+  run_rises s h (goes_on judges mid _ cs before after _ run it among tied once is all) =
+      let earlier = runs_stay registries o count mid before admitted run in
       subst (λ (x : StateData). Rises x.live) (sym is)
-      (step_rises mid cs after it standing.standing.links.numbered.live (run_rises mid before run earlier))
+      (step_rises mid cs after it earlier.drawn.live (run_rises mid before run))

@@ -1,6 +1,6 @@
 -- What the entries of a turn tell: no call where nobody was asked; else one call first, and none behind it.
 use Rattle.std.proofs.Common.{List, Option, [], ap, refl, subst, sym, ℕ, ◌++◌, ◌∙◌, ◌∷◌, ◌≡◌}
-use Rattle.std.specs.Prelude.{None, Some, map}
+use Rattle.std.specs.Prelude.{map}
 use Rattle.heat_plan.specs.declared.calls.Answered.{Answered}
 use Rattle.heat_plan.specs.declared.calls.Request.{Request}
 use Rattle.row_table.specs.declared.row.Row.{Row}
@@ -9,9 +9,7 @@ use Rattle.mail_table.specs.declared.mail.Stage.{Stage}
 use Rattle.mail_table.specs.declared.mail.Stage.TheVariants.{Asking, Ending, Polling}
 use Rattle.core_state.specs.State.{StateData}
 use Rattle.core_state.specs.declared.change.Change.{Change}
-use Rattle.core_state.specs.declared.entry.Actor.{Actor}
 use Rattle.core_state.specs.declared.entry.Actor.TheVariants.{Engine}
-use Rattle.core_state.specs.declared.entry.Cause.{Cause}
 use Rattle.core_state.specs.declared.entry.Entry.{Entry}
 use Rattle.core_state.specs.declared.entry.MailWrite.TheVariants.{Dropped, Ended, Held, Sent}
 use Rattle.core_state.specs.declared.entry.MailWrite.{MailWrite}
@@ -29,8 +27,6 @@ use Rattle.step_relation.specs.Turns.{FollowsFailure, Turn}
 use Rattle.step_relation.specs.Takes.{relayed_letter, taken_job}
 use Rattle.step_relation.specs.Writes.{call_entry, complete_mark, failed_mark, lock_writes, mail_entry}
 use Rattle.step_relation.specs.Writes.{rows_entry, unlock_writes}
-use Rattle.history_laws.proofs.tells.Silence.{AreUncalling, uncalling-both, uncalling_rows}
-use Rattle.next_laws.proofs.WorkBelow.{laid_uncalling}
 use Rattle.next_laws.proofs.Parts.{Kind, Part, begins, clears, drops, ends, faults, goes, overruns, placed, prepares}
 use Rattle.next_laws.proofs.Parts.{readies, refuses, relays, relieves, settles, steals, takes, waits}
 use Rattle.next_laws.proofs.Parts as part
@@ -41,71 +37,68 @@ use Rattle.next_laws.specs.Found.{IsAskedAt}
 use Rattle.next_laws.specs.Found as asked_at
 use Rattle.heat_plan.specs.declared.calls.Request.TheVariants as request
 use Rattle.book.specs.Turned.{IsQuiet}
-
-uncalling_mark : (actor : Actor) (failed : Option Stack) (cause : Cause) → AreUncalling (failed_mark actor failed cause)
-uncalling_mark actor None cause = tt
-uncalling_mark actor (Some st) cause = (tt, tt)
+use Rattle.book.proofs.Silent.{AreSilent, laid_silent, silent-both, silent_mark, silent_rows}
 
 -- rows, and then mail
-uncalling_writes : (e : ℕ) (ws : List RowWrite) (m : MailWrite) (ms : List MailWrite)
-    → AreUncalling (rows_entry (Engine e) ws ++ mail_entry (Engine e) (m ∷ ms))
-uncalling_writes e ws m ms = uncalling-both (rows_entry (Engine e) ws) (mail_entry (Engine e) (m ∷ ms))
-    (uncalling_rows (Engine e) ws) (tt, tt)
+silent_writes : (e : ℕ) (ws : List RowWrite) (m : MailWrite) (ms : List MailWrite)
+    → AreSilent (rows_entry (Engine e) ws ++ mail_entry (Engine e) (m ∷ ms))
+silent_writes e ws m ms = silent-both (rows_entry (Engine e) ws) (mail_entry (Engine e) (m ∷ ms))
+    (silent_rows (Engine e) ws) (tt, tt)
 
 module _ (s : StateData) (e : ℕ) where
-  uncalling_fate : (k : Begins s e) (props : _) (fate : Fate) → AreUncalling (part.fate_entries s e k props fate)
-  uncalling_fate k props Created = (tt, (tt, tt))
-  uncalling_fate k props Kept = (tt, (tt, tt))
-  uncalling_fate k props Updated = (tt, (tt, tt))
-  uncalling_fate k props Resumed = (tt, tt)
-  uncalling_fate k props Left = (tt, (tt, tt))
-  uncalling_fate k props Replaced = (tt, (tt, tt))
+  silent_fate : (k : Begins s e) (props : _) (fate : Fate) → AreSilent (part.fate_entries s e k props fate)
+  silent_fate k props Created = (tt, (tt, tt))
+  silent_fate k props Kept = (tt, (tt, tt))
+  silent_fate k props Updated = (tt, (tt, tt))
+  silent_fate k props Resumed = (tt, tt)
+  silent_fate k props Left = (tt, (tt, tt))
+  silent_fate k props Replaced = (tt, (tt, tt))
 
-  uncalling_lot : (j : _) (trav : ℕ) (lot : Lot) → AreUncalling (part.lot_entries e j trav lot)
-  uncalling_lot j trav Passed = (tt, tt)
-  uncalling_lot j trav (Purged r) = (tt, (tt, tt))
-  uncalling_lot j trav (Stuck r) = (tt, (tt, tt))
-  uncalling_lot j trav (Retained r) = (tt, (tt, (tt, tt)))
-  uncalling_lot j trav (Deleted r) = (tt, (tt, tt))
+  silent_lot : (j : _) (trav : ℕ) (lot : Lot) → AreSilent (part.lot_entries e j trav lot)
+  silent_lot j trav Passed = (tt, tt)
+  silent_lot j trav (Purged r) = (tt, (tt, tt))
+  silent_lot j trav (Stuck r) = (tt, (tt, tt))
+  silent_lot j trav (Retained r) = (tt, (tt, (tt, tt)))
+  silent_lot j trav (Deleted r) = (tt, (tt, tt))
 
-  finish_silent : (k : Finishes s e) (mark : List Entry) → AreUncalling mark → AreUncalling
+  finish_silent : (k : Finishes s e) (mark : List Entry) → AreSilent mark → AreSilent
       (finished_entries s e k mark)
   finish_silent k mark h =
-      uncalling-both (rows_entry (Engine e) (unlock_writes k.fresh.row))
+      silent-both (rows_entry (Engine e) (unlock_writes k.fresh.row))
       (mail_entry (Engine e) (Ended e ∷ map Sent (ready_letters s e k)) ++ mark)
-      (uncalling_rows (Engine e) (unlock_writes k.fresh.row))
-      (uncalling-both (mail_entry (Engine e) (Ended e ∷ map Sent (ready_letters s e k))) mark (tt, tt) h)
+      (silent_rows (Engine e) (unlock_writes k.fresh.row))
+      (silent-both (mail_entry (Engine e) (Ended e ∷ map Sent (ready_letters s e k))) mark (tt, tt) h)
 
-  fail_silent : (r : Row) (letters : List Letter) (failed : Option Stack) (reason : Why) → AreUncalling
+  fail_silent : (r : Row) (letters : List Letter) (failed : Option Stack) (reason : Why) → AreSilent
       (failed_entries e r letters failed reason)
   fail_silent r letters failed reason =
-      uncalling-both (rows_entry (Engine e) (Set (failed_row r) ∷ []))
+      silent-both (rows_entry (Engine e) (Set (failed_row r) ∷ []))
       (mail_entry (Engine e) (Ended e ∷ map Sent letters) ++ failed_mark (Engine e) failed (cause_at r reason))
-      (tt, tt) (uncalling-both (mail_entry (Engine e) (Ended e ∷ map Sent letters))
+      (tt, tt) (silent-both (mail_entry (Engine e) (Ended e ∷ map Sent letters))
       (failed_mark (Engine e) failed (cause_at r reason))
-      (tt, tt) (uncalling_mark (Engine e) failed (cause_at r reason)))
+      (tt, tt) (silent_mark (Engine e) failed (cause_at r reason)))
 
-  told : (es fs : List Entry) → es ≡ fs → AreUncalling fs → AreUncalling es
-  told es fs is h = subst AreUncalling (sym is) h
+  told : (es fs : List Entry) → es ≡ fs → AreSilent fs → AreSilent es
+  told es fs is h = subst AreSilent (sym is) h
 
   -- a move that nobody answered
   part_silent : (kind : Kind) (given : Given) (f : Option Stack) (cs : List Change) (es : List Entry) → IsQuiet given
-      → Part s e kind given f cs es → AreUncalling es
+      → Part s e kind given f cs es → AreSilent es
   part_silent _ _ _ cs es quiet (drops l _ _ t i c d) = told es _ d (tt, tt)
   part_silent _ _ _ cs es quiet (takes k _ _ free c d) =
-      told es _ d (uncalling_writes e (lock_writes k.meant.fresh.row e) (Dropped k.letter.no)
+      told es _ d (silent_writes e (lock_writes k.meant.fresh.row e) (Dropped k.letter.no)
       (Held (taken_job s e k) ∷ []))
   part_silent _ _ _ cs es quiet (steals k f j _ _ h n c d) =
-      told es _ d (uncalling_writes e (lock_writes k.meant.fresh.row e) (Dropped k.letter.no)
+      told es _ d (silent_writes e (lock_writes k.meant.fresh.row e) (Dropped k.letter.no)
       (Ended f ∷ Held (taken_job s e k) ∷ []))
   part_silent _ _ _ cs es quiet (overruns j stage _ _ w k c d) = told es _ d
-      (uncalling_writes e (unlock_writes k.row) (Ended e) (map Sent k.letters))
+      (silent_writes e (unlock_writes k.row) (Ended e) (map Sent k.letters))
   part_silent _ _ _ cs es quiet (faults k code path failed _ _ falls c d) =
-      told es _ d (uncalling-both (left_entries e k.row)
+      told es _ d (silent-both (left_entries e k.row)
       (failed_mark (Engine e) failed (fault_of k.item.name k.row.no code path))
-      (tt, (tt, tt)) (uncalling_mark (Engine e) failed (fault_of k.item.name k.row.no code path)))
-  part_silent _ _ _ cs es quiet (prepares k props effect fate _ _ x c d) = told es _ d (uncalling_fate k props fate)
-  part_silent _ _ _ cs es quiet (clears k row lot _ _ at x c d) = told es _ d (uncalling_lot k.job k.stack.trav lot)
+      (tt, (tt, tt)) (silent_mark (Engine e) failed (fault_of k.item.name k.row.no code path)))
+  part_silent _ _ _ cs es quiet (prepares k props effect fate _ _ x c d) = told es _ d (silent_fate k props fate)
+  part_silent _ _ _ cs es quiet (clears k row lot _ _ at x c d) = told es _ d (silent_lot k.job k.stack.trav lot)
   part_silent _ _ _ cs es quiet (begins k asked _ _ a c d) = absurd (quiet _ refl)
   part_silent _ _ _ cs es quiet (waits k asked _ _ a c d) = absurd (quiet _ refl)
   part_silent _ _ _ cs es quiet (readies k facts _ _ a c d) = absurd (quiet _ refl)
@@ -117,9 +110,9 @@ module _ (s : StateData) (e : ℕ) where
   part_silent _ _ _ cs es quiet (settles k _ _ y c d) =
       told es _ d (finish_silent k (complete_mark (Engine e) k.fresh.stack ∷ []) (tt, tt))
   part_silent _ _ _ cs es quiet (relieves f j _ _ t k c d) = told es _ d
-      (uncalling_writes e (unlock_writes k.row) (Ended f) (map Sent k.letters))
+      (silent_writes e (unlock_writes k.row) (Ended f) (map Sent k.letters))
   part_silent _ _ _ cs es quiet (relays f k _ _ c d) =
-      told es _ d (uncalling_writes e (unlock_writes k.fresh.row) (Ended f) (map Sent (relayed_letter s e f k ∷ [])))
+      told es _ d (silent_writes e (unlock_writes k.fresh.row) (Ended f) (map Sent (relayed_letter s e f k ∷ [])))
 
   -- the call that a turn tells first
   pub record FirstCall (given : Answered) (es : List Entry) : Type 0 where
@@ -129,7 +122,7 @@ module _ (s : StateData) (e : ℕ) where
     pub asks : IsAskedAt calls.row stage asked
     pub rest : List Entry
     pub entries : es ≡ call_entry e calls.row asked given ∷ rest
-    pub silent : AreUncalling rest
+    pub silent : AreSilent rest
 
   at_stage : (r : Row) (stage : Stage) (asked : Request) → part.IsAsked r stage asked → IsAskedAt r stage asked
   at_stage r _ _ (part.at_ask asked a) = asked_at.asks asked a
@@ -191,25 +184,25 @@ module _ (s : StateData) (e : ℕ) where
     silent = fail_silent k.row letters failed reason;
   }
 
-  laid_silent : (t : StateData) (st : Stack) (cs : List Change) (es : List Entry) → FollowsFailure t e st cs es
-      → AreUncalling es
-  laid_silent t st cs es k = told es _ k.entries (laid_uncalling t k.failed.name _ _ k.lays)
+  behind_silent : (t : StateData) (st : Stack) (cs : List Change) (es : List Entry) → FollowsFailure t e st cs es
+      → AreSilent es
+  behind_silent t st cs es k = told es _ k.entries (laid_silent t k.failed.name _ _ k.lays)
 
   -- a turn that nobody answered tells of no call
   pub turn_silent : (given : Given) (cs : List Change) (es : List Entry) → IsQuiet given → Turn s e given cs es
-      → AreUncalling es
+      → AreSilent es
   turn_silent given cs es quiet t = by a.whole where
     a : ByMove s e given cs es
     a = by_move s e given cs es t
 
-    first : AreUncalling a.firsts
+    first : AreSilent a.firsts
     first = let p = placed s e given a.failed a.first a.firsts a.move in
         part_silent p.kind given a.failed a.first a.firsts quiet p.part
 
-    by : Whole s e a.failed a.first a.firsts cs es → AreUncalling es
+    by : Whole s e a.failed a.first a.firsts cs es → AreSilent es
     by (stops p c d) = told es _ d first
     by (follows st last lasts is due k c d) = told es _ d
-        (uncalling-both a.firsts lasts first (laid_silent _ st last lasts k))
+        (silent-both a.firsts lasts first (behind_silent _ st last lasts k))
 
   -- one that was answered tells of its call first
   pub turn_calls : (given : Answered) (cs : List Change) (es : List Entry) → Turn s e (Answer given) cs es
@@ -231,5 +224,5 @@ module _ (s : StateData) (e : ℕ) where
       asks = first.asks;
       rest = first.rest ++ lasts;
       entries = d ∙ ap (λ (x : List Entry). x ++ lasts) first.entries;
-      silent = uncalling-both first.rest lasts first.silent (laid_silent _ st last lasts k);
+      silent = silent-both first.rest lasts first.silent (behind_silent _ st last lasts k);
     }

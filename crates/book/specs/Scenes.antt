@@ -24,7 +24,7 @@ abbrev pub scene : StateData → List Entry → Cloud → Scene
 scene state entries cloud = record { state = state; entries = entries; cloud = cloud }
 
 -- what a book shows of its state, its history and its cloud
-abbrev pub scene_of : {P : Type 0} → (P → Cloud) → Shown P → Scene
+abbrev pub scene_of : {K P : Type 0} → (P → Cloud) → Shown K P → Scene
 scene_of cloud_of b = scene b.state b.entries (cloud_of b.cloud)
 
 -- NotYet comes only where polls are left for the token, and takes one; other tokens keep theirs

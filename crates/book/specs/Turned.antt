@@ -11,7 +11,6 @@ use Rattle.step_relation.specs.Given.{Answer, Given}
 use Rattle.step_relation.specs.Nexts.{IsIdle, IsLost}
 use Rattle.step_relation.specs.Rows.{token_of}
 use Rattle.step_relation.specs.Runs.{IsTied}
-use Rattle.step_relation.specs.Steps.{Step}
 use Rattle.step_relation.specs.Turns.{Turn, WearsOut}
 use Rattle.step_relation.specs.Writes.{call_entry}
 use Rattle.takeover_steps.specs.Lost.{IsOfUnknownSize}
@@ -38,6 +37,12 @@ pub record IsWornBy (s : StateData) (e : ℕ) : Type 0 where
   pub tied : IsTied unjudged s e given
   pub wears : WearsOut s e given
 
+-- why a call is told alone: what was answered is of unknown size, and there was no memory to store it; or the keeper
+-- failed to keep the step
+pub data WhyAlone (result : Turn_answer) (given : Answered) : Type 0 where
+  lacking : result ≡ turned.Memory → IsOfUnknownSize given → WhyAlone result given
+  failed : result ≡ turned.DiskFault → WhyAlone result given
+
 -- one turn of the engine e
 pub data Turned (e : ℕ) (old new : Scene) (result : Turn_answer) : Type 0 where
   -- a step that asks nobody
@@ -50,11 +55,17 @@ pub data Turned (e : ℕ) (old new : Scene) (result : Turn_answer) : Type 0 wher
       → Turn old.state e (Answer given) cs es → ¬ WearsOut old.state e (Answer given)
       → es ≡ call_entry e k.calls.row k.asked given ∷ rest
       → Makes cs es old new → Told (token_of k.calls.row) k.asked given old.cloud new.cloud → Turned e old new result
-  -- what the answer would have stored found no memory: the call alone is told
-  unstored : (k : Requests old.state e) (given : Answered) → result ≡ turned.Memory → IsOfUnknownSize given
-      → Step old.state [] (call_entry e k.calls.row k.asked given ∷ [])
+  -- what the answer would have stored found no memory, or wasn't kept: the call alone is told
+  alone : (k : Requests old.state e) (given : Answered) (cs : List Change) (es rest : List Entry)
+      → WhyAlone result given → cs ≢ []
+      → Turn old.state e (Answer given) cs es → ¬ WearsOut old.state e (Answer given)
+      → es ≡ call_entry e k.calls.row k.asked given ∷ rest
       → Makes [] (call_entry e k.calls.row k.asked given ∷ []) old new
       → Told (token_of k.calls.row) k.asked given old.cloud new.cloud → Turned e old new result
+  -- a step that asks nobody wasn't kept
+  unkept : (given : Given) (cs : List Change) (es : List Entry) → result ≡ turned.DiskFault → IsQuiet given → cs ≢ []
+      → Turn old.state e given cs es → ¬ WearsOut old.state e given → IsTied unjudged old.state e given
+      → IsUnmade old new → Turned e old new result
   unmade : result ≡ turned.Memory → IsUnmade old new → Turned e old new result
   idle : result ≡ turned.Idle → IsIdle old.state e → IsUnmade old new → Turned e old new result
   lost : result ≡ turned.Lost → IsLost old.state e → IsUnmade old new → Turned e old new result

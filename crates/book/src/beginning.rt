@@ -2,9 +2,9 @@
 ghost use Rattle.std.specs.Prelude.{IfErr, IfOk};
 ghost use Rattle.mail_table.specs.declared.mail.Stage.TheVariants.{Taken};
 ghost use Rattle.step_relation.specs.Nexts.{Works};
-ghost use Rattle.step_relation.specs.Sound.{Standing};
 ghost use Rattle.check_steps.specs.AtUpdate.{AtUpdate};
 ghost use Rattle.book.specs.Makings.{IsQuietTurn, IsQuietRefusal};
+ghost use Rattle.book.specs.WorkableOver.{IsWorkable};
 
 use core_state::{Job, Made, State};
 use heat_plan::{EngineNo, Refusal};
@@ -23,7 +23,7 @@ pub(crate) fn begin_job(
     job: &Job,
 ) -> Result<Made, Refusal>
     requires works { Works s.now.state e job.now Taken }
-    requires stands { Standing s.now.state }
+    requires workable { IsWorkable s.now.state }
     ensures made { IfOk result (IsQuietTurn s.now.state e) }
     ensures cause { IfErr result (IsQuietRefusal s.now.state e) }
 {

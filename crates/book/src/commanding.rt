@@ -2,13 +2,17 @@
 ghost use Rattle.std.specs.Prelude.{IfErr, IfOk};
 ghost use Rattle.command_steps.specs.Answers.{OrMemory};
 ghost use Rattle.book.specs.Commands.{Orders, RefusesOrder};
-ghost use Rattle.book.specs.Makings.{Does};
+ghost use Rattle.book.specs.Keeping.{IsReady};
+ghost use Rattle.book.specs.Makings.{DoesSo};
 ghost use Rattle.book.specs.Quiet.{page};
+ghost use Rattle.book.specs.WorkableOver.{IsWorkable};
 
+use crate::history::History;
 use crate::making::make_step;
 use command_steps::{cancel, create, delete, update};
-use core_state::{Entry, Made, Roomed, State};
+use core_state::{Made, State};
 use heat_plan::{Plan, Refusal, StackName, TravNo};
+use record_keeper::Keeper;
 use std::alloc::Global;
 
 /// A command on the stack of a name. A create and an update say whether a failure is rolled back.
@@ -21,19 +25,23 @@ pub enum StackCommand {
 }
 
 /// Makes a command's step, or refuses and changes nothing. Gives the traversal that was drawn.
-pub(crate) fn make_order(
+pub(crate) fn make_order<K: Keeper>(
     alloc: Global,
     state: &mut State,
-    entries: &mut Roomed<Entry>,
+    entries: &mut History,
+    keeper: &mut K,
     command: StackCommand,
 ) -> Result<TravNo, Refusal>
-    ensures { Does (Orders state.old.state command) (RefusesOrder state.old.state command)
+    requires workable { IsWorkable state.old.state }
+    requires ready { IsReady (K.shown keeper.old) state.old.state }
+    ensures { DoesSo (Orders state.old.state command) (RefusesOrder state.old.state command)
         state.old.state.next.trav
-        (page state.old.state entries.old.items) (page state.new.state entries.new.items) result }
+        (page state.old.state entries.old.items) (page state.new.state entries.new.items)
+        (K.shown keeper.old) (K.shown keeper.new) (K.faults keeper.old) (K.faults keeper.new) result }
 {
     let drawn = TravNo::new(state.next().trav.get());
     let made = order_of(alloc, state, command);
-    match make_step(state, entries, made) {
+    match make_step(state, entries, keeper, made) {
         Ok(()) => match drawn {
             Some(trav) => Ok(trav),
             None => unreachable!(),

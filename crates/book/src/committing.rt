@@ -4,16 +4,19 @@ ghost use Rattle.std.specs.Prelude.{◌<◌, ◌≡◌};
 ghost use Rattle.provider.specs.Cloud.{Cloud};
 ghost use Rattle.check_steps.specs.Looks.{HasNext, IsWork};
 ghost use Rattle.check_steps.specs.Prepares.{IsPrepared};
-ghost use Rattle.book.specs.Commits.{Commits, MayBegin};
+ghost use Rattle.book.specs.Behind.{CommitsTo, Turns};
+ghost use Rattle.book.specs.Commits.{MayBegin};
+ghost use Rattle.book.specs.Keeping.{IsReady};
 ghost use Rattle.book.specs.Scenes.{scene};
-ghost use Rattle.book.specs.SoundOver.{IsSoundOver};
-ghost use Rattle.book.specs.Turned.{Turned};
+ghost use Rattle.book.specs.WorkableOver.{IsWorkable, IsWorkableOver};
 
+use crate::history::History;
 use crate::turning::{Turn, make_quietly, turn_of};
 use check_steps::{Prepared, Work, is_overtaken};
-use core_state::{Entry, Roomed, State};
+use core_state::State;
 use heat_plan::EngineNo;
 use provider::Provider;
+use record_keeper::Keeper;
 use std::alloc::Global;
 use step_reads::{Task, next_of};
 use type_catalog::Registry;
@@ -26,20 +29,23 @@ pub(crate) struct Proposal {
 }
 
 /// The step of an engine whose number was drawn, where it is still the one that was looked at.
-pub(crate) fn commit_of<P: Provider>(
+pub(crate) fn commit_of<K: Keeper, P: Provider>(
     alloc: Global,
     state: &mut State,
-    entries: &mut Roomed<Entry>,
+    entries: &mut History,
+    keeper: &mut K,
     cloud: &mut P,
     e: EngineNo,
     proposal: Proposal,
 ) -> Turn
     requires drawn { e < state.old.state.next.engine }
-    requires sound { IsSoundOver state.old.state entries.old.items (P.cloud cloud.old) }
+    requires workable { IsWorkableOver state.old.state entries.old.items (P.cloud cloud.old) }
+    requires ready { IsReady (K.shown keeper.old) state.old.state }
     requires prepared { IsPrepared proposal.work proposal.prepared }
-    ensures committed { Commits e proposal.work
+    ensures committed { CommitsTo e proposal.work
         (scene state.old.state entries.old.items (P.cloud cloud.old))
-        (scene state.new.state entries.new.items (P.cloud cloud.new)) result }
+        (scene state.new.state entries.new.items (P.cloud cloud.new))
+        (K.shown keeper.old) (K.shown keeper.new) (K.faults keeper.old) (K.faults keeper.new) result }
     ensures unprepared { proposal.prepared ≡ Prepared.Memory → HasNext state.old.state e
         → IsWork state.old.state e proposal.work → result ≡ Turn.Memory }
 {
@@ -48,42 +54,49 @@ pub(crate) fn commit_of<P: Provider>(
         return Turn::Stepped;
     }
     match work {
-        Work::Plain => turn_plainly(alloc, state, entries, cloud, e),
-        Work::Begin(_) => begin_given(alloc, state, entries, e, &prepared),
+        Work::Plain => turn_plainly(alloc, state, entries, keeper, cloud, e),
+        Work::Begin(_) => begin_given(alloc, state, entries, keeper, e, &prepared),
     }
 }
 
 // A turn in which nothing is begun at an update node, so that no judge is asked.
-fn turn_plainly<P: Provider>(
+fn turn_plainly<K: Keeper, P: Provider>(
     alloc: Global,
     state: &mut State,
-    entries: &mut Roomed<Entry>,
+    entries: &mut History,
+    keeper: &mut K,
     cloud: &mut P,
     e: EngineNo,
 ) -> Turn
     requires drawn { e < state.old.state.next.engine }
-    requires sound { IsSoundOver state.old.state entries.old.items (P.cloud cloud.old) }
-    ensures { Turned e
+    requires workable { IsWorkableOver state.old.state entries.old.items (P.cloud cloud.old) }
+    requires ready { IsReady (K.shown keeper.old) state.old.state }
+    ensures { Turns e
         (scene state.old.state entries.old.items (P.cloud cloud.old))
-        (scene state.new.state entries.new.items (P.cloud cloud.new)) result }
+        (scene state.new.state entries.new.items (P.cloud cloud.new))
+        (K.shown keeper.old) (K.shown keeper.new) (K.faults keeper.old) (K.faults keeper.new) result }
 {
     let none = Registry::empty(alloc);
-    turn_of(alloc, &none, state, entries, cloud, e)
+    turn_of(alloc, &none, state, entries, keeper, cloud, e)
 }
 
 // The begin with what was prepared for it; an engine without a next step answers as at a turn.
-fn begin_given(
+fn begin_given<K: Keeper>(
     alloc: Global,
     state: &mut State,
-    entries: &mut Roomed<Entry>,
+    entries: &mut History,
+    keeper: &mut K,
     e: EngineNo,
     prepared: &Prepared,
 ) -> Turn
     requires drawn { e < state.old.state.next.engine }
     requires begins { MayBegin state.old.state e prepared.now }
-    ensures turned { (c : Cloud) → Turned e
+    requires workable { IsWorkable state.old.state }
+    requires ready { IsReady (K.shown keeper.old) state.old.state }
+    ensures turned { (c : Cloud) → Turns e
         (scene state.old.state entries.old.items c)
-        (scene state.new.state entries.new.items c) result }
+        (scene state.new.state entries.new.items c)
+        (K.shown keeper.old) (K.shown keeper.new) (K.faults keeper.old) (K.faults keeper.new) result }
     ensures unprepared { prepared.now ≡ Prepared.Memory → HasNext state.old.state e → result ≡ Turn.Memory }
 {
     match next_of(state, e) {
@@ -95,7 +108,7 @@ fn begin_given(
             Prepared::Memory => Turn::Memory,
             _ => {
                 let made = check_steps::begin(alloc, state, e, job, prepared);
-                make_quietly(state, entries, made)
+                make_quietly(state, entries, keeper, made)
             }
         },
     }

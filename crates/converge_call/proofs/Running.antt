@@ -9,6 +9,7 @@ use Rattle.core_state.specs.declared.entry.What.TheVariants as what
 use Rattle.core_state.specs.State.{StateData}
 use Rattle.step_relation.specs.Opening.{Opening}
 use Rattle.step_relation.specs.Headline.{IsSettledAs}
+use Rattle.step_relation.specs.Sound.{Sound}
 use Rattle.driver.specs.Below.{IsFullWork}
 use Rattle.provider.specs.Cloud.{Cloud}
 use Rattle.driver.specs.Kept.{Shown, IsSameBook, opening_of}
@@ -25,13 +26,13 @@ use Rattle.converge_call.specs.Runs.{IsLimit, AreSettled, EndsIdle, EndsTired, R
 use Rattle.converge_call.specs.Runs.{break_of}
 use Rattle.converge_call.specs.Runs as runs
 use Rattle.converge_call.proofs.Noting.{append-none, done_as}
-use Rattle.converge_call.proofs.Handing.{same_opening}
+use Rattle.driver.proofs.Leavings.{same_opening}
 
 -- each stack of a book is settled, by the history of which its own is the last part
-pub settled_as : {P : Type 0} (cloud_of : P → Cloud) (old new : Shown P) (added : List Entry) → IsSameBook old new
+pub settled_as : {K P : Type 0} (cloud_of : P → Cloud) (old new : Shown K P) (added : List Entry) → IsSameBook old new
     → new.entries ≡ old.entries ++ added → settled_book.AreSettled cloud_of new
     → AreSettled (opening_of cloud_of old) (old.entries ++ added) new.state
-settled_as {P} cloud_of old new added same more settled name st found =
+settled_as {K} {P} cloud_of old new added same more settled name st found =
     subst (λ (o : Opening). IsSettledAs o (old.entries ++ added) st) (same_opening cloud_of old new same)
     (subst (λ (h : List Entry). IsSettledAs (opening_of cloud_of new) h st) more (settled name st found))
 
@@ -64,7 +65,7 @@ module _ (o : Opening) (n : ℕ) (old mid new : Page) (result : Result (Unit {0}
 
   idle_at : (by : List ℕ) (added : List Entry) → mid.entries ≡ old.entries ++ added → length by ≤ n
       → Turns old.state mid.state added by
-      → IsIdle mid.state → AreSettled o (old.entries ++ added) mid.state
+      → IsIdle mid.state → (Sound o [] o.state → AreSettled o (old.entries ++ added) mid.state)
       → HasDone (Notes (what.Ran true (length by))) IsUndone mid new result → RunDone
   idle_at by added so_far within turns rests settled (did es note more is) =
       did (added ++ by_main (what.Ran true (length by)) ∷ []) (runs.idle (record {
@@ -73,7 +74,8 @@ module _ (o : Opening) (n : ℕ) (old mid new : Page) (result : Result (Unit {0}
         turns = subst (λ (s : StateData). Turns old.state s added by) (sym note.state) turns;
         within = within;
         rests = subst (λ (s : StateData). IsIdle s) (sym note.state) rests;
-        settled = subst (λ (s : StateData). AreSettled o (old.entries ++ added) s) (sym note.state) settled;
+        settled = λ sound. subst (λ (s : StateData). AreSettled o (old.entries ++ added) s) (sym note.state)
+            (settled sound);
         entries = refl;
       })) (noted added es _ so_far note more) is
   idle_at by added so_far within turns rests settled (broke es why un more is) =
@@ -81,7 +83,7 @@ module _ (o : Opening) (n : ℕ) (old mid new : Page) (result : Result (Unit {0}
 
   tired_at : (by : List ℕ) (added : List Entry) → mid.entries ≡ old.entries ++ added → length by ≡ n
       → Turns old.state mid.state added by
-      → ¬ IsIdle mid.state → ((w : ℕ) → IsFullWork old.state w → n < w)
+      → ¬ IsIdle mid.state → (Sound o [] o.state → (w : ℕ) → IsFullWork old.state w → n < w)
       → HasDone (Notes (what.Ran false n)) IsUndone mid new result → RunDone
   tired_at by added so_far all turns busy short (did es note more is) =
       did (added ++ by_main (what.Ran false n) ∷ []) (runs.tired (record {
@@ -97,7 +99,8 @@ module _ (o : Opening) (n : ℕ) (old mid new : Page) (result : Result (Unit {0}
       unnoted (ran.Tired n) added es why so_far (to.tired by all turns busy refl) refl un more is
 
   pub idle_noted : (m : ℕ) → HasRan n old mid (ran.Idle m)
-      → ((added : List Entry) → mid.entries ≡ old.entries ++ added → AreSettled o (old.entries ++ added) mid.state)
+      → ((added : List Entry) → mid.entries ≡ old.entries ++ added → Sound o [] o.state
+      → AreSettled o (old.entries ++ added) mid.state)
       → HasDone (Notes (what.Ran true m)) IsUndone mid new result → RunDone
   idle_noted m r settled note = by_end r.ended where
     by_end : RanTo n old.state mid.state r.added (ran.Idle m) → RunDone
@@ -108,8 +111,10 @@ module _ (o : Opening) (n : ℕ) (old mid new : Page) (result : Result (Unit {0}
     by_end (to.tired by all turns busy is) = cc
     by_end (to.worn by e few turns follows out is) = cc
     by_end (to.memory by e mid_state before after few turns follows lacks all is) = cc
+    by_end (to.fault by e mid_state before after few turns follows lacks all is) = cc
 
-  pub tired_noted : (m : ℕ) → HasRan n old mid (ran.Tired m) → ((w : ℕ) → IsFullWork old.state w → n < w)
+  pub tired_noted : (m : ℕ) → HasRan n old mid (ran.Tired m)
+      → (Sound o [] o.state → (w : ℕ) → IsFullWork old.state w → n < w)
       → HasDone (Notes (what.Ran false m)) IsUndone mid new result → RunDone
   tired_noted m r short note = by_end r.ended where
     by_end : RanTo n old.state mid.state r.added (ran.Tired m) → RunDone
@@ -120,6 +125,7 @@ module _ (o : Opening) (n : ℕ) (old mid new : Page) (result : Result (Unit {0}
         (subst (λ (k : ℕ). HasDone (Notes (what.Ran false k)) IsUndone mid new result) same note)
     by_end (to.worn by e few turns follows out is) = cc
     by_end (to.memory by e mid_state before after few turns follows lacks all is) = cc
+    by_end (to.fault by e mid_state before after few turns follows lacks all is) = cc
 
 -- a run that was broken off among its turns
 pub run_stopped : (o : Opening) (n : ℕ) (old new : Page) (ended : Ran) (result : Result (Unit {0}) Exit)
@@ -137,13 +143,13 @@ run_limited o h number asked n old new result live limit it =
     done_as (RunEnds o h n) (RunDoes o h number asked) (RunStops n) (RunBreaks asked) old new result ends
     (λ es why stopped. runs.stops n limit stopped) it where
       tired_for : (asked : Option ℕ) → IsLimit old.state asked n → (es : List Entry)
-          → EndsTired n old.state new.state es → asked ≡ Some n
-      tired_for None limit es it = absurd (let less = it.short n limit in omega (arith, less))
-      tired_for (Some k) limit es it = ap Some (sym limit)
+          → EndsTired o n old.state new.state es → Sound o [] o.state → asked ≡ Some n
+      tired_for None limit es it sound = absurd (let less = it.short sound n limit in omega (arith, less))
+      tired_for (Some k) limit es it sound = ap Some (sym limit)
 
       ends : (es : List Entry) → RunEnds o h n old.state new.state es → RunDoes o h number asked old.state new.state es
       ends es (runs.idle it) = runs.ran_idle n live limit it
-      ends es (runs.tired it) = runs.ran_tired n live (tired_for asked limit es it) it
+      ends es (runs.tired it) = runs.ran_tired n live limit (tired_for asked limit es it) it
 
 -- no engine is live
 pub run_refused : (o : Opening) (h : List Entry) (number : ℕ) (asked : Option ℕ) (old new : Page)

@@ -1,12 +1,13 @@
 -- What the lines do that make one step by the reader of commands: the commands, and the changes of engines; and those
 -- that give kinds, which make none.
-use Rattle.std.specs.Prelude.{◌≡◌, ℕ, List, Some, None, codes}
+use Rattle.std.specs.Prelude.{◌≡◌, ℕ, List, [], Some, None, codes}
 use Rattle.heat_value.specs.Data.{Data}
 use Rattle.heat_value.specs.declared.path.Step.{Step}
 use Rattle.hot_catalog.specs.Catalogs.{read_flaw}
 use Rattle.heat_plan.specs.Plans.{PlanData}
 use Rattle.heat_plan.specs.Refusals.{code_of}
 use Rattle.heat_plan.specs.declared.refusal.Refusal.{Refusal}
+use Rattle.heat_plan.specs.declared.refusal.Refusal.TheVariants as refusal
 use Rattle.core_state.specs.declared.change.Change.{Change}
 use Rattle.core_state.specs.declared.entry.Entry.{Entry}
 use Rattle.core_state.specs.Changes.{applied}
@@ -20,14 +21,35 @@ use Rattle.template_plans.specs.declared.fault.PlanFault.{PlanFault}
 use Rattle.driver.specs.Commands.{IsOrder, RefusesOrder}
 use Rattle.driver.specs.Quiet.{number_of}
 use Rattle.driver.specs.declared.StackCommand.{StackCommand}
-use Rattle.converge_call.specs.Notes.{refused, refused_at, Notes, IsNothing}
+use Rattle.converge_call.specs.Notes.{refused, refused_at, Notes, IsNothing, IsUndone}
 use Rattle.converge_call.specs.Stocks.{Stock}
+use Rattle.converge_call.specs.declared.exit.Exit.{Exit}
+use Rattle.converge_call.specs.declared.exit.Exit.TheVariants as exit
 
 -- the line was refused with the code of this refusal
 pub record IsRefusedFor (number : ℕ) (r : Refusal) (old new : StateData) (es : List Entry) : Type 0 where
   pub code : List ℕ
   pub its_code : code_of r ≡ Some code
   pub noted : Notes (refused number code) old new es
+
+-- how a line ends whose step wasn't made, where that has no code
+abbrev pub exit_unmade : Refusal → Exit
+exit_unmade refusal.StackExists = exit.Memory
+exit_unmade refusal.NoStack = exit.Memory
+exit_unmade refusal.Deleting = exit.Memory
+exit_unmade refusal.TooManyStacks = exit.Memory
+exit_unmade refusal.TooManyRows = exit.Memory
+exit_unmade refusal.Worn = exit.Memory
+exit_unmade refusal.NoEngine = exit.Memory
+exit_unmade refusal.TooManyEngines = exit.Memory
+exit_unmade refusal.NotRunning = exit.Memory
+exit_unmade refusal.DiskFault = exit.DiskFault
+exit_unmade refusal.Memory = exit.Memory
+
+-- nothing was done, since there was no memory for the note; or for this
+pub data IsUnmadeFor (r : Refusal) (old new : StateData) (es : List Entry) (why : Exit) : Type 0 where
+  unnoted : IsUndone old new es why → IsUnmadeFor r old new es why
+  uncoded : code_of r ≡ None → new ≡ old → es ≡ [] → why ≡ exit_unmade r → IsUnmadeFor r old new es why
 
 -- one such step was made, or the line was refused for the first cause that holds
 pub data StepDoes (number : ℕ) (Is : List Change → List Entry → Type 0) (Refuses : Refusal → Type 0)

@@ -1,16 +1,18 @@
 -- What driving a book by a script comes to: the lines that were read, the history, and what was written.
-use Rattle.std.specs.Prelude.{◌≡◌, ◌⊎◌, ◌<◌, ◌≤◌, ◌+◌, ℕ, List, [], ◌∷◌, ◌++◌, Option, Some, Result, Ok, Err, length}
+use Rattle.std.specs.Prelude.{◌≡◌, ◌+◌, Bool, ℕ, List, [], ◌∷◌, ◌++◌, None, Option, Some, Result, Ok, Err, length}
 use Rattle.core_state.specs.declared.entry.Entry.{Entry}
 use Rattle.core_state.specs.State.{StateData}
+use Rattle.provider.specs.Cloud.{Cloud}
 use Rattle.step_relation.specs.Opening.{Opening}
-use Rattle.heat_io.specs.Lines.{cut_lines, length_of_line, size_of_line, line_limit, script_limit}
-use Rattle.heat_io.specs.Reading.{Reads}
 use Rattle.heat_io.specs.Streams.{grown}
 use Rattle.report.specs.Text.{text_of, text_after}
+use Rattle.book.specs.declared.halting.Halt.{Halt}
+use Rattle.book.specs.declared.halting.Halt.TheVariants as halted
 use Rattle.driver.specs.Quiet.{Page}
 use Rattle.converge_call.specs.declared.exit.Exit.{Exit}
 use Rattle.converge_call.specs.declared.exit.Exit.TheVariants as exit
 use Rattle.converge_call.specs.Lines.{LineDoes, LineBreaks, Serial}
+use Rattle.converge_call.specs.Sources.{AllRead, FirstRead, JustRead, LimitRead, UnendedRead}
 use Rattle.converge_call.specs.Stocks.{Stock, StockBehind}
 
 -- a fault of the writing
@@ -25,52 +27,28 @@ pub data Written (holds_old holds_new : Option (List ℕ)) (text : List ℕ)
   first : (written rest : List ℕ) (why : Exit) → text ≡ written ++ rest → holds_new ≡ grown holds_old written
       → EndsWriting why → result ≡ Err why → Written holds_old holds_new text result
 
+-- a book behind a line: its cloud, and what halts it
+pub record LineEnd : Type 0 where
+  pub cloud : Cloud
+  pub halt : Option Halt
+
+abbrev pub line_end : Cloud → Option Halt → LineEnd
+line_end cloud halt = record { cloud = cloud; halt = halt }
+
 -- A line was done and what it added to the text was written, or the first of it; or it was broken off, and
 -- nothing was written.
-pub data LineAnswered (o : Opening) (t : Stock) (number : ℕ) (line : List ℕ) (old new : Page)
-    (holds_old holds_new : Option (List ℕ))
+pub data LineAnswered (o : Opening) (t : Stock) (recalls : Bool) (number : ℕ) (line : List ℕ) (old new : Page)
+    (ends : LineEnd) (holds_old holds_new : Option (List ℕ))
     (result : Result (Unit {0}) Exit) : Type 0 where
   done : (es : List Entry) → LineDoes o old.entries t number line old.state new.state es
-      → new.entries ≡ old.entries ++ es
+      → new.entries ≡ old.entries ++ es → ends.halt ≡ None
       → Written holds_old holds_new (text_after o.state new.entries (length old.entries)) result
-      → LineAnswered o t number line old new holds_old holds_new result
-  broke : (es : List Entry) (why : Exit) → LineBreaks line old.state new.state es why → new.entries ≡ old.entries ++ es
-      → holds_new ≡ holds_old → result ≡ Err why → LineAnswered o t number line old new holds_old holds_new result
-
--- These are the first lines of the script, each within the limits. What is ahead are the others, and all
--- bytes before them, line ends too, are so many.
-pub record AreRead (bytes : List ℕ) (lines : List (List ℕ)) (rest : List ℕ) (given : ℕ) : Type 0 where
-  pub reads : Reads 0 bytes lines rest given
-  pub lines_are : cut_lines bytes ≡ lines ++ cut_lines rest
-  pub counted : given + length rest ≡ length bytes
-
--- the next line passes the line's limit, or with it the script passes its own
-abbrev pub PassesLimit : List ℕ → ℕ → Type 0
-PassesLimit rest given =
-    (line_limit < length_of_line rest)
-    ⊎ ((length_of_line rest ≤ line_limit) × (script_limit < given + size_of_line rest))
-
--- where the source tells its bytes, these are its first lines
-abbrev pub FirstRead : Option (List ℕ) → List (List ℕ) → Type 0
-FirstRead left lines = (bytes : List ℕ) → left ≡ Some bytes
-    → (rest : List ℕ) × (given : ℕ) × AreRead bytes lines rest given
-
--- the source tells its bytes, and none of its lines passes a limit
-pub record StaysWithin (left : Option (List ℕ)) : Type 0 where
-  pub bytes : List ℕ
-  pub told : left ≡ Some bytes
-  pub within : (lines : List (List ℕ)) (rest : List ℕ) (given : ℕ) → AreRead bytes lines rest given
-      → ¬ PassesLimit rest given
-
--- where the source tells its bytes, these are its first lines, and the next one passes a limit
-abbrev pub LimitRead : Option (List ℕ) → List (List ℕ) → Type 0
-LimitRead left lines = (bytes : List ℕ) → left ≡ Some bytes
-    → (rest : List ℕ) × (given : ℕ) × AreRead bytes lines rest given × PassesLimit rest given
-
--- where the source tells its bytes, these are its lines, each within the limits, and nothing is left
-abbrev pub AllRead : Option (List ℕ) → Option (List ℕ) → List (List ℕ) → Type 0
-AllRead left_old left_new lines = (bytes : List ℕ) → left_old ≡ Some bytes
-    → AreRead bytes lines [] (length bytes) × (cut_lines bytes ≡ lines) × (left_new ≡ Some [])
+      → LineAnswered o t recalls number line old new ends holds_old holds_new result
+  broke : (es : List Entry) (why : Exit)
+      → LineBreaks o old.entries recalls line ends.cloud ends.halt old.state new.state es why
+      → new.entries ≡ old.entries ++ es
+      → holds_new ≡ holds_old → result ≡ Err why
+      → LineAnswered o t recalls number line old new ends holds_old holds_new result
 
 -- what a source had left and a sink held
 pub record Streams : Type 0 where
@@ -81,25 +59,35 @@ abbrev pub streams : Option (List ℕ) → Option (List ℕ) → Streams
 streams left holds = record { left = left; holds = holds }
 
 -- A drive over a book on which nothing was done, from its opening with this in stock to the state last with the
--- history h: the script was read to its end; the next line wasn't read; a line was broken off; a line was done, and
+-- history h, the cloud and the halt: the script was read to its end; the next line wasn't read, for its limit, a failed
+-- read, or want of memory; the keeper failed where it was to be compacted; a line was broken off; a line was done, and
 -- of what it added to the text no more than a first part is written, behind the text of all lines before it.
-pub data Drove (o : Opening) (first : Stock) (old new : Streams) (last : StateData) (h : List Entry)
-    (status : Exit) : Type 0 where
+pub data Drove (o : Opening) (first : Stock) (recalls : Bool) (old new : Streams) (last : StateData) (h : List Entry)
+    (ends : LineEnd) (status : Exit) : Type 0 where
   done : (lines : List (List ℕ)) → Serial o first lines last h → AllRead old.left new.left lines
-      → new.holds ≡ grown old.holds (text_of o.state h) → status ≡ exit.Done → Drove o first old new last h status
-  too_long : (lines : List (List ℕ)) → Serial o first lines last h → LimitRead old.left lines
-      → new.holds ≡ grown old.holds (text_of o.state h) → status ≡ exit.TooLong → Drove o first old new last h status
-  not_read : (lines : List (List ℕ)) → Serial o first lines last h → FirstRead old.left lines
-      → new.holds ≡ grown old.holds (text_of o.state h) → (status ≡ exit.ReadFault) ⊎ (status ≡ exit.Memory)
-      → Drove o first old new last h status
+      → new.holds ≡ grown old.holds (text_of o.state h) → ends.halt ≡ None → status ≡ exit.Done
+      → Drove o first recalls old new last h ends status
+  too_long : (lines : List (List ℕ)) → Serial o first lines last h → LimitRead old.left new.left lines
+      → new.holds ≡ grown old.holds (text_of o.state h) → ends.halt ≡ None → status ≡ exit.TooLong
+      → Drove o first recalls old new last h ends status
+  not_read : (lines : List (List ℕ)) → Serial o first lines last h → UnendedRead old.left new.left lines
+      → new.holds ≡ grown old.holds (text_of o.state h) → ends.halt ≡ None → status ≡ exit.ReadFault
+      → Drove o first recalls old new last h ends status
+  lacking : (lines : List (List ℕ)) → Serial o first lines last h → FirstRead old.left new.left lines
+      → new.holds ≡ grown old.holds (text_of o.state h) → ends.halt ≡ None → status ≡ exit.Memory
+      → Drove o first recalls old new last h ends status
+  not_compacted : (lines : List (List ℕ)) → Serial o first lines last h → JustRead old.left new.left lines
+      → new.holds ≡ grown old.holds (text_of o.state h) → ends.halt ≡ Some halted.DiskFault
+      → status ≡ exit.DiskFault → Drove o first recalls old new last h ends status
   broken_off : (lines : List (List ℕ)) (mid : StateData) (so_far : List Entry) (line : List ℕ) (rest : List Entry)
-      → Serial o first lines mid so_far → LineBreaks line mid last rest status → h ≡ so_far ++ rest
-      → FirstRead old.left (lines ++ line ∷ []) → new.holds ≡ grown old.holds (text_of o.state so_far)
-      → Drove o first old new last h status
+      → Serial o first lines mid so_far
+      → LineBreaks o so_far recalls line ends.cloud ends.halt mid last rest status → h ≡ so_far ++ rest
+      → JustRead old.left new.left (lines ++ line ∷ []) → new.holds ≡ grown old.holds (text_of o.state so_far)
+      → Drove o first recalls old new last h ends status
   not_written : (lines : List (List ℕ)) (mid : StateData) (so_far : List Entry) (line : List ℕ) (es : List Entry)
       (written rest : List ℕ) (t : Stock)
       → Serial o first lines mid so_far → StockBehind first lines t
       → LineDoes o so_far t (length lines + 1) line mid last es → h ≡ so_far ++ es
-      → FirstRead old.left (lines ++ line ∷ []) → text_after o.state h (length so_far) ≡ written ++ rest
-      → new.holds ≡ grown old.holds (text_of o.state so_far ++ written)
-      → EndsWriting status → Drove o first old new last h status
+      → JustRead old.left new.left (lines ++ line ∷ []) → text_after o.state h (length so_far) ≡ written ++ rest
+      → new.holds ≡ grown old.holds (text_of o.state so_far ++ written) → ends.halt ≡ None
+      → EndsWriting status → Drove o first recalls old new last h ends status

@@ -1,9 +1,10 @@
 -- What each line of the script adds to the history, and the history of a list of lines.
-use Rattle.std.specs.Prelude.{◌≡◌, ◌+◌, ℕ, List, [], ◌∷◌, ◌++◌, Some, Ok, Err, codes, length}
+use Rattle.std.specs.Prelude.{◌≡◌, ◌+◌, ℕ, Bool, List, [], ◌∷◌, ◌++◌, None, Option, Some, Ok, Err, length}
 use Rattle.core_state.specs.declared.entry.Entry.{Entry}
 use Rattle.core_state.specs.declared.entry.ShowWhat.TheVariants as show
 use Rattle.core_state.specs.State.{StateData}
 use Rattle.step_relation.specs.Opening.{Opening}
+use Rattle.provider.specs.Cloud.{Cloud}
 use Rattle.heat_value.specs.Meaning.{data_of}
 use Rattle.script_lines.specs.Readings.{Reads}
 use Rattle.script_lines.specs.Misreads.{misread_code, misread_path}
@@ -11,13 +12,16 @@ use Rattle.script_lines.specs.declared.line.Line.{Line}
 use Rattle.script_lines.specs.declared.line.Line.TheVariants.{Blank, Create, Update, Delete, Cancel, Status, Resources}
 use Rattle.script_lines.specs.declared.line.Line.TheVariants.{Outputs, Types, Run, Turn, Stop, Start, Restart}
 use Rattle.script_lines.specs.declared.misread.Misread.{Misread}
+use Rattle.book.specs.declared.halting.Halt.{Halt}
 use Rattle.driver.specs.declared.StackCommand.TheVariants as order
 use Rattle.converge_call.specs.declared.exit.Exit.{Exit}
-use Rattle.converge_call.specs.Notes.{refused, refused_at, Notes, IsNothing, IsUndone}
+use Rattle.converge_call.specs.Notes.{refused_at, Notes, IsNothing, IsUndone, IsUnkept}
 use Rattle.converge_call.specs.Stocks.{Stock, StockBehind}
 use Rattle.converge_call.specs.Commands.{BodyDoes, TypesDoes, OrderDoes, StopDoes, StartDoes}
 use Rattle.converge_call.specs.Shows.{ShowDoes, OutputsDoes}
 use Rattle.converge_call.specs.Runs.{RunDoes, RunBreaks, TurnDoes, TurnBreaks}
+use Rattle.converge_call.specs.Restarts.{RestartDoes, RestartBreaks}
+use Rattle.converge_call.specs.Halting.{halt_for}
 
 -- what is done behind the history h, with what is in stock, for a line that asks for this: the state behind it, and the
 -- entries that it adds
@@ -37,24 +41,25 @@ AskedDoes o h t number (Run asked) old new es = RunDoes o h number asked old new
 AskedDoes o h t number (Turn e) old new es = TurnDoes number e old new es
 AskedDoes o h t number (Stop e) old new es = StopDoes number e old new es
 AskedDoes o h t number Start old new es = StartDoes number old new es
-AskedDoes o h t number Restart old new es = Notes (refused number (codes "N00")) old new es
+AskedDoes o h t number Restart old new es = RestartDoes o h old new es
 
--- where it is broken off, and why
-abbrev pub AskedBreaks : Line → StateData → StateData → List Entry → Exit → Type 0
-AskedBreaks Blank old new es why = IsUndone old new es why
-AskedBreaks (Create name body) old new es why = IsUndone old new es why
-AskedBreaks (Update name body) old new es why = IsUndone old new es why
-AskedBreaks (Delete name) old new es why = IsUndone old new es why
-AskedBreaks (Cancel name) old new es why = IsUndone old new es why
-AskedBreaks (Status name) old new es why = IsUndone old new es why
-AskedBreaks (Resources name) old new es why = IsUndone old new es why
-AskedBreaks (Outputs name) old new es why = IsUndone old new es why
-AskedBreaks (Types given) old new es why = IsUndone old new es why
-AskedBreaks (Run asked) old new es why = RunBreaks asked old new es why
-AskedBreaks (Turn e) old new es why = TurnBreaks e old new es why
-AskedBreaks (Stop e) old new es why = IsUndone old new es why
-AskedBreaks Start old new es why = IsUndone old new es why
-AskedBreaks Restart old new es why = IsUndone old new es why
+-- where it is broken off, and why; the keeper recalls what it reads as, or doesn't, and the cloud is then this one
+abbrev pub AskedBreaks : Opening → List Entry → Bool → Line → Cloud → StateData → StateData → List Entry → Exit
+    → Type 0
+AskedBreaks o h recalls Blank cloud old new es why = IsUndone old new es why
+AskedBreaks o h recalls (Create name body) cloud old new es why = IsUnkept old new es why
+AskedBreaks o h recalls (Update name body) cloud old new es why = IsUnkept old new es why
+AskedBreaks o h recalls (Delete name) cloud old new es why = IsUnkept old new es why
+AskedBreaks o h recalls (Cancel name) cloud old new es why = IsUnkept old new es why
+AskedBreaks o h recalls (Status name) cloud old new es why = IsUndone old new es why
+AskedBreaks o h recalls (Resources name) cloud old new es why = IsUndone old new es why
+AskedBreaks o h recalls (Outputs name) cloud old new es why = IsUndone old new es why
+AskedBreaks o h recalls (Types given) cloud old new es why = IsUndone old new es why
+AskedBreaks o h recalls (Run asked) cloud old new es why = RunBreaks asked old new es why
+AskedBreaks o h recalls (Turn e) cloud old new es why = TurnBreaks e old new es why
+AskedBreaks o h recalls (Stop e) cloud old new es why = IsUnkept old new es why
+AskedBreaks o h recalls Start cloud old new es why = IsUnkept old new es why
+AskedBreaks o h recalls Restart cloud old new es why = RestartBreaks o h recalls cloud old new es why
 
 -- the line was refused with the code of this fault, at its place
 pub record IsMisreadFor (number : ℕ) (why : Misread) (old new : StateData) (es : List Entry) : Type 0 where
@@ -70,10 +75,13 @@ pub data LineDoes (o : Opening) (h : List Entry) (t : Stock) (number : ℕ) (lin
   misread : (why : Misread) → Reads line (Err why) → IsMisreadFor number why old new es
       → LineDoes o h t number line old new es
 
--- where a line was broken off, and why
-pub data LineBreaks (line : List ℕ) (old new : StateData) (es : List Entry) (why : Exit) : Type 0 where
-  unread : IsUndone old new es why → LineBreaks line old new es why
-  asked : (said : Line) → Reads line (Ok said) → AskedBreaks said old new es why → LineBreaks line old new es why
+-- Where a line behind the history h was broken off, and why; the cloud is then this one, and so is what halts the book,
+-- which wasn't halted before.
+pub data LineBreaks (o : Opening) (h : List Entry) (recalls : Bool) (line : List ℕ) (cloud : Cloud) (halt : Option Halt)
+    (old new : StateData) (es : List Entry) (why : Exit) : Type 0 where
+  unread : IsUndone old new es why → halt ≡ None → LineBreaks o h recalls line cloud halt old new es why
+  asked : (said : Line) → Reads line (Ok said) → AskedBreaks o h recalls said cloud old new es why
+      → halt ≡ halt_for said why → LineBreaks o h recalls line cloud halt old new es why
 
 -- the history of a list of lines, numbered from 1, from the opening on; each line is done with what is in stock behind
 -- those before it, and the first with this

@@ -1,5 +1,5 @@
 -- What a line notes, and what doing something comes to.
-use Rattle.std.specs.Prelude.{◌≡◌, ℕ, List, [], ◌∷◌, ◌++◌, Option, None, Result, Ok, Err}
+use Rattle.std.specs.Prelude.{◌≡◌, ◌⊎◌, ℕ, List, [], ◌∷◌, ◌++◌, Option, None, Result, Ok, Err}
 use Rattle.heat_value.specs.declared.path.Step.{Step}
 use Rattle.core_state.specs.declared.entry.Actor.TheVariants.{Main}
 use Rattle.core_state.specs.declared.entry.Entry.{Entry}
@@ -37,6 +37,12 @@ pub record IsUndone (old new : StateData) (es : List Entry) (why : Exit) : Type 
   pub state : new ≡ old
   pub none : es ≡ []
   pub memory : why ≡ exit.Memory
+
+-- there was no memory, or the keeper failed to keep a step, and nothing was done
+pub record IsUnkept (old new : StateData) (es : List Entry) (why : Exit) : Type 0 where
+  pub state : new ≡ old
+  pub none : es ≡ []
+  pub cause : (why ≡ exit.Memory) ⊎ (why ≡ exit.DiskFault)
 
 -- Something was done to state and history as Does says, or broken off as Breaks says.
 pub data HasDone (Does : StateData → StateData → List Entry → Type 0)

@@ -23,6 +23,10 @@ pub record Drives (words : List (List ℕ)) (setup : Setup) : Type 0 where
   pub say : Say options unsaid said
   pub set : setup ≡ setup_for said
 
+-- what is set up in this mode
+abbrev pub setup_of : Mode → Setup
+setup_of (Drive setup) = setup
+
 -- the words are the form of this mode
 abbrev pub IsForm : List (List ℕ) → Mode → Type 0
 IsForm words (Drive setup) = Drives words setup

@@ -1,10 +1,12 @@
 //! Lines that make one step by the reader of commands: commands on stacks, and changes of engines.
-ghost use Rattle.std.specs.Prelude.{◌≢◌, IfOk, IfErr, map};
-ghost use Rattle.driver.specs.Kept.{IsSameBook};
+ghost use Rattle.std.specs.Prelude.{◌≡◌, ◌≢◌, IfOk, IfErr, map};
+ghost use Rattle.book.specs.Halting.{halt_for};
 ghost use Rattle.driver.specs.Quiet.{page};
-ghost use Rattle.converge_call.specs.Notes.{IsUndone, HasDone};
+ghost use Rattle.converge_call.specs.Carrying.{Carries};
+ghost use Rattle.converge_call.specs.Halting.{HaltsBehind, halt_behind, halt_broken};
+ghost use Rattle.converge_call.specs.Notes.{IsUndone, IsUnkept, HasDone};
 ghost use Rattle.converge_call.specs.Commands.{BodyDoes, OrderDoes, StopDoes, StartDoes, IsRefusedFor, IsUnplannedFor};
-ghost use Rattle.converge_call.specs.Commands.{beside_body};
+ghost use Rattle.converge_call.specs.Commands.{IsUnmadeFor, beside_body, exit_unmade};
 ghost use Rattle.converge_call.specs.Stocks.{stock};
 ghost use Rattle.template_plans.specs.Plans.{IsPlanOf, IsNoPlan};
 
@@ -17,24 +19,26 @@ use heat_value::TryCopy;
 use hot_catalog::Catalog;
 use hot_params::Ids;
 use provider::Provider;
+use record_keeper::Keeper;
 use script_lines::Body;
 use std::alloc::Global;
 use template_plans::{PlanFault, plan_of};
 
 /// Creates a stack by the plan of a body.
-pub fn create<P: Provider>(
+pub fn create<K: Keeper, P: Provider>(
     by: &Means<'_>,
     catalog: &Catalog,
-    book: &mut Book<P>,
+    book: &mut Book<K, P>,
     number: u64,
     name: StackName,
     body: &Body,
 ) -> Result<(), Exit>
     ensures done { HasDone
         (BodyDoes (stock (map (λ t. t.test) by.now.registry.now.customs) catalog.now) number name body.now
-        (λ plan. StackCommand.Create name plan body.now.rollback)) IsUndone
+        (λ plan. StackCommand.Create name plan body.now.rollback)) IsUnkept
         (page book.old.state book.old.entries) (page book.new.state book.new.entries) result }
-    ensures same { IsSameBook book.old book.new }
+    ensures carries { Carries K.shown P.cloud book.old book.new }
+    ensures halt { HaltsBehind halt_broken book.old.halt book.new.halt result }
 {
     match planned(by, catalog, book, &name, body) {
         Ok(plan) => {
@@ -46,19 +50,20 @@ pub fn create<P: Provider>(
 }
 
 /// Updates a stack to the plan of a body.
-pub fn update<P: Provider>(
+pub fn update<K: Keeper, P: Provider>(
     by: &Means<'_>,
     catalog: &Catalog,
-    book: &mut Book<P>,
+    book: &mut Book<K, P>,
     number: u64,
     name: StackName,
     body: &Body,
 ) -> Result<(), Exit>
     ensures done { HasDone
         (BodyDoes (stock (map (λ t. t.test) by.now.registry.now.customs) catalog.now) number name body.now
-        (λ plan. StackCommand.Update name plan body.now.rollback)) IsUndone
+        (λ plan. StackCommand.Update name plan body.now.rollback)) IsUnkept
         (page book.old.state book.old.entries) (page book.new.state book.new.entries) result }
-    ensures same { IsSameBook book.old book.new }
+    ensures carries { Carries K.shown P.cloud book.old book.new }
+    ensures halt { HaltsBehind halt_broken book.old.halt book.new.halt result }
 {
     match planned(by, catalog, book, &name, body) {
         Ok(plan) => {
@@ -70,10 +75,10 @@ pub fn update<P: Provider>(
 }
 
 // The plan of a body for the stack of this name, as the book stands.
-fn planned<P: Provider>(
+fn planned<K: Keeper, P: Provider>(
     by: &Means<'_>,
     catalog: &Catalog,
-    book: &Book<P>,
+    book: &Book<K, P>,
     name: &StackName,
     body: &Body,
 ) -> Result<Plan, PlanFault>
@@ -90,16 +95,18 @@ fn planned<P: Provider>(
 }
 
 /// Makes a command's step, or notes why not.
-pub fn order<P: Provider>(
+pub fn order<K: Keeper, P: Provider>(
     alloc: Global,
-    book: &mut Book<P>,
+    book: &mut Book<K, P>,
     number: u64,
     command: StackCommand,
 ) -> Result<(), Exit>
-    ensures done { HasDone (OrderDoes number command) IsUndone
+    ensures done { HasDone (OrderDoes number command) IsUnkept
         (page book.old.state book.old.entries) (page book.new.state book.new.entries) result }
-    ensures same { IsSameBook book.old book.new }
+    ensures carries { Carries K.shown P.cloud book.old book.new }
+    ensures halt { HaltsBehind halt_broken book.old.halt book.new.halt result }
 {
+    book.promises();
     match book.command(command) {
         Ok(_) => Ok(()),
         Err(refusal) => refuse_for(alloc, book, number, refusal),
@@ -107,16 +114,18 @@ pub fn order<P: Provider>(
 }
 
 /// Stops an engine, or notes that it isn't live.
-pub fn stop<P: Provider>(
+pub fn stop<K: Keeper, P: Provider>(
     alloc: Global,
-    book: &mut Book<P>,
+    book: &mut Book<K, P>,
     number: u64,
     engine: EngineNo,
 ) -> Result<(), Exit>
-    ensures done { HasDone (StopDoes number engine) IsUndone
+    ensures done { HasDone (StopDoes number engine) IsUnkept
         (page book.old.state book.old.entries) (page book.new.state book.new.entries) result }
-    ensures same { IsSameBook book.old book.new }
+    ensures carries { Carries K.shown P.cloud book.old book.new }
+    ensures halt { HaltsBehind halt_broken book.old.halt book.new.halt result }
 {
+    book.promises();
     match book.stop(engine) {
         Ok(()) => Ok(()),
         Err(refusal) => refuse_for(alloc, book, number, refusal),
@@ -124,44 +133,69 @@ pub fn stop<P: Provider>(
 }
 
 /// Enlists an engine, or notes why not.
-pub fn start<P: Provider>(alloc: Global, book: &mut Book<P>, number: u64) -> Result<(), Exit>
-    ensures done { HasDone (StartDoes number) IsUndone
+pub fn start<K: Keeper, P: Provider>(
+    alloc: Global,
+    book: &mut Book<K, P>,
+    number: u64,
+) -> Result<(), Exit>
+    ensures done { HasDone (StartDoes number) IsUnkept
         (page book.old.state book.old.entries) (page book.new.state book.new.entries) result }
-    ensures same { IsSameBook book.old book.new }
+    ensures carries { Carries K.shown P.cloud book.old book.new }
+    ensures halt { HaltsBehind halt_broken book.old.halt book.new.halt result }
 {
+    book.promises();
     match book.enlist() {
         Ok(_) => Ok(()),
         Err(refusal) => refuse_for(alloc, book, number, refusal),
     }
 }
 
-// Notes a refusal that has a code.
-fn refuse_for<P: Provider>(
+// Notes a refusal that has a code. One without is want of memory, or a fault of the keeper.
+fn refuse_for<K: Keeper, P: Provider>(
     alloc: Global,
-    book: &mut Book<P>,
+    book: &mut Book<K, P>,
     number: u64,
     refusal: Refusal,
 ) -> Result<(), Exit>
-    ensures done { HasDone (IsRefusedFor number refusal) IsUndone
+    ensures done { HasDone (IsRefusedFor number refusal) (IsUnmadeFor refusal)
         (page book.old.state book.old.entries) (page book.new.state book.new.entries) result }
-    ensures same { IsSameBook book.old book.new }
+    ensures only { book.new ≡ record book.old { entries = book.new.entries } }
+    ensures carries { Carries K.shown P.cloud book.old book.new }
+    ensures halts { halt_behind halt_broken result ≡ halt_for refusal }
 {
     match refusal.code() {
         Some(code) => refuse(alloc, book, number, code),
-        None => Err(Exit::Memory),
+        None => Err(unmade(refusal)),
+    }
+}
+
+// How a line ends whose step wasn't made, where that has no code.
+fn unmade(refusal: Refusal) -> Exit
+    ensures { result ≡ exit_unmade refusal }
+{
+    match refusal {
+        Refusal::DiskFault => Exit::DiskFault,
+        Refusal::StackExists | Refusal::NoStack | Refusal::Deleting | Refusal::TooManyStacks => {
+            Exit::Memory
+        }
+        Refusal::TooManyRows | Refusal::Worn | Refusal::NoEngine | Refusal::TooManyEngines => {
+            Exit::Memory
+        }
+        Refusal::NotRunning | Refusal::Memory => Exit::Memory,
     }
 }
 
 // Notes why a body has no plan.
-fn refuse_plan<P: Provider>(
+fn refuse_plan<K: Keeper, P: Provider>(
     alloc: Global,
-    book: &mut Book<P>,
+    book: &mut Book<K, P>,
     number: u64,
     fault: &PlanFault,
 ) -> Result<(), Exit>
     ensures done { HasDone (IsUnplannedFor number fault.now) IsUndone
         (page book.old.state book.old.entries) (page book.new.state book.new.entries) result }
-    ensures same { IsSameBook book.old book.new }
+    ensures carries { Carries K.shown P.cloud book.old book.new }
+    ensures halt { HaltsBehind halt_broken book.old.halt book.new.halt result }
 {
     match fault.code() {
         Some(code) => refuse_at(alloc, book, number, code, fault.path()),

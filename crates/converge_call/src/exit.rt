@@ -1,14 +1,9 @@
 //! How the program ends.
 ghost use Rattle.std.specs.Prelude.{◌≡◌};
+ghost use Rattle.converge_call.specs.Exits.{exit_of};
 
+use book::{Finding, Unrestarted};
 use heat_plan::Token;
-
-/// In what the stored rows and the cloud differ at an opening.
-#[derive(Clone, Copy, Debug, PartialEq, Eq)]
-pub enum Finding {
-    /// The cloud has a resource of this token, and no row is stored for it.
-    Stranger,
-}
 
 /// The top call's status.
 #[derive(Debug, PartialEq, Eq, Drop)]
@@ -23,11 +18,15 @@ pub enum Exit {
     ReadFault,
     /// A write failed.
     WriteFault,
+    /// The keeper of records failed.
+    DiskFault,
     /// There was no memory.
     Memory,
-    /// The cloud has what no row names. Nothing was read or written.
+    /// What the keeper holds is no image; or, at a restart, another state than the book's.
+    Foreign,
+    /// The stored rows and the cloud's list disagree, first at this token.
     Disagree(Token, Finding),
-    /// The cloud didn't tell what it has. Nothing was read or written.
+    /// The cloud didn't tell what it has.
     CloudFault,
     /// A number or a key would have come to 2^62.
     Worn,
@@ -46,10 +45,26 @@ impl Exit {
             Exit::TooLong => 3,
             Exit::ReadFault => 4,
             Exit::WriteFault => 5,
+            Exit::DiskFault => 6,
             Exit::Memory => 7,
+            Exit::Foreign => 8,
             Exit::Disagree(_, _) => 9,
             Exit::CloudFault => 10,
             Exit::Worn => 11,
         }
+    }
+}
+
+/// How it ends where a restart is refused for this.
+pub(crate) fn exit_for(why: Unrestarted) -> Exit
+    ensures { result ≡ exit_of why }
+{
+    match why {
+        Unrestarted::Foreign => Exit::Foreign,
+        Unrestarted::Disagree(token, finding) => Exit::Disagree(token, finding),
+        Unrestarted::DiskFault => Exit::DiskFault,
+        Unrestarted::CloudFault => Exit::CloudFault,
+        Unrestarted::Worn => Exit::Worn,
+        Unrestarted::Memory => Exit::Memory,
     }
 }

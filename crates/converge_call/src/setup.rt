@@ -25,9 +25,11 @@ pub enum Mode {
 }
 
 impl Mode {
+    ghost use Rattle.converge_call.specs.Words.{setup_of};
+
     /// What is set up.
     pub fn setup(self) -> Setup
-        ensures { self ≡ Mode.Drive result }
+        ensures { result ≡ setup_of self }
     {
         match self {
             Mode::Drive(setup) => setup,

@@ -1,9 +1,8 @@
 //! The forms that the words may have.
-ghost use Rattle.std.specs.Prelude.{◌≡◌, ◌≤◌, ◌∷◌, ◌++◌, ◌↔◌, [], ℕ, List, Ok, Err, codes, IfOk, IsTrue};
-ghost use Rattle.converge_call.specs.Words.{EndsWith, IsForm, setup_for};
+ghost use Rattle.std.specs.Prelude.{◌≡◌, ◌≤◌, ◌∷◌, ◌++◌, ◌↔◌, [], ℕ, List, Err, codes, IfOk, IsTrue};
+ghost use Rattle.converge_call.specs.Words.{EndsWith, IsForm, setup_for, setup_of};
 ghost use Rattle.converge_call.specs.Choices.{said_of};
 ghost use Rattle.converge_call.specs.declared.setup.Mode.{Mode as mode_type};
-ghost use Rattle.converge_call.specs.declared.setup.Setup.{Setup as setup_type};
 
 use crate::chosen::{Chosen, said_by};
 use crate::setup::{Mode, Setup, WordsFault};
@@ -15,7 +14,7 @@ use std::alloc::{AllocError, Global};
 pub fn words_of(alloc: Global, words: &[Text]) -> Result<Mode, WordsFault>
     ensures ok { IfOk result (λ m. IsForm words.now m) }
     ensures usage { result ≡ Err WordsFault.Usage → (m : mode_type) → ¬ IsForm words.now m }
-    ensures workers { (s : setup_type) → result ≡ Ok (Mode.Drive s) → (1 ≤ s.workers) × (s.workers ≤ 64) }
+    ensures workers { IfOk result (λ m. (1 ≤ (setup_of m).workers) × ((setup_of m).workers ≤ 64)) }
     ensures memory { result ≡ Err WordsFault.Memory → (m : mode_type) × IsForm words.now m }
     ensures one { (a b : mode_type) → IsForm words.now a → IsForm words.now b → a ≡ b }
 {
@@ -26,7 +25,7 @@ pub fn words_of(alloc: Global, words: &[Text]) -> Result<Mode, WordsFault>
         return Err(WordsFault::Usage);
     }
     match said_by(options_in(behind)) {
-        Some(chosen) => Ok(Mode::Drive(setup_of(alloc, chosen)?)),
+        Some(chosen) => Ok(Mode::Drive(set_up(alloc, chosen)?)),
         None => Err(WordsFault::Usage),
     }
 }
@@ -50,7 +49,7 @@ fn options_in(behind: &[Text]) -> &[Text]
 }
 
 // What is set up where the options say this: one worker, where they don't say how many.
-fn setup_of(alloc: Global, chosen: Chosen<'_>) -> Result<Setup, AllocError>
+fn set_up(alloc: Global, chosen: Chosen<'_>) -> Result<Setup, AllocError>
     ensures { IfOk result (λ s. s ≡ setup_for (said_of chosen.entry)) }
 {
     let cloud = match chosen.cloud {

@@ -1,4 +1,4 @@
--- In every run from nothing no two records of a table have one key.
+-- In what changes made of the empty state no two records of a table have one key.
 use Rattle.std.proofs.Common.{inl, inr, refl, subst, sym, ℕ}
 use Rattle.std.specs.Prelude.{Bool, Contains, Decides, List, [], cond, filter, map, nat_eq, not, false, true, ◌++◌, ◌∷◌}
 use Rattle.std.specs.Prelude.{◌≡◌, ◌⊎◌}
@@ -14,9 +14,8 @@ use Rattle.core_state.specs.Changes.{applied, apply}
 use Rattle.core_state.specs.State.{StateData, stack_key}
 use Rattle.core_state.specs.declared.change.Change.{Change}
 use Rattle.core_state.specs.declared.change.Change.TheVariants as change_to
-use Rattle.core_state.specs.declared.entry.Entry.{Entry}
-use Rattle.step_relation.specs.Runs.{Judges, Run, begins, goes_on}
-use Rattle.book.specs.Kept.{opened}
+use Rattle.step_relation.specs.Images.{IsMade}
+use Rattle.step_relation.specs.Opening.{bare}
 use Rattle.bound_laws.specs.Counts.{AreOnce}
 use Rattle.driver.specs.Keyed.{AreKeyed}
 
@@ -135,15 +134,7 @@ applied_keyed : (cs : List Change) (s : StateData) → AreKeyed s → AreKeyed (
 applied_keyed [] s k = k
 applied_keyed (c ∷ cs) s k = applied_keyed cs (apply c s) (apply_keyed c s k)
 
-run_keyed : (registries : List Judges) (first : StateData) → AreKeyed first → (s : StateData) (h : List Entry)
-    → Run registries first s h → AreKeyed s
-run_keyed registries first k s h (begins _ _ is none) = subst AreKeyed (sym is) k
-run_keyed registries first k s h (goes_on judges mid _ cs before after _ run it among tied once is all) =
-    subst AreKeyed (sym is) (applied_keyed cs mid (run_keyed registries first k mid before run))
-
-pub opened_keyed : (registries : List Judges) (engines : ℕ) (first s : StateData) (h : List Entry)
-    → first ≡ opened engines
-    → Run registries first s h → AreKeyed s
-opened_keyed registries engines first s h opens run =
-    run_keyed registries first
-    (subst AreKeyed (sym opens) (record { stacks = tt; rows = tt; letters = tt; jobs = tt })) s h run
+-- what changes made of the empty state
+pub made_keyed : (s : StateData) → IsMade s → AreKeyed s
+made_keyed s it = subst AreKeyed (sym it.replayed) (applied_keyed it.written bare
+    (record { stacks = tt; rows = tt; letters = tt; jobs = tt }))

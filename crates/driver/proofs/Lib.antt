@@ -1,3 +1,4 @@
+pub mod Stills
 pub mod Ones
 pub mod Listed
 pub mod Keyed
@@ -7,3 +8,5 @@ pub mod Tables
 pub mod Spending
 pub mod Resting
 pub mod Turning
+pub mod Fitting
+pub mod Leavings

@@ -17,6 +17,7 @@ use Rattle.book.specs.Kept.{unjudged}
 use Rattle.book.specs.Scenes.{Makes, Scene, Told}
 use Rattle.book.specs.Turned.{IsQuiet, Requests, Turned}
 use Rattle.book.specs.Turned as turned
+use Rattle.book.specs.Turned.{failed, lacking}
 use Rattle.book.specs.declared.turning.Turn.{Turn as turn_type}
 use Rattle.book.specs.declared.turning.Turn.TheVariants as turn
 use Rattle.bound_laws.specs.Bound.{IsWork}
@@ -89,7 +90,11 @@ module _ (first : StateData) (opened : Cloud) where
         spend_quiet made e old new given cs es so stands few quiet moves its makes same
     | turned.called k given cs es rest is moves lasts entries makes told ↦
         spend_called made e old new k given cs es so stands few moves makes told
-    | turned.unstored k given is size alone makes told ↦ absurd (memory_steps result is stepped)
+    | turned.alone k given cs es rest (lacking is size) some moves lasts first_ makes told ↦
+        absurd (memory_steps result is stepped)
+    | turned.alone k given cs es rest (failed is) some moves lasts first_ makes told ↦
+        absurd (fault_steps result is stepped)
+    | turned.unkept given cs es is quiet some moves lasts its same ↦ absurd (fault_steps result is stepped)
     | turned.unmade is same ↦ absurd (memory_steps result is stepped)
     | turned.idle is none same ↦ absurd (idle_steps result is stepped)
     | turned.lost is none same ↦ absurd (lost_steps result is stepped)
@@ -97,6 +102,9 @@ module _ (first : StateData) (opened : Cloud) where
   ] where
     memory_steps : (r : turn_type) → r ≡ turn.Memory → r ≡ turn.Stepped → ⊥
     memory_steps r a b = cc
+
+    fault_steps : (r : turn_type) → r ≡ turn.DiskFault → r ≡ turn.Stepped → ⊥
+    fault_steps r a b = cc
 
     idle_steps : (r : turn_type) → r ≡ turn.Idle → r ≡ turn.Stepped → ⊥
     idle_steps r a b = cc

@@ -1,5 +1,5 @@
 -- Turns of the book one after another, as the relation of a run says them.
-use Rattle.std.proofs.Common.{ap, append_assoc, arith, refl, subst, sym, ◌∙◌}
+use Rattle.std.proofs.Common.{ap, append_assoc, arith, inl, inr, refl, subst, sym, ◌∙◌}
 use Rattle.std.specs.Prelude.{Contains, List, [], length, ℕ, ◌++◌, ◌+◌, ◌<◌, ◌∷◌, ◌≡◌, ◌≤◌}
 use Rattle.core_state.specs.Changes.{applied}
 use Rattle.core_state.specs.State.{StateData}
@@ -18,7 +18,9 @@ use Rattle.book.specs.Turned.{Turned}
 use Rattle.book.specs.Turned as turned
 use Rattle.driver.specs.declared.ran.Ran.TheVariants as ran
 use Rattle.driver.specs.Rounds.{IsNext}
-use Rattle.driver.specs.Turns.{HasRan, Lacks, TurnOf, Turns, adds, begins, latest, unmade, unstored}
+use Rattle.book.specs.Turned.{failed, lacking}
+use Rattle.book.proofs.KeptTurned.{alone_step}
+use Rattle.driver.specs.Turns.{HasRan, Lacks, TurnOf, Turns, adds, alone, begins, latest, unmade}
 use Rattle.driver.specs.Turns as to
 
 append-none : {A : Type 0} (xs : List A) → xs ++ [] ≡ xs
@@ -78,7 +80,9 @@ module _ (old : Page) (made last e : ℕ) (mid new : Scene) (so : SoFar old (pag
   one_more result (turned.called k given cs es rest is step lasts first makes told) stepped =
       more cs es (record { given = Answer given; made = step; lasts = lasts; tied = answer given }) makes.state
       makes.entries
-  one_more result (turned.unstored k given is unknown step makes told) stepped = cc
+  one_more result (turned.alone k given cs es rest (lacking is size) some step lasts first makes told) stepped = cc
+  one_more result (turned.alone k given cs es rest (failed is) some step lasts first makes told) stepped = cc
+  one_more result (turned.unkept given cs es is quiet some step lasts tied un) stepped = cc
   one_more result (turned.unmade is un) stepped = cc
   one_more result (turned.idle is rests un) stepped = cc
   one_more result (turned.lost is lost un) stepped = cc
@@ -87,7 +91,9 @@ module _ (old : Page) (made last e : ℕ) (mid new : Scene) (so : SoFar old (pag
   pub never_idle : (result : turn_type) → Turned e mid new result → result ≡ turn.Idle → ⊥
   never_idle result (turned.quiet given cs es is quiet step lasts tied makes same) idle = cc
   never_idle result (turned.called k given cs es rest is step lasts first makes told) idle = cc
-  never_idle result (turned.unstored k given is unknown step makes told) idle = cc
+  never_idle result (turned.alone k given cs es rest (lacking is size) some step lasts first makes told) idle = cc
+  never_idle result (turned.alone k given cs es rest (failed is) some step lasts first makes told) idle = cc
+  never_idle result (turned.unkept given cs es is quiet some step lasts tied un) idle = cc
   never_idle result (turned.unmade is un) idle = cc
   never_idle result (turned.idle is rests un) idle = is_next.busy rests
   never_idle result (turned.lost is lost un) idle = cc
@@ -96,7 +102,9 @@ module _ (old : Page) (made last e : ℕ) (mid new : Scene) (so : SoFar old (pag
   pub never_lost : (result : turn_type) → Turned e mid new result → result ≡ turn.Lost → ⊥
   never_lost result (turned.quiet given cs es is quiet step lasts tied makes same) lost = cc
   never_lost result (turned.called k given cs es rest is step lasts first makes told) lost = cc
-  never_lost result (turned.unstored k given is unknown step makes told) lost = cc
+  never_lost result (turned.alone k given cs es rest (lacking is size) some step lasts first makes told) lost = cc
+  never_lost result (turned.alone k given cs es rest (failed is) some step lasts first makes told) lost = cc
+  never_lost result (turned.unkept given cs es is quiet some step lasts tied un) lost = cc
   never_lost result (turned.unmade is un) lost = cc
   never_lost result (turned.idle is rests un) lost = cc
   never_lost result (turned.lost is gone un) lost = gone.ended is_next.live
@@ -116,30 +124,58 @@ module _ (old : Page) (made last e : ℕ) (mid new : Scene) (so : SoFar old (pag
     }
     worn_out result (turned.quiet given cs es is quiet step lasts tied makes same) worn = cc
     worn_out result (turned.called k given cs es rest is step lasts first makes told) worn = cc
-    worn_out result (turned.unstored k given is unknown step makes told) worn = cc
+    worn_out result (turned.alone k given cs es rest (lacking is size) some step lasts first makes told) worn = cc
+    worn_out result (turned.alone k given cs es rest (failed is) some step lasts first makes told) worn = cc
+    worn_out result (turned.unkept given cs es is quiet some step lasts tied un) worn = cc
     worn_out result (turned.unmade is un) worn = cc
     worn_out result (turned.idle is rests un) worn = cc
     worn_out result (turned.lost is lost un) worn = cc
 
-    lacks : (es : List Entry) → Lacks e mid.state new.state es → new.entries ≡ mid.entries ++ es
+    lacks : (es : List Entry) → Lacks e mid.state new.state es turn.Memory → new.entries ≡ mid.entries ++ es
         → HasRan n old (page_of new) ran.Memory
-    lacks es lacking entries = record {
+    lacks es unable entries = record {
       added = so.added ++ es;
       entries = entries ∙ ap (λ (all : List Entry). all ++ es) so.entries ∙ append_assoc old.entries so.added es;
-      ended = to.memory so.by e mid.state so.added es room so.turns its lacking refl refl;
+      ended = to.memory so.by e mid.state so.added es room so.turns its unable refl refl;
+    }
+
+    faults : (es : List Entry) → Lacks e mid.state new.state es turn.DiskFault → new.entries ≡ mid.entries ++ es
+        → HasRan n old (page_of new) ran.DiskFault
+    faults es unable entries = record {
+      added = so.added ++ es;
+      entries = entries ∙ ap (λ (all : List Entry). all ++ es) so.entries ∙ append_assoc old.entries so.added es;
+      ended = to.fault so.by e mid.state so.added es room so.turns its unable refl refl;
     }
 
     pub broken_off : (result : turn_type) → Turned e mid new result → result ≡ turn.Memory
         → HasRan n old (page_of new) ran.Memory
-    broken_off result (turned.unstored k given is unknown step makes told) memory =
-        lacks _ (unstored (token_of k.calls.row) k.asked given unknown step makes.state refl) makes.entries
+    broken_off result (turned.alone k given cs es rest (lacking is size) some step lasts first makes told) memory =
+        lacks _ (alone (token_of k.calls.row) k.asked given (turned.lacking refl size)
+        (alone_step mid.state e k given cs es rest some step lasts first) makes.state refl) makes.entries
+    broken_off result (turned.alone k given cs es rest (failed is) some step lasts first makes told) memory = cc
+    broken_off result (turned.unkept given cs es is quiet some step lasts tied un) memory = cc
     broken_off result (turned.unmade is un) memory =
-        lacks [] (unmade un.state refl) (un.entries ∙ sym (append-none mid.entries))
+        lacks [] (unmade (inl refl) un.state refl) (un.entries ∙ sym (append-none mid.entries))
     broken_off result (turned.quiet given cs es is quiet step lasts tied makes same) memory = cc
     broken_off result (turned.called k given cs es rest is step lasts first makes told) memory = cc
     broken_off result (turned.idle is rests un) memory = cc
     broken_off result (turned.lost is lost un) memory = cc
     broken_off result (turned.worn is by un) memory = cc
+
+    pub failed_off : (result : turn_type) → Turned e mid new result → result ≡ turn.DiskFault
+        → HasRan n old (page_of new) ran.DiskFault
+    failed_off result (turned.alone k given cs es rest (lacking is size) some step lasts first makes told) fault = cc
+    failed_off result (turned.alone k given cs es rest (failed is) some step lasts first makes told) fault =
+        faults _ (alone (token_of k.calls.row) k.asked given (turned.failed refl)
+        (alone_step mid.state e k given cs es rest some step lasts first) makes.state refl) makes.entries
+    failed_off result (turned.unkept given cs es is quiet some step lasts tied un) fault =
+        faults [] (unmade (inr refl) un.state refl) (un.entries ∙ sym (append-none mid.entries))
+    failed_off result (turned.unmade is un) fault = cc
+    failed_off result (turned.quiet given cs es is quiet step lasts tied makes same) fault = cc
+    failed_off result (turned.called k given cs es rest is step lasts first makes told) fault = cc
+    failed_off result (turned.idle is rests un) fault = cc
+    failed_off result (turned.lost is lost un) fault = cc
+    failed_off result (turned.worn is by un) fault = cc
 
 module _ (n : ℕ) (old new : Page) (made last : ℕ) (so : SoFar old new made last) where
   pub rested : made ≤ n → IsIdle new.state → HasRan n old new (ran.Idle made)

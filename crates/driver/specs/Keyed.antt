@@ -1,4 +1,4 @@
--- What the tables of every run from nothing keep.
+-- What the tables of every state keep that changes made of the empty one.
 use Rattle.std.specs.Prelude.{map}
 use Rattle.row_table.specs.Rows.{row_key}
 use Rattle.mail_table.specs.Mails.{job_key, letter_key}

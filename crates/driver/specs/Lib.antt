@@ -1,6 +1,7 @@
 pub mod Below
 pub mod Rounds
 pub mod Turns
+pub mod Leaving
 pub mod Settled
 pub mod Keyed
 pub mod Parts

@@ -1,5 +1,5 @@
 -- Turns one after another, round the live engines, and how they end.
-use Rattle.std.specs.Prelude.{List, [], length, ℕ, ◌++◌, ◌<◌, ◌∷◌, ◌≡◌, ◌≤◌}
+use Rattle.std.specs.Prelude.{List, [], length, ℕ, ◌++◌, ◌<◌, ◌∷◌, ◌≡◌, ◌≤◌, ◌⊎◌}
 use Rattle.heat_plan.specs.declared.calls.Answered.{Answered}
 use Rattle.heat_plan.specs.declared.calls.Request.{Request}
 use Rattle.heat_plan.specs.declared.token.Token.{Token}
@@ -13,10 +13,11 @@ use Rattle.step_relation.specs.Given.{Given}
 use Rattle.step_relation.specs.Runs.{IsTied}
 use Rattle.step_relation.specs.Steps.{Step}
 use Rattle.step_relation.specs.Turns.{Turn, WearsOut}
-use Rattle.book.specs.Below.{IsOfUnknownSize}
 use Rattle.book.specs.Kept.{unjudged}
 use Rattle.book.specs.Quiet.{IsIdle, Page}
-use Rattle.book.specs.Turned.{IsWornBy}
+use Rattle.book.specs.Turned.{IsWornBy, WhyAlone}
+use Rattle.book.specs.declared.turning.Turn.{Turn as Turn_answer}
+use Rattle.book.specs.declared.turning.Turn.TheVariants as turn
 use Rattle.driver.specs.Rounds.{IsNext}
 use Rattle.driver.specs.declared.ran.Ran.{Ran}
 use Rattle.driver.specs.declared.ran.Ran.TheVariants as ran
@@ -46,12 +47,13 @@ pub data Turns (first : StateData) : StateData → List Entry → List ℕ → T
 abbrev pub called : ℕ → Token → Request → Answered → Entry
 called e token request given = record { by = Engine e; what = what.Call token request given }
 
--- a turn that found no memory: nothing was done, or the call alone was told whose answer couldn't be stored
-pub data Lacks (e : ℕ) (old new : StateData) (es : List Entry) : Type 0 where
-  unmade : new ≡ old → es ≡ [] → Lacks e old new es
-  unstored : (token : Token) (request : Request) (given : Answered) → IsOfUnknownSize given
+-- A turn that found no memory, or that the keeper failed to keep: nothing was done, or the call alone was told whose
+-- step wasn't made.
+pub data Lacks (e : ℕ) (old new : StateData) (es : List Entry) (why : Turn_answer) : Type 0 where
+  unmade : (why ≡ turn.Memory) ⊎ (why ≡ turn.DiskFault) → new ≡ old → es ≡ [] → Lacks e old new es why
+  alone : (token : Token) (request : Request) (given : Answered) → WhyAlone why given
       → Step old [] (called e token request given ∷ []) → new ≡ old → es ≡ called e token request given ∷ []
-      → Lacks e old new es
+      → Lacks e old new es why
 
 -- Turns until the book was idle, at most n. Each answer comes exactly so.
 pub data RanTo (n : ℕ) (old new : StateData) (es : List Entry) (result : Ran) : Type 0 where
@@ -62,8 +64,11 @@ pub data RanTo (n : ℕ) (old new : StateData) (es : List Entry) (result : Ran) 
   worn : (by : List ℕ) (e : ℕ) → length by < n → Turns old new es by → IsNext new (latest by) e → IsWornBy new e
       → result ≡ ran.Worn → RanTo n old new es result
   memory : (by : List ℕ) (e : ℕ) (mid : StateData) (before after : List Entry) → length by < n → Turns old mid before by
-      → IsNext mid (latest by) e → Lacks e mid new after → es ≡ before ++ after → result ≡ ran.Memory
+      → IsNext mid (latest by) e → Lacks e mid new after turn.Memory → es ≡ before ++ after → result ≡ ran.Memory
       → RanTo n old new es result
+  fault : (by : List ℕ) (e : ℕ) (mid : StateData) (before after : List Entry) → length by < n → Turns old mid before by
+      → IsNext mid (latest by) e → Lacks e mid new after turn.DiskFault → es ≡ before ++ after
+      → result ≡ ran.DiskFault → RanTo n old new es result
 
 -- the entries that were added, and how the run ended
 pub record HasRan (n : ℕ) (old new : Page) (result : Ran) : Type 0 where

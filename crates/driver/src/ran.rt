@@ -9,6 +9,8 @@ pub enum Ran {
     Tired(u128),
     /// A number or a key would have come to 2^62.
     Worn,
+    /// The keeper failed, and the book is halted.
+    DiskFault,
     /// There was no memory.
     Memory,
 }

@@ -4,7 +4,7 @@
 
 mod numbering_cloud;
 
-use converge_call::{Outcome, converge_shipped};
+use converge_call::{Outcome, Unkept, converge_shipped};
 use heat_io::{StdSink, StdSource};
 use heat_value::Text;
 use numbering_cloud::NumberingCloud;
@@ -20,8 +20,15 @@ fn run(rt: &HostRuntime) -> Result<u8, AllocError> {
     let mut source = StdSource::new(rt.reader());
     let mut sink = StdSink::new(io::writer(rt));
     let cloud = NumberingCloud::new(alloc);
-    let Outcome { status, end } = converge_shipped(alloc, &words, &mut source, &mut sink, cloud);
-    let _cloud = end.give_back();
+    let Outcome { status, end } = converge_shipped(
+        alloc,
+        &words,
+        &mut source,
+        &mut sink,
+        Unkept,
+        cloud,
+    );
+    let (_keeper, _cloud) = end.give_back();
     Ok(status.code())
 }
 

@@ -1,3 +1,4 @@
 pub mod FileFaults
 pub mod Said
 pub mod Ended
+pub mod Called

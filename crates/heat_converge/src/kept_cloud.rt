@@ -1,7 +1,8 @@
 //! The simulated cloud between two runs: a file that is read before the top call and written after it. What a
 //! file holds, and that it keeps what was synced, is trusted here, and no clause says it.
-ghost use Rattle.std.specs.Prelude.{◌≡◌, IfOk, IfErr};
+ghost use Rattle.std.specs.Prelude.{◌≡◌, ◌≢◌, IfOk, IfErr};
 ghost use Rattle.cloud_file.specs.Files.{IsFileOf};
+ghost use Rattle.heat_converge.specs.Called.{IsEmptyCloud};
 ghost use Rattle.heat_converge.specs.FileFaults.{IsWrong};
 
 use crate::empty_cloud;
@@ -36,10 +37,18 @@ impl From<AllocError> for KeepFault {
 pub fn load(rt: &HostRuntime, path: &Text) -> Result<SimCloud, KeepFault> {
     match fs::read(rt, path.as_str()) {
         Ok(bytes) => cloud_of(rt.alloc(), &bytes),
-        Err(error) => match error.kind() {
-            ErrorKind::NotFound => Ok(empty_cloud(rt.alloc())?),
-            kind => Err(fault_of(kind)),
-        },
+        Err(error) => cloud_without(rt.alloc(), error.kind()),
+    }
+}
+
+// The cloud where no file was read, for this: an empty one exactly where there is no such file.
+fn cloud_without(alloc: Global, kind: ErrorKind) -> Result<SimCloud, KeepFault>
+    ensures none { kind ≡ ErrorKind.NotFound → IfErr result (λ e. e ≡ KeepFault.Memory) }
+    ensures empty { IfOk result (λ c. (kind ≡ ErrorKind.NotFound) × IsEmptyCloud c) }
+{
+    match kind {
+        ErrorKind::NotFound => Ok(empty_cloud(alloc)?),
+        kind => Err(fault_of(kind)),
     }
 }
 
@@ -57,7 +66,10 @@ fn cloud_of(alloc: Global, bytes: &[u8]) -> Result<SimCloud, KeepFault>
 }
 
 // Want of memory, told apart from all else that a file may meet.
-fn fault_of(kind: ErrorKind) -> KeepFault {
+fn fault_of(kind: ErrorKind) -> KeepFault
+    ensures memory { kind ≡ ErrorKind.OutOfMemory → result ≡ KeepFault.Memory }
+    ensures other { kind ≢ ErrorKind.OutOfMemory → result ≡ KeepFault.File FileFault.OutOfReach }
+{
     if kind == ErrorKind::OutOfMemory {
         KeepFault::Memory
     } else {

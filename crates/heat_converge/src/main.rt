@@ -1,8 +1,11 @@
 //! The program: drives stacks of resources to their templates, by a script on standard input, with the
 //! report on standard output. It hands the top call with the shipped registry a simulated cloud and the
-//! adapters over std, says on standard error how it ended, and does nothing else itself. The cloud is that
-//! of a file, which it writes back after the call, or an empty one.
+//! adapters over std, keeps no record, says on standard error how it ended, and does nothing else itself.
+//! The cloud is that of a file, which it writes back after the call, or an empty one.
 #![tactic(auto)]
+
+ghost use Rattle.std.specs.Prelude.{◌≡◌, ◌⊎◌, IfOk};
+ghost use Rattle.heat_converge.specs.Called.{EndsBy, EndsOver, EndsSo, HasCalled, IsEmptyCloud, IsFileSaid};
 
 mod ended;
 mod file_fault;
@@ -11,7 +14,8 @@ mod kept_cloud;
 mod kept_cloud_tests;
 mod said;
 
-use converge_call::{Exit, Outcome, WordsFault, converge_shipped, words_of};
+use converge_call::laws::nothing_kept_is_sound;
+use converge_call::{Exit, Outcome, Unkept, WordsFault, converge_shipped, words_of};
 use ended::Ended;
 use file_fault::{FileFault, line_for};
 use heat_io::{StdSink, StdSource};
@@ -24,7 +28,9 @@ use std::process::ExitCode;
 use std::{env, io};
 
 // An empty cloud.
-fn empty_cloud(alloc: Global) -> Result<SimCloud, AllocError> {
+fn empty_cloud(alloc: Global) -> Result<SimCloud, AllocError>
+    ensures { IfOk result IsEmptyCloud }
+{
     SimCloud::new(Settings::empty(alloc))
 }
 
@@ -38,7 +44,9 @@ fn words_of_args(alloc: Global, args: env::Args) -> Result<Vec<Text>, AllocError
 }
 
 // How the program ends where its words can't be had: one that isn't UTF-8 is of no form.
-fn without_words(error: &io::Error) -> Exit {
+fn without_words(error: &io::Error) -> Exit
+    ensures { (result ≡ Exit.Usage) ⊎ (result ≡ Exit.Memory) }
+{
     if error.kind() == io::ErrorKind::InvalidData {
         Exit::Usage
     } else {
@@ -47,7 +55,9 @@ fn without_words(error: &io::Error) -> Exit {
 }
 
 // The path of the cloud file that the words name, where they are a form.
-fn cloud_path(alloc: Global, words: &[Text]) -> Result<Option<Text>, AllocError> {
+fn cloud_path(alloc: Global, words: &[Text]) -> Result<Option<Text>, AllocError>
+    ensures { IfOk result (λ path. IsFileSaid words.now path) }
+{
     match words_of(alloc, words) {
         Ok(mode) => Ok(mode.setup().cloud),
         Err(WordsFault::Usage) => Ok(None),
@@ -56,7 +66,10 @@ fn cloud_path(alloc: Global, words: &[Text]) -> Result<Option<Text>, AllocError>
 }
 
 // Does what the words ask for, over this cloud and by standard input; the cloud as it is then.
-fn call(rt: &HostRuntime, words: &[Text], cloud: SimCloud) -> (Exit, SimCloud) {
+fn call(rt: &HostRuntime, words: &[Text], cloud: SimCloud) -> (Exit, SimCloud)
+    ensures { HasCalled words.now cloud result.1 result.0 }
+{
+    nothing_kept_is_sound();
     let mut source = StdSource::new(rt.reader());
     let mut sink = StdSink::new(io::writer(rt));
     let Outcome { status, end } = converge_shipped(
@@ -64,13 +77,17 @@ fn call(rt: &HostRuntime, words: &[Text], cloud: SimCloud) -> (Exit, SimCloud) {
         words,
         &mut source,
         &mut sink,
+        Unkept,
         cloud,
     );
-    (status, end.give_back())
+    let (_keeper, cloud) = end.give_back();
+    (status, cloud)
 }
 
 // The same over the cloud of a file, which is written back whatever the status.
-fn call_kept(rt: &HostRuntime, words: &[Text], path: &Text) -> Ended {
+fn call_kept(rt: &HostRuntime, words: &[Text], path: &Text) -> Ended
+    ensures { EndsOver words.now result }
+{
     match load(rt, path) {
         Ok(cloud) => {
             let (status, cloud) = call(rt, words, cloud);
@@ -80,21 +97,29 @@ fn call_kept(rt: &HostRuntime, words: &[Text], path: &Text) -> Ended {
     }
 }
 
+// Does what these words ask for.
+fn run_by(rt: &HostRuntime, words: &[Text]) -> Result<Ended, AllocError>
+    ensures { IfOk result (EndsBy words.now) }
+{
+    match cloud_path(rt.alloc(), words)? {
+        Some(path) => Ok(call_kept(rt, words, &path)),
+        None => {
+            let (status, _cloud) = call(rt, words, empty_cloud(rt.alloc())?);
+            Ok(Ended::Called(status))
+        }
+    }
+}
+
 // Does what the program's words ask for.
-fn run(rt: &HostRuntime) -> Result<Ended, AllocError> {
-    let alloc = rt.alloc();
+fn run(rt: &HostRuntime) -> Result<Ended, AllocError>
+    ensures { IfOk result EndsSo }
+{
     let args = match env::args(rt) {
         Ok(args) => args,
         Err(error) => return Ok(Ended::Called(without_words(&error))),
     };
-    let words = words_of_args(alloc, args)?;
-    match cloud_path(alloc, &words)? {
-        Some(path) => Ok(call_kept(rt, &words, &path)),
-        None => {
-            let (status, _cloud) = call(rt, &words, empty_cloud(alloc)?);
-            Ok(Ended::Called(status))
-        }
-    }
+    let words = words_of_args(rt.alloc(), args)?;
+    run_by(rt, &words)
 }
 
 // Says on standard error how the program ended.

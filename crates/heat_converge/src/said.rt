@@ -25,7 +25,9 @@ fn words_for_exit(exit: &Exit) -> &'static str
         Exit::TooLong => "too long",
         Exit::ReadFault => "read fault",
         Exit::WriteFault => "write fault",
+        Exit::DiskFault => "disk fault",
         Exit::Memory => "no memory",
+        Exit::Foreign => "foreign journal",
         Exit::Disagree(_, _) => "disagree",
         Exit::CloudFault => "cloud fault",
         Exit::Worn => "worn",
@@ -37,6 +39,8 @@ pub fn word_for(finding: Finding) -> &'static str
     ensures { result.now ≡ found_of finding }
 {
     match finding {
+        Finding::Missing => "missing",
+        Finding::Differs => "differs",
         Finding::Stranger => "stranger",
     }
 }

@@ -3,3 +3,4 @@ pub mod Streaming
 pub mod Cuts
 pub mod Nexts
 pub mod Runs
+pub mod Takings

@@ -7,6 +7,12 @@ pub ahead-ahead : (held taken : List ℕ) (left : Option (List ℕ)) → ahead h
 ahead-ahead held taken None = refl
 ahead-ahead held taken (Some rest) = ap Some (sym (append_assoc held taken rest))
 
+-- a piece more is held, which was taken of what was left
+pub ahead-taken : (held taken new : List ℕ) (before left : Option (List ℕ)) → new ≡ held ++ taken → before ≡ ahead taken left
+    → ahead new left ≡ ahead held before
+ahead-taken held taken new before left is came =
+    ap (λ (all : List ℕ). ahead all left) is ∙ sym (ahead-ahead held taken left) ∙ ap (ahead held) (sym came)
+
 pub grown-grown : (held : Option (List ℕ)) (first next : List ℕ) → grown (grown held first) next ≡ grown held (first ++ next)
 grown-grown None first next = refl
 grown-grown (Some all) first next = ap Some (append_assoc all first next)

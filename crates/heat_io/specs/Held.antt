@@ -5,12 +5,13 @@ use Rattle.heat_io.specs.declared.held.Filled.TheVariants as filled
 use Rattle.heat_io.specs.declared.held.Found.{Found}
 use Rattle.heat_io.specs.declared.held.Found.TheVariants as found
 use Rattle.heat_io.specs.Streams.{ahead, IsEmptied}
-use Rattle.heat_io.specs.Lines.{length_of_line, line_limit}
+use Rattle.heat_io.specs.Lines.{length_of_line, line_limit, most_read}
 
--- some bytes of the source are held now, behind the others
+-- some bytes of the source are held now, behind the others, no more than one read takes
 abbrev pub Grows : List ℕ → List ℕ → Option (List ℕ) → Option (List ℕ) → Type 0
 Grows old new left_old left_new =
     (taken : List ℕ) × (0 < length taken) × (new ≡ old ++ taken) × (left_old ≡ ahead taken left_new)
+    × (length taken ≤ most_read)
 
 abbrev pub IsFilled : Filled → List ℕ → List ℕ → Option (List ℕ) → Option (List ℕ) → Type 0
 IsFilled filled.More old new left_old left_new = Grows old new left_old left_new

@@ -45,6 +45,10 @@ line_limit = 1048576
 abbrev pub script_limit : ℕ
 script_limit = 268435456
 
+-- one read takes no more
+abbrev pub most_read : ℕ
+most_read = 4096
+
 -- no more is held than a line at its limit and one read
 abbrev pub most_held : ℕ
-most_held = line_limit + 4096
+most_held = line_limit + most_read

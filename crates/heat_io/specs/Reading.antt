@@ -1,9 +1,10 @@
 -- What a reader of lines holds, and what the next line comes to.
-use Rattle.std.specs.Prelude.{◌≡◌, ℕ, ◌+◌, ◌<◌, ◌≤◌, Bool, true, false, List, []}
+use Rattle.std.specs.Prelude.{◌≡◌, ◌⊎◌, ℕ, ◌+◌, ◌<◌, ◌≤◌, Bool, true, false, List, []}
 use Rattle.std.specs.Prelude.{◌∷◌, ◌++◌, length, take, drop, Option, Some}
 use Rattle.heat_io.specs.declared.next.Next.{Next}
 use Rattle.heat_io.specs.declared.next.Next.TheVariants as next
-use Rattle.heat_io.specs.Lines.{cut_lines, length_of_line, behind_line, size_of_line, line_limit, script_limit}
+use Rattle.heat_io.specs.Lines.{cut_lines, length_of_line, behind_line, size_of_line, line_limit, most_read}
+use Rattle.heat_io.specs.Lines.{script_limit}
 
 pub record Reader : Type 0 where
   -- the bytes that were taken from the source and not given yet
@@ -53,6 +54,35 @@ pub data Reads (given : ℕ) (bytes : List ℕ) : List (List ℕ) → List ℕ �
       (rest : List ℕ) (now : ℕ)
       → Reads given bytes before ahead so_far → GivesLine so_far ahead line rest now → lines ≡ before ++ line ∷ []
       → Reads given bytes lines rest now
+
+-- an LF is among the bytes
+abbrev pub HasEnd : List ℕ → Type 0
+HasEnd bytes = length_of_line bytes < length bytes
+
+-- none is
+abbrev pub HasNoEnd : List ℕ → Type 0
+HasNoEnd bytes = length_of_line bytes ≡ length bytes
+
+-- Bytes are taken behind what is held only up to a line's end: no end stands in front of the last piece
+-- that was taken, which is no more than one read takes.
+pub data StopsAtEnd (held taken : List ℕ) : Type 0 where
+  unread : taken ≡ [] → StopsAtEnd held taken
+  read : (before last : List ℕ) → taken ≡ before ++ last → HasNoEnd (held ++ before) → length last ≤ most_read
+      → StopsAtEnd held taken
+
+-- behind a line less than one read is held, or a rest of what was
+abbrev pub HoldsFew : List ℕ → List ℕ → Type 0
+HoldsFew old new = (length new < most_read) ⊎ ((front : List ℕ) × (old ≡ front ++ new))
+
+-- Lines that a reader gave one after another, whatever its source tells, with what it holds and has given
+-- behind the last: each was the first of what was held and of what was taken for it.
+pub data Gave : List (List ℕ) → List ℕ → ℕ → Type 0 where
+  begins : (lines : List (List ℕ)) (held : List ℕ) (given : ℕ) → lines ≡ [] → held ≡ [] → given ≡ 0
+      → Gave lines held given
+  adds : (before : List (List ℕ)) (mid : List ℕ) (so_far : ℕ) (taken line : List ℕ) (lines : List (List ℕ))
+      (held : List ℕ) (given : ℕ)
+      → Gave before mid so_far → StopsAtEnd mid taken → GivesLine so_far (mid ++ taken) line held given
+      → lines ≡ before ++ line ∷ [] → Gave lines held given
 
 -- They are the first lines of the script, and all of its bytes are counted.
 pub record AreLines (given : ℕ) (bytes : List ℕ) (lines : List (List ℕ)) (rest : List ℕ) (now : ℕ) : Type 0 where

@@ -5,6 +5,7 @@ ghost use Rattle.std.specs.List.{position};
 ghost use Rattle.heat_value.specs.Counts.{Rose};
 ghost use Rattle.heat_io.specs.Streams.{ahead};
 ghost use Rattle.heat_io.specs.Lines.{is_lf, length_of_line, line_limit, most_held};
+ghost use Rattle.heat_io.specs.Reading.{HasEnd, HasNoEnd, StopsAtEnd};
 ghost use Rattle.heat_io.specs.Held.{IsFilled, IsFound};
 
 use crate::source::{Got, Source};
@@ -104,7 +105,9 @@ impl HeldBytes {
         ensures room { length self.new ≤ most_held }
         ensures found { IsFound result self.new (S.left source.new) }
         ensures all { ahead self.new (S.left source.new) ≡ ahead self.old (S.left source.old) }
-        ensures grows { (taken : List ℕ) × (self.new ≡ self.old ++ taken) }
+        ensures grows { (taken : List ℕ) × (self.new ≡ self.old ++ taken) × StopsAtEnd self.old taken }
+        ensures unread { HasEnd self.old → source.new ≡ source.old }
+        ensures unended { result ≡ Found.ReadFault → HasNoEnd self.new }
         ensures later { S.faults source.old ≤ S.faults source.new }
         ensures cause { result ≡ Found.ReadFault →
             Rose (S.faults source.old) (S.faults source.new) }

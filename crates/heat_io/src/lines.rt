@@ -4,7 +4,8 @@ ghost use Rattle.std.specs.Io.BufRead.{strip_last};
 ghost use Rattle.heat_value.specs.Counts.{Rose};
 ghost use Rattle.heat_io.specs.Streams.{ahead};
 ghost use Rattle.heat_io.specs.Lines.{length_of_line, line_limit, script_limit, most_held};
-ghost use Rattle.heat_io.specs.Reading.{IsNext, IsNextOf, IsGiven, is_line};
+ghost use Rattle.heat_io.specs.Reading.{HasEnd, HasNoEnd, HoldsFew, IsNext, IsNextOf, IsGiven, StopsAtEnd};
+ghost use Rattle.heat_io.specs.Reading.{is_line};
 
 pub use crate::held::LINE_LIMIT;
 use crate::held::{Found, HeldBytes};
@@ -56,10 +57,18 @@ impl LineReader {
         ensures told { IsNextOf self.old.given (ahead self.old.held (S.left source.old)) result
             (ahead self.new.held (S.left source.new)) self.new.given }
 
-        // The same over the bytes that were seen, whatever the source tells.
+        // The same over the bytes that were held and taken, whatever the source tells. They are taken only
+        // up to a line's end.
         ensures seen { (taken : List ℕ) × IsNext self.old.given (self.old.held ++ taken) result
-            self.new.held self.new.given }
+            self.new.held self.new.given × StopsAtEnd self.old.held taken }
         ensures room { length self.new.held ≤ most_held }
+
+        // Nothing is read where a line's end is held; behind a line less than one read is held, or a rest
+        // of what was; and no line that was wholly read is held where a read fails.
+        ensures unread { HasEnd self.old.held → source.new ≡ source.old }
+        ensures behind { (line : List ℕ) → result ≡ Next.Line line
+            → HoldsFew self.old.held self.new.held }
+        ensures unended { result ≡ Next.ReadFault → HasNoEnd self.new.held }
 
         ensures goes_on { self.new.goes_on ≡ is_line result }
         ensures later { S.faults source.old ≤ S.faults source.new }
@@ -76,7 +85,9 @@ impl LineReader {
         ensures told { IsNextOf self.old.given (ahead self.old.held (S.left source.old)) result
             (ahead self.new.held (S.left source.new)) self.new.given }
         ensures seen { (taken : List ℕ) × IsNext self.old.given (self.old.held ++ taken) result
-            self.new.held self.new.given }
+            self.new.held self.new.given × StopsAtEnd self.old.held taken }
+        ensures unread { HasEnd self.old.held → source.new ≡ source.old }
+        ensures unended { result ≡ Next.ReadFault → HasNoEnd self.new.held }
         ensures later { S.faults source.old ≤ S.faults source.new }
         ensures cause { result ≡ Next.ReadFault →
             Rose (S.faults source.old) (S.faults source.new) }

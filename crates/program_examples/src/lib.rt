@@ -1,5 +1,5 @@
-//! Runs of the top call as the program makes it, over sources and sinks in memory; the words that the program is
-//! called with; and the text of histories that no script leads to. There are tests alone here, of `converge_call`,
+//! Runs of the top call as the program makes it, over sources, sinks and keepers in memory; the words that the
+//! program is called with; and the text of histories that no script leads to. There are tests alone here, of `converge_call`,
 //! `report` and `headline_reader`; nothing stands on this crate.
 #![tactic(auto)]
 
@@ -7,6 +7,8 @@
 mod fixtures;
 #[cfg(test)]
 mod histories;
+#[cfg(test)]
+mod keepers;
 #[cfg(test)]
 mod outputs;
 #[cfg(test)]

@@ -1,7 +1,7 @@
 //! The histories that the top call writes for scripts, as the plain program for the main theorem's words
 //! reads them.
 use crate::fixtures::{CREATE, drives, joined};
-use converge_call::{Book, End, Outcome};
+use converge_call::{Book, End, Outcome, Unkept};
 use core_state::Entry;
 use headline_reader::{Living, could, fits, mark_of, newest, stored};
 use heat_io::{MemSink, MemSource};
@@ -31,14 +31,17 @@ struct Reading {
 }
 
 // The book behind a script; none where there was no memory for it.
-fn book_behind(alloc: Global, script: &[&str]) -> Result<Option<Book<SimCloud>>, AllocError> {
+fn book_behind(
+    alloc: Global,
+    script: &[&str],
+) -> Result<Option<Book<Unkept, SimCloud>>, AllocError> {
     let script = joined(alloc, script)?;
     let mut source = MemSource::new(alloc, script.as_bytes(), 4096, &[])?;
     let mut sink = MemSink::new(alloc, 4096, &[])?;
     let Outcome { status: _, end } = drives(alloc, &mut source, &mut sink)?;
     match end {
         End::Book(book) => Ok(Some(book)),
-        End::Unopened(_cloud) => Ok(None),
+        End::Unopened(_keeper, _cloud) => Ok(None),
     }
 }
 

@@ -5,4 +5,5 @@ use Rattle.book.proofs.Calling.{asking_of}
 use Rattle.book.proofs.ask.outcomes_of.Goals as goal
 
 pub ask_answered-requires-clause-answer : goal.ask_answered-requires-clause-answer
-ask_answered-requires-clause-answer c k = begun (asking_of c.args.state.now.state c.args.e c.requires.stands k) refl
+ask_answered-requires-clause-answer c k =
+    begun (asking_of c.args.state.now.state c.args.e c.requires.workable.workable.jobs k) refl

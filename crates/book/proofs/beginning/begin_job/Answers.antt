@@ -4,7 +4,7 @@ use Rattle.book.proofs.QuietTurns.{nothing_made, nothing_refused}
 use Rattle.book.proofs.beginning.begin_job.Goals as goal
 
 pub begin_update-requires : goal.begin_update-requires
-begin_update-requires _ c = at_update _ c.requires.stands c.args.e _ c.requires.works _ _ _ _ _ _ c.in-U.is
+begin_update-requires _ c = at_update _ c.requires.workable.workable.graphs c.args.e _ c.requires.works _ _ _ _ _ _ c.in-U.is
     c.in-Some.ensures.some
 
 pub returns-in-None-clause-made : goal.returns-in-None-clause-made

@@ -1,5 +1,5 @@
 -- The step of the answer is made, and the call is told.
-use Rattle.std.proofs.Common.{ap, arith, subst, sym, ◌∙◌}
+use Rattle.std.proofs.Common.{ap, arith, refl, subst, sym, ◌∙◌}
 use Rattle.std.specs.Prelude.{◌≢◌}
 use Rattle.heat_plan.specs.declared.calls.Answered.TheVariants as answer
 use Rattle.heat_plan.specs.declared.calls.Request.{Request}
@@ -9,14 +9,17 @@ use Rattle.mail_table.specs.declared.mail.Stage.TheVariants.{Polling}
 use Rattle.step_relation.specs.Rows.{token_of}
 use Rattle.takeover_steps.specs.Lost as lost
 use Rattle.book.specs.Scenes.{Told}
-use Rattle.book.proofs.Calling.{alive_to_poll, answered, learned, polls_now, tells_one}
+use Rattle.book.proofs.Calling.{alive_to_poll, answer_storable, answered, learned, polls_now, tells_one, tells_some}
+use Rattle.book.proofs.Calling.{workable_of}
+use Rattle.book.proofs.Keepers.{itself}
+use Rattle.book.proofs.Settings.{wants}
 use Rattle.book.proofs.poll.poll_prepared.Goals as goal
 
 pub poll-requires : goal.poll-requires
 poll-requires g c =
     let k = c.requires.calls in
     let p = c.requires.made in
-    alive_to_poll _ _ _ c.requires.sound c.args.e p.row p.called _ p.token k
+    alive_to_poll _ _ _ c.requires.workable c.args.e p.row p.called _ p.token k
     (λ d. c.requires.stays k (ap (λ (r : Row). r.act) (p.called Polling k) ∙ d))
 
 pub learn-requires-clause-token : goal.learn-requires-clause-token
@@ -43,8 +46,7 @@ returns-in-NotYet g c =
     let k = c.requires.calls in
     let p = c.requires.made in
     let stays : p.row.act ≢ Delete = λ d. c.requires.stays k (ap (λ (r : Row). r.act) (p.called Polling k) ∙ d) in
-    answered _ c.args.e p.row p.called _ _ _ _ _ _ answer.NotYet _ p.token p.not_yet c.make_within.ensures.state
-    c.make_within.ensures.entries
+    answered _ c.args.e p.row p.called _ _ _ _ _ _ _ _ _ _ answer.NotYet _ _ p.token p.not_yet c.make_answered.ensures
     (λ r. subst (λ (a : Request). Told c.args.outcomes.token a answer.NotYet (g.P.Provider.cloud c.args.cloud.now)
     (g.P.Provider.cloud c.poll.new.cloud))
     (sym (polls_now _ c.args.e p.row p.called k stays r)) (c.poll.ensures.not_yet c.in-NotYet.is))
@@ -54,8 +56,7 @@ returns-in-Failed g c =
     let k = c.requires.calls in
     let p = c.requires.made in
     let stays : p.row.act ≢ Delete = λ d. c.requires.stays k (ap (λ (r : Row). r.act) (p.called Polling k) ∙ d) in
-    answered _ c.args.e p.row p.called _ _ _ _ _ _ answer.Failed _ p.token p.failed
-    c.make_within-in-Failed.ensures.state c.make_within-in-Failed.ensures.entries
+    answered _ c.args.e p.row p.called _ _ _ _ _ _ _ _ _ _ answer.Failed _ _ p.token p.failed c.make_answered-in-Failed.ensures
     (λ r. subst (λ (a : Request). Told c.args.outcomes.token a answer.Failed (g.P.Provider.cloud c.args.cloud.now)
     (g.P.Provider.cloud c.poll.new.cloud))
     (sym (polls_now _ c.args.e p.row p.called k stays r)) (c.poll.ensures.failed c.in-Failed.is))
@@ -65,7 +66,7 @@ returns-in-Ready g c =
     let k = c.requires.calls in
     let p = c.requires.made in
     let stays : p.row.act ≢ Delete = λ d. c.requires.stays k (ap (λ (r : Row). r.act) (p.called Polling k) ∙ d) in
-    learned _ _ _ _ _ _ c.args.e p.row p.called _ _ _ p.token k stays (lost.ready c.in-Ready.facts) c.learn.ensures
+    learned _ _ _ _ _ _ _ _ _ _ c.args.e p.row p.called _ _ _ p.token k stays c.learn.ensures
     (c.poll.ensures.ready _ c.in-Ready.is)
 
 pub returns-in-Broken : goal.returns-in-Broken
@@ -73,8 +74,7 @@ returns-in-Broken g c =
     let k = c.requires.calls in
     let p = c.requires.made in
     let stays : p.row.act ≢ Delete = λ d. c.requires.stays k (ap (λ (r : Row). r.act) (p.called Polling k) ∙ d) in
-    learned _ _ _ _ _ _ c.args.e p.row p.called _ _ _ p.token k stays
-    (lost.broken c.in-Broken.code) c.learn-in-Broken.ensures
+    learned _ _ _ _ _ _ _ _ _ _ c.args.e p.row p.called _ _ _ p.token k stays c.learn-in-Broken.ensures
     (c.poll.ensures.broken _ c.in-Broken.is)
 
 pub learn-requires-clause-page : goal.learn-requires-clause-page
@@ -86,3 +86,27 @@ pub learn-requires-in-Broken-clause-page : goal.learn-requires-in-Broken-clause-
 learn-requires-in-Broken-clause-page g c =
     let one = tells_one _ c.args.e answer.NotYet c.args.outcomes.not_yet c.requires.made.not_yet in
     omega (arith, one, c.requires.room.not_yet.entries)
+
+pub make_answered-requires-clause-storable : goal.make_answered-requires-clause-storable
+make_answered-requires-clause-storable g c = answer_storable _ (workable_of _ _ _ c.requires.workable) c.args.e
+    answer.NotYet _ c.requires.made.not_yet
+
+pub make_answered-requires-clause-tells : goal.make_answered-requires-clause-tells
+make_answered-requires-clause-tells g c = tells_some _ c.args.e answer.NotYet _ c.requires.made.not_yet
+
+pub make_answered-requires-in-Failed-clause-storable : goal.make_answered-requires-in-Failed-clause-storable
+make_answered-requires-in-Failed-clause-storable g c = answer_storable _ (workable_of _ _ _ c.requires.workable) c.args.e
+    answer.Failed _ c.requires.made.failed
+
+pub make_answered-requires-in-Failed-clause-tells : goal.make_answered-requires-in-Failed-clause-tells
+make_answered-requires-in-Failed-clause-tells g c = tells_some _ c.args.e answer.Failed _ c.requires.made.failed
+
+pub returns-in-Memory : goal.returns-in-Memory
+returns-in-Memory g c = wants c.args.e _ _ _ _ _ _ _ _ _ _ _ (g.met.K.Keeper.lawful _) refl refl (itself _) refl
+    c.requires.ready (c.poll.ensures.memory c.in-Memory.is)
+
+pub learn-requires-clause-workable : goal.learn-requires-clause-workable
+learn-requires-clause-workable g c = workable_of _ _ _ c.requires.workable
+
+pub learn-requires-in-Broken-clause-workable : goal.learn-requires-in-Broken-clause-workable
+learn-requires-in-Broken-clause-workable g c = workable_of _ _ _ c.requires.workable

@@ -2,6 +2,7 @@
 use Rattle.std.proofs.Common.{refl, sym, List, Option, subst}
 use Rattle.heat_value.specs.declared.path.Step.{Step}
 use Rattle.converge_call.specs.Notes.{refused_at, Notes}
+use Rattle.converge_call.proofs.Carrying.{carries_none}
 use Rattle.converge_call.proofs.Noting.{does_as, nothing_done}
 use Rattle.converge_call.proofs.commands.refuse_plan.Goals as goal
 
@@ -16,3 +17,9 @@ returns-in-Some-clause-done g c =
 
 pub returns-in-None-clause-done : goal.returns-in-None-clause-done
 returns-in-None-clause-done g c = nothing_done _ _ _ _ refl refl
+
+pub returns-in-None-clause-carries : goal.returns-in-None-clause-carries
+returns-in-None-clause-carries g c = carries_none g.K.Keeper.shown g.P.Provider.cloud c.args.book.now
+
+pub returns-in-None-clause-halt : goal.returns-in-None-clause-halt
+returns-in-None-clause-halt g c = λ goes. goes

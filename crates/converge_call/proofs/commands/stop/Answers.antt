@@ -1,7 +1,9 @@
 -- An engine that was stopped, and one that isn't live.
-use Rattle.std.proofs.Common.{refl}
+use Rattle.std.proofs.Common.{Ok, ap, refl}
 use Rattle.driver.specs.Quiet.{page}
-use Rattle.converge_call.proofs.Ordering.{step_done, step_refused}
+use Rattle.converge_call.proofs.Carrying.{carries_grown, carries_step}
+use Rattle.converge_call.proofs.Halting.{halts_else, halts_refused}
+use Rattle.converge_call.proofs.Ordering.{does_grows, step_done, step_refused}
 use Rattle.converge_call.proofs.commands.stop.Goals as goal
 
 pub returns-in-Ok-clause-done : goal.returns-in-Ok-clause-done
@@ -10,9 +12,37 @@ returns-in-Ok-clause-done g c =
     let new = page c.stop.new.self.state c.stop.new.self.entries in
     step_done c.args.number _ _ _ old new new _ _ (λ es it. it) _ c.in-Ok.ensures.stopped refl
 
+pub returns-in-Ok-clause-carries : goal.returns-in-Ok-clause-carries
+returns-in-Ok-clause-carries g c =
+    let old = page c.args.book.now.state c.args.book.now.entries in
+    let new = page c.stop.new.self.state c.stop.new.self.entries in
+    let (es, grows) = does_grows _ _ _ old new _ c.in-Ok.ensures.stopped in
+    carries_step g.K.Keeper.shown g.P.Provider.cloud c.args.book.now c.stop.new.self es _ _ c.promises.ensures.run
+    c.promises.ensures.held.goes_on c.stop.ensures.same grows c.stop.ensures.records
+
+pub returns-in-Ok-clause-halt : goal.returns-in-Ok-clause-halt
+returns-in-Ok-clause-halt g c = halts_else g.K.Keeper.faults _ _ c.args.book.now c.stop.new.self (Ok tt)
+    c.in-Ok.ensures.halt (λ e. cc) refl
+
 pub returns-in-Err-clause-done : goal.returns-in-Err-clause-done
 returns-in-Err-clause-done g c =
     let old = page c.args.book.now.state c.args.book.now.entries in
     let mid = page c.stop.new.self.state c.stop.new.self.entries in
-    step_refused c.args.number _ _ _ old mid _ _ _
-    (λ es it. it) c.in-Err.refusal c.in-Err.ensures.stopped c.refuse_for.ensures.done
+    step_refused c.args.number _ _ _ old mid _ _ _ (λ es it. it) c.in-Err.refusal
+    c.in-Err.ensures.stopped
+    c.refuse_for.ensures.done
+
+pub returns-in-Err-clause-carries : goal.returns-in-Err-clause-carries
+returns-in-Err-clause-carries g c =
+    let old = page c.args.book.now.state c.args.book.now.entries in
+    let mid = page c.stop.new.self.state c.stop.new.self.entries in
+    let (es, grows) = does_grows _ _ _ old mid _
+    c.in-Err.ensures.stopped in
+    carries_grown g.K.Keeper.shown g.P.Provider.cloud c.args.book.now c.stop.new.self c.refuse_for.new.book
+    (carries_step g.K.Keeper.shown g.P.Provider.cloud c.args.book.now c.stop.new.self es _ _ c.promises.ensures.run
+    c.promises.ensures.held.goes_on c.stop.ensures.same grows c.stop.ensures.records)
+    c.refuse_for.ensures.carries c.refuse_for.ensures.only
+
+pub returns-in-Err-clause-halt : goal.returns-in-Err-clause-halt
+returns-in-Err-clause-halt g c = halts_refused g.K.Keeper.faults c.args.book.now c.stop.new.self c.refuse_for.new.book
+    c.in-Err.refusal _ c.in-Err.ensures.halt (ap (λ b. b.halt) c.refuse_for.ensures.only) c.refuse_for.ensures.halts

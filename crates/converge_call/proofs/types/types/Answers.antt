@@ -5,6 +5,7 @@ use Rattle.hot_catalog.specs.Catalogs.{IsFaultOf}
 use Rattle.hot_catalog.specs.declared.fault.CatalogFault.{CatalogFault}
 use Rattle.converge_call.specs.Commands.{taken, not_taken}
 use Rattle.converge_call.specs.Stocks as stocks
+use Rattle.converge_call.proofs.Carrying.{carries_none}
 use Rattle.converge_call.proofs.Lining.{where_well}
 use Rattle.converge_call.proofs.Noting.{does_as, nothing_done, nothing_to_do}
 use Rattle.converge_call.proofs.types.types.Goals as goal
@@ -27,3 +28,15 @@ returns-in-Err-L09-clause-kinds g c =
 
 pub returns-in-Err-Memory-clause-done : goal.returns-in-Err-Memory-clause-done
 returns-in-Err-Memory-clause-done g c = λ tests. nothing_done _ _ _ _ refl refl
+
+pub returns-in-Ok-clause-carries : goal.returns-in-Ok-clause-carries
+returns-in-Ok-clause-carries g c = carries_none g.K.Keeper.shown g.P.Provider.cloud c.args.book.now
+
+pub returns-in-Ok-clause-halt : goal.returns-in-Ok-clause-halt
+returns-in-Ok-clause-halt g c = λ goes. goes
+
+pub returns-in-Err-Memory-clause-carries : goal.returns-in-Err-Memory-clause-carries
+returns-in-Err-Memory-clause-carries g c = carries_none g.K.Keeper.shown g.P.Provider.cloud c.args.book.now
+
+pub returns-in-Err-Memory-clause-halt : goal.returns-in-Err-Memory-clause-halt
+returns-in-Err-Memory-clause-halt g c = λ goes. goes

@@ -16,6 +16,6 @@ returns-in-None-clause-none g c = λ none. all_idle c.args.book.now.state c.requ
     (c.first_from-in-None.ensures.none none)
 
 pub returns-in-None-clause-settled : goal.returns-in-None-clause-settled
-returns-in-None-clause-settled g c = λ none. c.promises.ensures.headline.headline.settled
+returns-in-None-clause-settled g c = λ none sound. (c.promises.ensures.headline sound).headline.settled
     (as_book c.args.book.now.state
     (all_idle c.args.book.now.state c.requires.live (c.first_from-in-None.ensures.none none)))

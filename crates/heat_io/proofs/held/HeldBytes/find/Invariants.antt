@@ -2,6 +2,7 @@ use Rattle.std.proofs.Common.{◌≡◌, ◌≤◌, ◌-◌, ◌++◌, List, ℕ
 use Rattle.std.specs.List.{position}
 use Rattle.heat_io.specs.Streams.{ahead}
 use Rattle.heat_io.specs.Lines.{is_lf, most_held}
+use Rattle.heat_io.specs.Reading.{HasEnd, StopsAtEnd}
 use Rattle.heat_io.proofs.held.HeldBytes.find.Given as goal
 
 -- all that is held was searched, and nothing is lost
@@ -10,7 +11,8 @@ invariant-loop-self g l = record {
   room : length l.self ≤ most_held;
   searched : l.end ≡ position is_lf l.self;
   all : ahead l.self (g.S.Source.left l.source) ≡ ahead l.initial.self (g.S.Source.left l.initial.source);
-  grows : (taken : List ℕ) × (l.self ≡ l.initial.self ++ taken);
+  grows : (taken : List ℕ) × (l.self ≡ l.initial.self ++ taken) × StopsAtEnd l.initial.self taken;
+  unread : HasEnd l.initial.self → l.source ≡ l.initial.source;
   later : g.S.Source.faults l.initial.source ≤ g.S.Source.faults l.source;
 }
 
