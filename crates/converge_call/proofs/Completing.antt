@@ -33,7 +33,7 @@ use Rattle.converge_call.specs.Lines.{AskedBreaks, LineBreaks}
 use Rattle.converge_call.specs.Lines as lines
 use Rattle.converge_call.specs.Stocks.{Stock}
 use Rattle.converge_call.specs.Sources.{LimitRead, StaysWithin}
-use Rattle.converge_call.specs.Drives.{Drove, line_end}
+use Rattle.converge_call.specs.Drives.{Drove, EndsWriting, line_end}
 use Rattle.converge_call.specs.Drives as drives
 use Rattle.converge_call.specs.Ends.{Outside, streams_of, HasFailedList, IsCalm, EndsCalmly, opening_in}
 use Rattle.converge_call.proofs.Differing.{found_not}
@@ -82,7 +82,7 @@ module _ (count : ℕ) (recalls : Bool) (cloud : Cloud) (last : StateData) (reca
   restart_by before _ (of_book.disagree all token finding lists found) =
       absurd (found_not (opening_at last cloud) token finding admitted.compared found)
   restart_by before _ (of_book.cloud_fault none) = absurd (listed (before.trace, none.noted.trace))
-  restart_by before _ (of_book.worn all lists over) = absurd (omega (arith, over, engines))
+  restart_by before _ (of_book.worn all lists nothing over) = absurd (omega (arith, over, engines))
   restart_by before _ (of_book.disk_fault may) = inr refl
   restart_by before _ (of_book.memory may) = inl refl
 
@@ -125,6 +125,10 @@ no_limit left left_new all stays limit =
     let (rest, given, read, past) = limit.told stays.bytes stays.told in
     stays.within all rest given read past
 
+unwritten : (status : Exit) → EndsWriting status → (status ≡ exit.WriteFault) ⊎ (status ≡ exit.Memory)
+unwritten _ drives.write_fault = inl refl
+unwritten _ drives.no_memory = inr refl
+
 module _ (t : Stock) (recalls : Bool) (first last : Scene) (halt : Option Halt) (old new : Outside) (status : Exit)
     (read : status ≡ exit.ReadFault → Rose old.read_faults new.read_faults)
     (write : status ≡ exit.WriteFault → Rose old.write_faults new.write_faults)
@@ -145,6 +149,5 @@ module _ (t : Stock) (recalls : Bool) (first last : Scene) (halt : Option Halt) 
       calm.listed calm.unworn calm.engines (opening_in first) so_far refl mid rest status line halt breaks)
       [ inl memory ↦ inr memory | inr fault ↦ absurd (calm.disk (disk fault)) ]
   calm_end (drives.not_written all mid so_far line es written rest u run behind does parts reads text grows goes
-      drives.write_fault) calm = absurd (calm.write (write refl))
-  calm_end (drives.not_written all mid so_far line es written rest u run behind does parts reads text grows goes
-      drives.no_memory) calm = inr refl
+      ends) calm =
+      elim (unwritten status ends) [ inl fault ↦ absurd (calm.write (write fault)) | inr memory ↦ inr memory ]

@@ -10,6 +10,14 @@ use Rattle.step_relation.specs.Opening.{Opening}
 use Rattle.opening_check.specs.Findings.{HasFound}
 use Rattle.opening_check.specs.declared.finding.Finding.{Finding}
 use Rattle.opening_check.specs.declared.finding.Finding.TheVariants.{Differs, Missing, Stranger}
+use Rattle.converge_call.proofs.Showing.{some_mapped}
+
+-- what is found in a list is found in a longer one
+found_behind : (a : Alive) (rest : List Alive) (t : Token) (b : Bool) → same_token a.token t ≡ b
+    → IsSome (find (λ (x : Alive). same_token x.token t) rest)
+    → IsSome (find (λ (x : Alive). same_token x.token t) (a ∷ rest))
+found_behind a rest t true e found = rw e refl
+found_behind a rest t false e found = rw e found
 
 -- what stands in a list is found there
 found_in : (before : List Alive) (it : Alive) (behind : List Alive) (t : Token) → it.token ≡ t
@@ -18,17 +26,11 @@ found_in [] it behind t is =
     let same : same_token it.token t ≡ true =
     subst (λ (x : Token). same_token it.token x ≡ true) is (same_token-same it.token) in
     rw same refl
-found_in (a ∷ before) it behind t is = by (same_token a.token t) refl where
-  by : (b : Bool) → same_token a.token t ≡ b
-      → IsSome (find (λ (x : Alive). same_token x.token t) (a ∷ before ++ it ∷ behind))
-  by true e = rw e refl
-  by false e = rw e (found_in before it behind t is)
+found_in (a ∷ before) it behind t is =
+    found_behind a (before ++ it ∷ behind) t (same_token a.token t) refl (found_in before it behind t is)
 
 unlisted_not : (o : Opening) (t : Token) → FindsNothing o → IsFirstUnlisted o t → ⊥
 unlisted_not o t nothing k = k.unlisted (nothing.rows t.row k.row k.found)
-
-some_mapped : {A B : Type 0} (f : A → B) (x : _) → IsSome x → IsSome (option_map f x)
-some_mapped f (Some a) is = refl
 
 stranger_not : (o : Opening) (t : Token) → FindsNothing o → FindsStranger o t → ⊥
 stranger_not o t nothing k =

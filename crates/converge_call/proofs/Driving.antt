@@ -212,6 +212,7 @@ pub ends_shortened : {K P : Type 0} (shown : K → ShownKeeper) (old : Streams) 
     → SoFar old o first t (page mid.state mid.entries) held left holds given number → mid.halt ≡ None
     → ends.halt ≡ new.halt → Shortens shown mid new (Err status)
     → Drove o first recalls old (streams left holds) new.state new.entries ends status
+unfolding still_so
 ends_shortened shown old o first t recalls mid new held left holds given number ends status so goes halts it =
     by it where
       still : SoFar old o first t (page new.state new.entries) held left holds given number
@@ -238,6 +239,7 @@ ends_shortened shown old o first t recalls mid new held left holds given number 
 pub ends_unbegun : (old : Streams) (o : Opening) (first : Stock) (recalls : Bool) (now : Page) (ends : LineEnd)
     → now.state ≡ o.state → now.entries ≡ [] → ends.halt ≡ None
     → Drove o first recalls old old now.state now.entries ends exit.Memory
+unfolding starts
 ends_unbegun old o first recalls now ends at_start none goes =
     ends_lacking old o first first recalls now [] old.left old.holds 0 1 so old.left ends
     (just_read old.left [] old.left [] 0 so.at).first goes where

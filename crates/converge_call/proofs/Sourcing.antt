@@ -114,12 +114,14 @@ module _ (left_old : Option (List ℕ)) (held : List ℕ) (left : Option (List �
 
     pub unended_read : Tells next.ReadFault → Sees next.ReadFault → HasNoEnd held_new
         → UnendedRead left_old left_new lines
+    unfolding not_read
     unended_read tells sees none = record {
       first = not_read next.ReadFault tells sees.rest_same (λ bytes rest says. says.rest_same);
       unended = subst HasNoEnd sees.rest_same none;
     }
 
     pub long_line : Tells next.LineTooLong → Sees next.LineTooLong → LimitRead left_old left_new lines
+    unfolding not_read
     long_line tells sees = record {
       first = not_read next.LineTooLong tells sees.1.rest_same (λ bytes rest says. says.1.rest_same);
       passes = inl sees.0;
@@ -129,6 +131,7 @@ module _ (left_old : Option (List ℕ)) (held : List ℕ) (left : Option (List �
     }
 
     pub long_script : Tells next.ScriptTooLong → Sees next.ScriptTooLong → LimitRead left_old left_new lines
+    unfolding not_read
     long_script tells sees = record {
       first = not_read next.ScriptTooLong tells sees.2.rest_same (λ bytes rest says. says.2.rest_same);
       passes = inr (sees.0, sees.1);
@@ -147,6 +150,7 @@ module _ (left_old : Option (List ℕ)) (held : List ℕ) (left : Option (List �
 
     -- nothing is ahead
     pub all_read : Tells next.End → Sees next.End → AllRead left_old left_new lines
+    unfolding not_read
     all_read tells sees = record {
       first = not_read next.End tells sees.1.rest_same (λ bytes rest says. says.1.rest_same);
       none = sees.0;

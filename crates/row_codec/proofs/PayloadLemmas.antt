@@ -31,26 +31,23 @@ more_left bytes rest cs some t ds is =
 none_read : (bytes : List ℕ) → Lacks spelled AreProper bytes → (ds : List Change) → IsSpelling bytes ds → ⊥
 none_read bytes h ds is = h.none ds [] is.1 (is.0 ∙ sym (append-nil (spelled ds)))
 
-module _ {A E : Type 0} (view : A → List Change) where
-  pub some_read : (r : Result (Option A) E) (bytes rest : List ℕ) (cs : List Change)
-      → Takes spelled AreProper bytes cs rest → IfOk r (λ o. IfSome o (λ v. (view v ≡ cs) × (length rest ≡ 0)))
-      → IfOk r (λ o. IfSome o (λ v. IsSpelling bytes (view v)))
-  some_read (Ok (Some v)) bytes rest cs t h =
-      subst (IsSpelling bytes) (sym h.0) (all_read bytes rest cs h.1 t)
-  some_read (Ok None) bytes rest cs t h = tt
-  some_read (Err e) bytes rest cs t h = tt
+pub some_read : {A : Type 0} (view : A → List Change) (r : Option A) (bytes rest : List ℕ) (cs : List Change)
+    → Takes spelled AreProper bytes cs rest → IfSome r (λ v. (view v ≡ cs) × (length rest ≡ 0))
+    → IfSome r (λ v. IsSpelling bytes (view v))
+some_read view (Some v) bytes rest cs t h = subst (IsSpelling bytes) (sym h.0) (all_read bytes rest cs h.1 t)
+some_read view None bytes rest cs t h = tt
 
+module _ {A E : Type 0} (view : A → List Change) where
   pub no_some : (r : Result (Option A) E) (bytes : List ℕ) (Q : Type 0) → IfOk r (λ o. IsNone o × Q)
       → IfOk r (λ o. IfSome o (λ v. IsSpelling bytes (view v)))
   no_some (Ok (Some v)) bytes Q h = absurd (let none = h.0 in cc)
   no_some (Ok None) bytes Q h = tt
   no_some (Err e) bytes Q h = tt
 
-pub none_left : {A E : Type 0} (r : Result (Option A) E) (bytes rest : List ℕ) (cs : List Change)
-    → Takes spelled AreProper bytes cs rest → IfOk r (λ o. IsNone o → 0 < length rest)
-    → IfOk r (λ o. IsNone o → (ds : List Change) → ¬ IsSpelling bytes ds)
-none_left (Ok o) bytes rest cs t h = λ none ds. more_left bytes rest cs (h none) t ds
-none_left (Err e) bytes rest cs t h = tt
+pub none_left : {A : Type 0} (r : Option A) (bytes rest : List ℕ) (cs : List Change)
+    → Takes spelled AreProper bytes cs rest → (IsNone r → 0 < length rest)
+    → IsNone r → (ds : List Change) → ¬ IsSpelling bytes ds
+none_left r bytes rest cs t h none ds = more_left bytes rest cs (h none) t ds
 
 pub none_unread : {A E : Type 0} (r : Result (Option A) E) (bytes : List ℕ) (why : Unread)
     → Refuses spelled AreProper bytes why → IfOk r (λ o. IsNone o × (why ≡ unread.Unspelled))

@@ -1,5 +1,6 @@
 //! Reading changes: a tag from 1, and the fields behind it.
 ghost use Rattle.std.specs.Prelude.{◌∷◌, IfOk, IfErr};
+ghost use Rattle.plan_codec.specs.Parts.{spelled_list, AreAll};
 ghost use Rattle.plan_codec.specs.Spellings.{Takes, Refuses};
 ghost use Rattle.row_codec.specs.Changes.{spelled_change, IsProper};
 
@@ -17,22 +18,20 @@ use plan_codec::{EngineNo, LetterNo, Readable, RowNo, StackName, Unread};
 use std::alloc::Global;
 use traversal_graph::TravGraph;
 
-impl Readable for Of<Change> {
-    ghost use Rattle.row_codec.specs.Changes.{spelled_change, IsProper};
-    ghost use Rattle.row_codec.specs.ChangeLaws.{change_unique};
-
-    ghost spelled = { spelled_change };
-
-    ghost proper = { IsProper };
-
-    fn read<'a>(alloc: Global, bytes: &'a [u8]) -> Result<(Of<Change>, &'a [u8]), Unread> {
-        match change_at(alloc, bytes) {
-            Ok((change, rest)) => Ok((Of { thing: change }, rest)),
-            Err(why) => Err(why),
-        }
+/// The changes at the front: how many, and each. Nothing is taken for what their number claims: the list grows as
+/// changes are read.
+pub(crate) fn changes_at(alloc: Global, bytes: &[u8]) -> Result<(Vec<Change>, &[u8]), Unread>
+    ensures ok { IfOk result (λ x. Takes (spelled_list spelled_change) (AreAll IsProper) bytes.now x.0.items x.1.now) }
+    ensures err { IfErr result (Refuses (spelled_list spelled_change) (AreAll IsProper) bytes.now) }
+{
+    let (count, mut rest) = u64::read(alloc, bytes)?;
+    let mut all = Vec::new(alloc);
+    for _ in 0..count {
+        let (change, behind) = change_at(alloc, rest)?;
+        all.push(change)?;
+        rest = behind;
     }
-
-    ghost unique = { change_unique };
+    Ok((all, rest))
 }
 
 // The change at the front.

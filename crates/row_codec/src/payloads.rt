@@ -5,9 +5,9 @@ ghost use Rattle.plan_codec.specs.Sheets.{behind};
 ghost use Rattle.row_codec.specs.Changes.{spelled, AreProper, IsSpelling, IsStorable};
 
 use crate::change_puts::put_change;
-use crate::of::{Of, all_of};
+use crate::change_reads::changes_at;
 use core_state::{Change, Ready};
-use plan_codec::{Sheet, Unread, items_at, put_number};
+use plan_codec::{Sheet, Unread, put_number};
 use std::alloc::{AllocError, Global};
 
 /// The changes that the bytes are the spelling of; none where they are the spelling of none.
@@ -15,26 +15,21 @@ pub fn read(alloc: Global, bytes: &[u8]) -> Result<Option<Vec<Change>>, AllocErr
     ensures some { IfOk result (λ o. IfSome o (λ v. IsSpelling bytes.now v.items)) }
     ensures none { IfOk result (λ o. IsNone o → (cs : List change_type) → ¬ IsSpelling bytes.now cs) }
 {
-    match items_at::<Of<Change>>(alloc, bytes) {
-        Ok((changes, rest)) => whole(alloc, changes, rest),
+    match changes_at(alloc, bytes) {
+        Ok((changes, rest)) => Ok(whole(changes, rest)),
         Err(why) => nothing_read(why),
     }
 }
 
 // The changes that were read, where nothing is left behind them.
-fn whole(
-    alloc: Global,
-    changes: Vec<Of<Change>>,
-    rest: &[u8],
-) -> Result<Option<Vec<Change>>, AllocError>
-    ensures some { IfOk result (λ o. IfSome o (λ v. (v.items ≡ changes.items) × (length rest.now ≡ 0))) }
-    ensures none { IfOk result (λ o. IsNone o → 0 < length rest.now) }
+fn whole(changes: Vec<Change>, rest: &[u8]) -> Option<Vec<Change>>
+    ensures some { IfSome result (λ v. (v.items ≡ changes.items) × (length rest.now ≡ 0)) }
+    ensures none { IsNone result → 0 < length rest.now }
 {
     if rest.len() > 0 {
-        return Ok(None);
+        return None;
     }
-    let all = all_of(alloc, changes)?;
-    Ok(Some(all))
+    Some(changes)
 }
 
 // What there is where no changes were read.

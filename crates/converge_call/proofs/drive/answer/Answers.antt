@@ -19,6 +19,6 @@ returns-in-Ok-clause-unhalted g c = where_well _ c.write_from.result
     (goes_well _ _ c.do_line.ensures.unhalted c.in-Ok.is)
 
 pub write_from-requires-clause-seen : goal.write_from-requires-clause-seen
-write_from-requires-clause-seen g c = seen_then _ _ _ _ _ _ _ _ _ c.do_line.result c.do_line.ensures.done _ _ _
+write_from-requires-clause-seen g c = seen_then _ _ _ _ _ _ _ _ (g.W.Sink.holds c.args.sink.now) c.do_line.result c.do_line.ensures.done _ _ _
     (length c.entries-from.result.now) c.do_line.ensures.carries.same.opening (ap length c.entries-from.ensures)
     c.requires.seen

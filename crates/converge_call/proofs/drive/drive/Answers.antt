@@ -1,5 +1,5 @@
 -- The lines so far, and the next one.
-use Rattle.std.proofs.Common.{◌∙◌, ◌≤◌, ◌+◌, List, [], absurd, refl, sym, ap, map, arith}
+use Rattle.std.proofs.Common.{◌∙◌, ◌≤◌, ◌+◌, List, [], refl, sym, ap, map, arith}
 use Rattle.core_state.specs.State.{StateData}
 use Rattle.core_state.specs.declared.entry.Entry.{Entry}
 use Rattle.heat_io.specs.Reading.{Reader}
@@ -44,8 +44,8 @@ loop-number-init g c = record {
 pub loop-number-preserved : goal.loop-number-preserved
 loop-number-preserved g c = record {
   so = still_so _ _ _ _ (page c.answer.new.book.state c.answer.new.book.entries) _ _ _ _ _ _
-      (shortened_state g.K.Keeper.shown _ _ _ c.shorten-2.ensures.shortens)
-      (shortened_entries g.K.Keeper.shown _ _ _ c.shorten-2.ensures.shortens)
+      (shortened_state g.K.Keeper.shown _ _ _ c.shorten-in-loop-number.ensures.shortens)
+      (shortened_entries g.K.Keeper.shown _ _ _ c.shorten-in-loop-number.ensures.shortens)
       (goes_on _ _ _ _ _ _ _ _ _ _ _ c.loop-number.invariant.so _ _ c.next.new.self.given c.in-Line.line
       (stock (map (λ t. t.test) c.args.registry.now.customs) c.answer.new.catalog) _
       (line_end (g.P.Provider.cloud c.answer.new.book.cloud) c.answer.new.book.halt) _ _
@@ -60,16 +60,16 @@ loop-number-preserved g c = record {
   writes = omega (arith, c.loop-number.invariant.writes, c.answer.ensures.later);
   carried = carries_then g.K.Keeper.shown g.P.Provider.cloud _ _ _ (λ goes. c.in-Ok-answer.ensures.unhalted)
       (carries_then g.K.Keeper.shown g.P.Provider.cloud _ _ _ (λ goes. c.loop-number.invariant.unhalted)
-      c.loop-number.invariant.carried c.answer.ensures.carries) c.shorten-2.ensures.carries;
-  unhalted = shortened_halt g.K.Keeper.shown _ _ _ c.shorten-2.ensures.shortens c.in-Ok-shorten-2.is
+      c.loop-number.invariant.carried c.answer.ensures.carries) c.shorten-in-loop-number.ensures.carries;
+  unhalted = shortened_halt g.K.Keeper.shown _ _ _ c.shorten-in-loop-number.ensures.shortens c.in-Ok-shorten-2.is
       ∙ c.in-Ok-answer.ensures.unhalted;
-  short = shortened_short g.K.Keeper.shown _ _ _ c.shorten-2.ensures.shortens c.in-Ok-shorten-2.is;
+  short = shortened_short g.K.Keeper.shown _ _ _ c.shorten-in-loop-number.ensures.shortens c.in-Ok-shorten-2.is;
   goes_on = c.in-Line.ensures.goes_on;
   seen = c.in-Ok-answer.ensures.seen
       ∙ ap (λ (s : StateData). seen_after (seen_of s) c.answer.new.book.entries)
-      (sym (shortened_opening g.K.Keeper.shown _ _ _ c.shorten-2.ensures.shortens))
-      ∙ ap (λ (h : List Entry). seen_after (seen_of c.shorten-2.new.book.opening) h)
-      (sym (shortened_entries g.K.Keeper.shown _ _ _ c.shorten-2.ensures.shortens));
+      (sym (shortened_opening g.K.Keeper.shown _ _ _ c.shorten-in-loop-number.ensures.shortens))
+      ∙ ap (λ (h : List Entry). seen_after (seen_of c.shorten-in-loop-number.new.book.opening) h)
+      (sym (shortened_entries g.K.Keeper.shown _ _ _ c.shorten-in-loop-number.ensures.shortens));
 }
 
 pub shorten-requires : goal.shorten-requires
@@ -78,8 +78,8 @@ shorten-requires g c = c.requires.unhalted
 pub answer-requires : goal.answer-requires
 answer-requires g c = record { seen = c.loop-number.invariant.seen; unhalted = c.loop-number.invariant.unhalted }
 
-pub shorten-2-requires : goal.shorten-2-requires
-shorten-2-requires g c = c.in-Ok-answer.ensures.unhalted
+pub shorten-requires-in-loop-number : goal.shorten-requires-in-loop-number
+shorten-requires-in-loop-number g c = c.in-Ok-answer.ensures.unhalted
 
 -- before the first line
 pub returns-in_default-clause-drove : goal.returns-in_default-clause-drove
@@ -223,7 +223,7 @@ pub returns-in-Err-shorten-clause-carries : goal.returns-in-Err-shorten-clause-c
 returns-in-Err-shorten-clause-carries g c =
     carries_then g.K.Keeper.shown g.P.Provider.cloud _ _ _ (λ goes. c.in-Ok-answer.ensures.unhalted)
     (carries_then g.K.Keeper.shown g.P.Provider.cloud _ _ _ (λ goes. c.loop-number.invariant.unhalted)
-    c.loop-number.invariant.carried c.answer.ensures.carries) c.shorten-2.ensures.carries
+    c.loop-number.invariant.carried c.answer.ensures.carries) c.shorten-in-loop-number.ensures.carries
 
 pub unreachable-requires : goal.unreachable-requires
 unreachable-requires g c =

@@ -1,6 +1,7 @@
 -- How the turns ended, and the note of it.
-use Rattle.std.proofs.Common.{◌∙◌, refl}
+use Rattle.std.proofs.Common.{◌∙◌, Err, refl}
 use Rattle.driver.specs.Kept.{opening_of}
+use Rattle.converge_call.specs.declared.exit.Exit.TheVariants as exit
 use Rattle.converge_call.proofs.Carrying.{carries_then, carries_turns}
 use Rattle.converge_call.proofs.Halting.{halts_by_fault, halts_else, halts_then}
 use Rattle.converge_call.proofs.Running.{settled_as, idle_noted, tired_noted, run_stopped, is_short}
@@ -59,16 +60,16 @@ returns-in-Worn-clause-carries g c = carries_turns g.K.Keeper.shown g.P.Provider
     c.turns.ensures.ran.added c.turns.ensures.same c.turns.ensures.ran.entries c.turns.ensures.leaves
 
 pub returns-in-Worn-clause-halt : goal.returns-in-Worn-clause-halt
-returns-in-Worn-clause-halt g c = halts_else g.K.Keeper.faults _ _ c.args.book.now c.turns.new.book _ c.turns.ensures.halt
-    (λ f. let is = c.in-Worn.is in cc) refl
+returns-in-Worn-clause-halt g c = halts_else g.K.Keeper.faults _ _ c.args.book.now c.turns.new.book (Err exit.Worn)
+    c.turns.ensures.halt (λ f. let is = c.in-Worn.is in cc) refl
 
 pub returns-in-Memory-clause-carries : goal.returns-in-Memory-clause-carries
 returns-in-Memory-clause-carries g c = carries_turns g.K.Keeper.shown g.P.Provider.cloud c.args.book.now c.turns.new.book
     c.turns.ensures.ran.added c.turns.ensures.same c.turns.ensures.ran.entries c.turns.ensures.leaves
 
 pub returns-in-Memory-clause-halt : goal.returns-in-Memory-clause-halt
-returns-in-Memory-clause-halt g c = halts_else g.K.Keeper.faults _ _ c.args.book.now c.turns.new.book _ c.turns.ensures.halt
-    (λ f. let is = c.in-Memory.is in cc) refl
+returns-in-Memory-clause-halt g c = halts_else g.K.Keeper.faults _ _ c.args.book.now c.turns.new.book (Err exit.Memory)
+    c.turns.ensures.halt (λ f. let is = c.in-Memory.is in cc) refl
 
 pub returns-in-DiskFault-clause-carries : goal.returns-in-DiskFault-clause-carries
 returns-in-DiskFault-clause-carries g c = carries_turns g.K.Keeper.shown g.P.Provider.cloud c.args.book.now c.turns.new.book

@@ -1,6 +1,7 @@
 -- A step, the note of a turn without one, and the note that the number was never drawn.
-use Rattle.std.proofs.Common.{◌∙◌, inl, refl}
+use Rattle.std.proofs.Common.{◌∙◌, Err, Ok, inl, refl, tt}
 use Rattle.driver.specs.Scenes.{scene_of}
+use Rattle.converge_call.specs.declared.exit.Exit.TheVariants as exit
 use Rattle.converge_call.specs.Runs.{never_drawn, lacking}
 use Rattle.driver.specs.Turns.{unmade}
 use Rattle.driver.proofs.Leavings.{turned_grows}
@@ -54,8 +55,8 @@ returns-in-Stepped-clause-carries g c =
     c.promises.ensures.held.goes_on c.turn.ensures.same grows c.turn.ensures.records
 
 pub returns-in-Stepped-clause-halt : goal.returns-in-Stepped-clause-halt
-returns-in-Stepped-clause-halt g c = halts_else g.K.Keeper.faults _ _ c.args.book.now c.turn.new.self _ c.turn.ensures.halt
-    (λ f. let is = c.in-Stepped.is in cc) refl
+returns-in-Stepped-clause-halt g c = halts_else g.K.Keeper.faults _ _ c.args.book.now c.turn.new.self (Ok tt)
+    c.turn.ensures.halt (λ f. let is = c.in-Stepped.is in cc) refl
 
 pub returns-in-Worn-clause-carries : goal.returns-in-Worn-clause-carries
 returns-in-Worn-clause-carries g c =
@@ -65,8 +66,8 @@ returns-in-Worn-clause-carries g c =
     c.promises.ensures.held.goes_on c.turn.ensures.same grows c.turn.ensures.records
 
 pub returns-in-Worn-clause-halt : goal.returns-in-Worn-clause-halt
-returns-in-Worn-clause-halt g c = halts_else g.K.Keeper.faults _ _ c.args.book.now c.turn.new.self _ c.turn.ensures.halt
-    (λ f. let is = c.in-Worn.is in cc) refl
+returns-in-Worn-clause-halt g c = halts_else g.K.Keeper.faults _ _ c.args.book.now c.turn.new.self (Err exit.Worn)
+    c.turn.ensures.halt (λ f. let is = c.in-Worn.is in cc) refl
 
 pub returns-in-Memory-clause-carries : goal.returns-in-Memory-clause-carries
 returns-in-Memory-clause-carries g c =
@@ -76,8 +77,8 @@ returns-in-Memory-clause-carries g c =
     c.promises.ensures.held.goes_on c.turn.ensures.same grows c.turn.ensures.records
 
 pub returns-in-Memory-clause-halt : goal.returns-in-Memory-clause-halt
-returns-in-Memory-clause-halt g c = halts_else g.K.Keeper.faults _ _ c.args.book.now c.turn.new.self _ c.turn.ensures.halt
-    (λ f. let is = c.in-Memory.is in cc) refl
+returns-in-Memory-clause-halt g c = halts_else g.K.Keeper.faults _ _ c.args.book.now c.turn.new.self (Err exit.Memory)
+    c.turn.ensures.halt (λ f. let is = c.in-Memory.is in cc) refl
 
 pub returns-in-DiskFault-clause-carries : goal.returns-in-DiskFault-clause-carries
 returns-in-DiskFault-clause-carries g c =

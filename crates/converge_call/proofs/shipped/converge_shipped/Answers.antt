@@ -35,9 +35,9 @@ returns-in_default-clause-unopened g c k p is = by_memory c.unopened.ensures.sta
     (around_same _ _ _ _ (let both = c.unopened.ensures.end in cc) (let both = c.unopened.ensures.end in cc))
 
 pub returns-in_default-2-clause-unopened : goal.returns-in_default-2-clause-unopened
-returns-in_default-2-clause-unopened g c k p is = by_memory c.unopened.ensures.status
-    (around_same _ _ _ _ (let both = c.unopened.ensures.end in cc) (let both = c.unopened.ensures.end in cc))
+returns-in_default-2-clause-unopened g c k p is = by_memory c.unopened-in_default-2.ensures.status
+    (around_same _ _ _ _ (let both = c.unopened-in_default-2.ensures.end in cc) (let both = c.unopened-in_default-2.ensures.end in cc))
 
 pub returns-in-Err-clause-unopened : goal.returns-in-Err-clause-unopened
-returns-in-Err-clause-unopened g c k p is = by_memory c.unopened.ensures.status
-    (around_same _ _ _ _ (let both = c.unopened.ensures.end in cc) (let both = c.unopened.ensures.end in cc))
+returns-in-Err-clause-unopened g c k p is = by_memory c.unopened-in-Err.ensures.status
+    (around_same _ _ _ _ (let both = c.unopened-in-Err.ensures.end in cc) (let both = c.unopened-in-Err.ensures.end in cc))

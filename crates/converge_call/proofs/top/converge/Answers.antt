@@ -11,7 +11,7 @@ returns-in-Ok-clause-unopened g c k p is =
     _ (λ n its. record {
       mode = c.in-Ok.mode;
       form = c.in-Ok.ensures.ok;
-      its = its ∙ ap (λ (s : Setup). s.workers) c.setup.ensures;
+      its = its ∙ ap (λ (s : Setup). s.workers) c.setup-setup.ensures;
     }) (c.run_serial.ensures.unopened k p is)
 
 pub returns-in-Ok-clause-opened : goal.returns-in-Ok-clause-opened
@@ -20,7 +20,7 @@ returns-in-Ok-clause-opened g c b is = record {
   form = c.in-Ok.ensures.ok;
   opens = subst (λ (n : ℕ). OpensWith (g.K.Keeper.may_open c.args.keeper) n (g.K.Keeper.shown c.args.keeper)
       (g.K.Keeper.shown b.origin.keeper) (g.K.Keeper.faults c.args.keeper) (g.K.Keeper.faults b.origin.keeper)
-      (g.P.Provider.cloud c.args.cloud) (g.P.Provider.cloud b.origin.cloud) b.opening) (ap (λ (s : Setup). s.workers) c.setup.ensures)
+      (g.P.Provider.cloud c.args.cloud) (g.P.Provider.cloud b.origin.cloud) b.opening) (ap (λ (s : Setup). s.workers) c.setup-setup.ensures)
       (c.run_serial.ensures.opened b is);
 }
 
@@ -29,5 +29,5 @@ returns-in-Err-Usage-clause-unopened g c k p is = by_words c.unopened.ensures.st
     (around_same _ _ _ _ (let both = c.unopened.ensures.end in cc) (let both = c.unopened.ensures.end in cc))
 
 pub returns-in-Err-Memory-clause-unopened : goal.returns-in-Err-Memory-clause-unopened
-returns-in-Err-Memory-clause-unopened g c k p is = by_memory c.unopened.ensures.status
-    (around_same _ _ _ _ (let both = c.unopened.ensures.end in cc) (let both = c.unopened.ensures.end in cc))
+returns-in-Err-Memory-clause-unopened g c k p is = by_memory c.unopened-in-Err-Memory.ensures.status
+    (around_same _ _ _ _ (let both = c.unopened-in-Err-Memory.ensures.end in cc) (let both = c.unopened-in-Err-Memory.ensures.end in cc))

@@ -31,33 +31,33 @@ returns-in-Foreign-clause-unopened g c k p is = unopened_by g.K.Keeper.may_open 
 pub returns-in-Disagree-clause-unopened : goal.returns-in-Disagree-clause-unopened
 returns-in-Disagree-clause-unopened g c k p is = unopened_by g.K.Keeper.may_open g.K.Keeper.shown g.K.Keeper.faults
     g.P.Provider.cloud c.args.workers c.args.keeper c.in-Disagree.keeper k c.args.cloud c.in-Disagree.cloud p
-    (why.Disagree c.in-Disagree.token c.in-Disagree.finding) _ (let both = c.unopened.ensures.end in cc)
-    (let both = c.unopened.ensures.end in cc)
+    (why.Disagree c.in-Disagree.token c.in-Disagree.finding) _ (let both = c.unopened-in-Disagree.ensures.end in cc)
+    (let both = c.unopened-in-Disagree.ensures.end in cc)
     (c.in-Disagree.ensures.disagree c.in-Disagree.keeper c.in-Disagree.cloud c.in-Disagree.token
-    c.in-Disagree.finding refl) c.unopened.ensures.status
+    c.in-Disagree.finding refl) c.unopened-in-Disagree.ensures.status
 
 pub returns-in-DiskFault-clause-unopened : goal.returns-in-DiskFault-clause-unopened
 returns-in-DiskFault-clause-unopened g c k p is = unopened_by g.K.Keeper.may_open g.K.Keeper.shown g.K.Keeper.faults
     g.P.Provider.cloud c.args.workers c.args.keeper c.in-DiskFault.keeper k c.args.cloud c.in-DiskFault.cloud p
-    why.DiskFault _ (let both = c.unopened.ensures.end in cc) (let both = c.unopened.ensures.end in cc)
-    (c.in-DiskFault.ensures.disk_fault c.in-DiskFault.keeper c.in-DiskFault.cloud refl) c.unopened.ensures.status
+    why.DiskFault _ (let both = c.unopened-in-DiskFault.ensures.end in cc) (let both = c.unopened-in-DiskFault.ensures.end in cc)
+    (c.in-DiskFault.ensures.disk_fault c.in-DiskFault.keeper c.in-DiskFault.cloud refl) c.unopened-in-DiskFault.ensures.status
 
 pub returns-in-CloudFault-clause-unopened : goal.returns-in-CloudFault-clause-unopened
 returns-in-CloudFault-clause-unopened g c k p is = unopened_by g.K.Keeper.may_open g.K.Keeper.shown
     g.K.Keeper.faults g.P.Provider.cloud c.args.workers c.args.keeper c.in-CloudFault.keeper k c.args.cloud
     c.in-CloudFault.cloud p
-    why.CloudFault _ (let both = c.unopened.ensures.end in cc) (let both = c.unopened.ensures.end in cc)
+    why.CloudFault _ (let both = c.unopened-in-CloudFault.ensures.end in cc) (let both = c.unopened-in-CloudFault.ensures.end in cc)
     (c.in-CloudFault.ensures.cloud_fault c.in-CloudFault.keeper c.in-CloudFault.cloud refl)
-    c.unopened.ensures.status
+    c.unopened-in-CloudFault.ensures.status
 
 pub returns-in-Worn-clause-unopened : goal.returns-in-Worn-clause-unopened
 returns-in-Worn-clause-unopened g c k p is = unopened_by g.K.Keeper.may_open g.K.Keeper.shown g.K.Keeper.faults
     g.P.Provider.cloud c.args.workers c.args.keeper c.in-Worn.keeper k c.args.cloud c.in-Worn.cloud p
-    why.Worn _ (let both = c.unopened.ensures.end in cc) (let both = c.unopened.ensures.end in cc)
-    (c.in-Worn.ensures.worn c.in-Worn.keeper c.in-Worn.cloud refl) c.unopened.ensures.status
+    why.Worn _ (let both = c.unopened-in-Worn.ensures.end in cc) (let both = c.unopened-in-Worn.ensures.end in cc)
+    (c.in-Worn.ensures.worn c.in-Worn.keeper c.in-Worn.cloud refl) c.unopened-in-Worn.ensures.status
 
 pub returns-in-Memory-clause-unopened : goal.returns-in-Memory-clause-unopened
 returns-in-Memory-clause-unopened g c k p is = unopened_by g.K.Keeper.may_open g.K.Keeper.shown g.K.Keeper.faults
     g.P.Provider.cloud c.args.workers c.args.keeper c.in-Memory.keeper k c.args.cloud c.in-Memory.cloud p
-    why.Memory _ (let both = c.unopened.ensures.end in cc) (let both = c.unopened.ensures.end in cc)
-    (c.in-Memory.ensures.memory c.in-Memory.keeper c.in-Memory.cloud refl) c.unopened.ensures.status
+    why.Memory _ (let both = c.unopened-in-Memory.ensures.end in cc) (let both = c.unopened-in-Memory.ensures.end in cc)
+    (c.in-Memory.ensures.memory c.in-Memory.keeper c.in-Memory.cloud refl) c.unopened-in-Memory.ensures.status

@@ -1,0 +1,22 @@
+use Rattle.std.proofs.Common.{◌≡◌, ◌∙◌, arith}
+use Rattle.std.proofs.lemmas.Result.{err_from_is_err_and}
+use Rattle.plan_codec.proofs.Readings.{item_refused, items_taken}
+use Rattle.row_codec.specs.RecordLaws.{input_unique}
+use Rattle.row_codec.specs.Records.{spelled_input, IsProperInput}
+use Rattle.row_codec.proofs.input_lists.inputs_at.Goals as goal
+
+pub returns-in_err-input-clause-err : goal.returns-in_err-input-clause-err
+returns-in_err-input-clause-err c =
+    let p = err_from_is_err_and c.from_residual-in_err-input.result c.from_residual-in_err-input.ensures.1 in
+    let less = c.loop-test.true in
+    rw (p.1, p.2)
+    (item_refused input_unique c.args.bytes.now c.loop.rest.now c.in_ok-count.count c.loop.all.items
+    c.in_err-input.field-0.0 c.loop.invariant.so c.loop.invariant.word c.loop.invariant.each
+    (omega (arith, less, c.loop.invariant.counted)) c.in_err-input.ensures.err)
+
+pub returns-clause-ok : goal.returns-clause-ok
+returns-clause-ok c =
+    let end : c.loop.counter ≡ c.in_ok-count.count = omega arith in
+    items_taken spelled_input IsProperInput c.args.bytes.now c.loop.rest.now c.in_ok-count.count
+    c.loop.all.items c.loop.invariant.so c.loop.invariant.word c.loop.invariant.each
+    (c.loop.invariant.counted ∙ end)
