@@ -1,0 +1,4 @@
+pub mod Names
+pub mod Cards
+pub mod Faults
+pub mod Shows
