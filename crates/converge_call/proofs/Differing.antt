@@ -1,6 +1,6 @@
 -- What a comparison finds, it doesn't find where it finds nothing.
-use Rattle.std.proofs.Common.{◌≡◌, List, ◌∷◌, ◌++◌, [], Some, refl, sym, subst, true, false}
-use Rattle.std.specs.Prelude.{Bool, IsSome, find, option_map}
+use Rattle.std.proofs.Common.{◌≡◌, List, ◌∷◌, ◌++◌, [], refl, sym, subst, true, false}
+use Rattle.std.specs.Prelude.{Bool, IsSome, find}
 use Rattle.heat_plan.specs.declared.token.Token.{Token}
 use Rattle.provider.specs.Same.{same_token}
 use Rattle.provider.specs.declared.alive.Alive.{Alive}

@@ -13,9 +13,9 @@ use Rattle.book.specs.Halts.{IsHaltedAs}
 use Rattle.book.specs.declared.halting.Halt.{Halt}
 use Rattle.book.specs.declared.halting.Halt.TheVariants as halted
 use Rattle.book.specs.declared.restarting.Unrestarted.{Unrestarted}
-use Rattle.driver.specs.Kept.{IsOpenedFrom, IsSameBook, Shown, opening_of, registries}
+use Rattle.driver.specs.Kept.{IsSameBook, Shown, opening_of, registries}
 use Rattle.driver.specs.Leaving.{IsLeftAlong}
-use Rattle.driver.specs.Openings.{HasImageListed, HasOpened, IsUnopened as IsUnopenedBook}
+use Rattle.driver.specs.Openings.{HasOpened, IsUnopened as IsUnopenedBook}
 use Rattle.driver.specs.Scenes.{scene_of}
 use Rattle.driver.proofs.Leavings.{along_rest, leaves_still, same_opening}
 use Rattle.converge_call.specs.declared.exit.Exit.{Exit}

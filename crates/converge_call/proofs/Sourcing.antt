@@ -1,5 +1,5 @@
 -- What was read of a source so far, and how each answer of the reader takes it on or ends it.
-use Rattle.std.proofs.Common.{◌≡◌, ◌⊎◌, inl, inr, ◌<◌, ◌≤◌, ◌+◌, ℕ, List, [], ◌∷◌, ◌++◌, Option, Some, None, length}
+use Rattle.std.proofs.Common.{◌≡◌, ◌⊎◌, inl, inr, ◌<◌, ℕ, List, [], ◌∷◌, ◌++◌, Option, Some, None, length}
 use Rattle.std.proofs.Common.{refl, sym, ap, ◌∙◌, subst, arith, length-append}
 use Rattle.heat_io.specs.declared.next.Next.{Next}
 use Rattle.heat_io.specs.declared.next.Next.TheVariants as next
@@ -8,7 +8,7 @@ use Rattle.heat_io.specs.Reading as reading
 use Rattle.heat_io.specs.Reading.{Gave, HasNoEnd, HoldsFew, IsNext, IsNextOf, Reads, StopsAtEnd}
 use Rattle.heat_io.specs.Streams.{ahead}
 use Rattle.heat_io.proofs.Runs.{are_lines}
-use Rattle.converge_call.specs.Sources.{AllRead, AreRead, FirstRead, JustRead, LimitRead, PassesLimit, UnendedRead}
+use Rattle.converge_call.specs.Sources.{AllRead, AreRead, FirstRead, JustRead, LimitRead, UnendedRead}
 use Rattle.converge_call.proofs.Noting.{append-none}
 
 -- the lines so far, where the source tells: what is ahead is told, and is what follows them

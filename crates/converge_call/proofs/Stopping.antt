@@ -1,9 +1,8 @@
 -- A drive ends for a fault of the keeper exactly where this halts the book.
-use Rattle.std.proofs.Common.{◌≡◌, ◌∙◌, refl, sym, ap, List}
-use Rattle.std.specs.Prelude.{Bool, None, Option, Some, ℕ, ◌↔◌}
+use Rattle.std.proofs.Common.{◌≡◌, ◌∙◌, refl, sym, List}
+use Rattle.std.specs.Prelude.{Bool, None, Option, Some, ◌↔◌}
 use Rattle.core_state.specs.declared.entry.Entry.{Entry}
 use Rattle.core_state.specs.State.{StateData}
-use Rattle.provider.specs.Cloud.{Cloud}
 use Rattle.step_relation.specs.Opening.{Opening}
 use Rattle.script_lines.specs.declared.line.Line.{Line}
 use Rattle.script_lines.specs.declared.line.Line.TheVariants as form

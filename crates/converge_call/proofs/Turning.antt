@@ -16,7 +16,7 @@ use Rattle.driver.specs.declared.Turn.TheVariants as turn
 use Rattle.driver.specs.declared.Turn.{Turn as Turn_answer}
 use Rattle.driver.specs.Quiet.{Page, page}
 use Rattle.driver.specs.Scenes.{Scene, IsUnmade, Makes}
-use Rattle.driver.specs.Turned.{Requests, Turned, IsWornBy, WhyAlone}
+use Rattle.driver.specs.Turned.{Requests, Turned, WhyAlone}
 use Rattle.driver.specs.Turned as turned
 use Rattle.driver.specs.Turns.{Lacks}
 use Rattle.driver.specs.Turns as to

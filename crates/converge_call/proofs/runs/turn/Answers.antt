@@ -1,5 +1,5 @@
 -- A step, the note of a turn without one, and the note that the number was never drawn.
-use Rattle.std.proofs.Common.{◌∙◌, Err, Ok, inl, refl, tt}
+use Rattle.std.proofs.Common.{◌∙◌, Err, Ok, inl, refl}
 use Rattle.driver.specs.Scenes.{scene_of}
 use Rattle.converge_call.specs.declared.exit.Exit.TheVariants as exit
 use Rattle.converge_call.specs.Runs.{never_drawn, lacking}
