@@ -1,6 +1,6 @@
 -- What the program's one call comes to, by what is left of it.
 use Rattle.std.proofs.Common.{subst, sym, ◌≡◌, ℕ}
-use Rattle.std.specs.Prelude.{List}
+use Rattle.std.specs.Prelude.{Err, IfOk, List, Ok, Result}
 use Rattle.record_keeper.specs.Nothing.{nothing_kept, opens_empty}
 use Rattle.record_keeper.specs.declared.unkept.Unkept.{Unkept}
 use Rattle.sim_cloud.specs.Simulated.{cloud_of}
@@ -11,7 +11,8 @@ use Rattle.converge_call.specs.Laws.{NothingKeptOpensSound}
 use Rattle.converge_call.specs.Scenes.{scene_of}
 use Rattle.converge_call.specs.Shipped.{shipped_stock}
 use Rattle.converge_call.specs.declared.exit.Exit.{Exit}
-use Rattle.heat_converge.specs.Called.{HasCalled, driven, unopened}
+use Rattle.heat_converge.specs.Called.{EndsBy, EndsSo, HasCalled, driven, said, unopened}
+use Rattle.heat_converge.specs.declared.ended.Ended.{Ended}
 
 -- no book was opened, and the cloud is the one that is left
 pub called_unopened : (words : List (List ℕ)) (cloud left p : SimCloud) (k l : Unkept) (status : Exit)
@@ -31,3 +32,8 @@ pub called_driven : NothingKeptOpensSound → (words : List (List ℕ)) (cloud l
     → left ≡ b.cloud → HasCalled words cloud left status
 called_driven sound words cloud left b old new status opens drove is = driven b old new opens
     (sound _ _ _ _ opens.opens).1 drove is
+
+-- as the call by its words ended, the program ends
+pub said_so : {E : Type 0} (words : List (List ℕ)) (r : Result Ended E) → IfOk r (EndsBy words) → IfOk r EndsSo
+said_so words (Ok ended) by = said words by
+said_so words (Err e) by = tt

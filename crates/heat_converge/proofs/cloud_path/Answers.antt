@@ -1,5 +1,5 @@
 -- Words are of one form at most.
-use Rattle.std.proofs.Common.{◌∙◌, absurd, ap}
+use Rattle.std.proofs.Common.{◌∙◌, ap}
 use Rattle.converge_call.specs.Words.{setup_of}
 use Rattle.converge_call.specs.declared.setup.Mode.{Mode}
 use Rattle.converge_call.specs.declared.setup.Setup.{Setup}
