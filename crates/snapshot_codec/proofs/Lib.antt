@@ -1,0 +1,3 @@
+pub mod Putting
+pub mod Spelled
+pub mod Counting
