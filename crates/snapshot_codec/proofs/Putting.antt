@@ -5,11 +5,16 @@ use Rattle.std.specs.Prelude.{slice_get}
 use Rattle.std.specs.List.{flat_map}
 use Rattle.std.proofs.lemmas.Grind.{flat_map-append}
 use Rattle.std.proofs.lemmas.List.{append-nil, map-append, take_all, take_more}
-use Rattle.std.proofs.lemmas.List.Elements.{All-append, All-cons, All-nil}
+use Rattle.std.proofs.lemmas.List.Elements.{All-append, All-cons, All-from_recursion, All-nil}
+use Rattle.core_state.specs.State.{StateData}
 use Rattle.core_state.specs.declared.change.Change.{Change}
+use Rattle.core_state.specs.declared.graph.Graph.{Graph}
 use Rattle.plan_codec.specs.Sheets.{SheetData, behind}
 use Rattle.plan_codec.proofs.Sheets.{behind_behind}
 use Rattle.row_codec.specs.Changes.{spelled_change}
+use Rattle.state_images.specs.Formed.{IsAligned}
+use Rattle.state_images.specs.Images.{IsMade}
+use Rattle.state_images.proofs.Forming.{made_aligned}
 use Rattle.snapshot_codec.specs.Puts.{HasPut, IsKept}
 
 pub none_put : (s : SheetData) → HasPut [] s s
@@ -33,6 +38,9 @@ both_put cs ds a b c h g = record {
       ∙ ap (λ (bs : List ℕ). front ++ bs) (sym (flat_map-append spelled_change cs ds)));
   kept = All-append IsKept cs ds h.kept g.kept;
 }
+
+pub then_put : {cs ds : List Change} {a b c : SheetData} → HasPut cs a b → HasPut ds b c → HasPut (cs ++ ds) a c
+then_put {cs = cs} {ds = ds} {a = a} {b = b} {c = c} h g = both_put cs ds a b c h g
 
 -- one more of a list of changes
 pub more_put : {A : Type 0} (bringing : A → Change) (xs : List A) (i : ℕ) (x : A) (a b c : SheetData) → i < length xs
@@ -62,3 +70,8 @@ list_put lists xs i x a b c less is h g =
 pub lists_put : {A : Type 0} (lists : A → List Change) (xs : List A) (i : ℕ) (a b : SheetData) → length xs ≤ i
     → HasPut (flat_map lists (take i xs)) a b → HasPut (flat_map lists xs) a b
 lists_put lists xs i a b le h = subst (λ (ys : List _). HasPut (flat_map lists ys) a b) (take_all i xs le) h
+
+-- the points of graphs that changes made
+pub graphs_aligned : (s : StateData) (graphs : List Graph) → IsMade s → graphs ≡ s.graphs → All IsAligned graphs
+graphs_aligned s graphs made is =
+    subst (All IsAligned) (sym is) (All-from_recursion IsAligned s.graphs (made_aligned s made))

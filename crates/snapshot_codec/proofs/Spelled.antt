@@ -19,7 +19,7 @@ eight n = refl
 
 pub same_length : (cs : List Change) → length (numbered cs) ≡ length (spelled cs)
 same_length cs =
-    let n = min (length cs) (2 ^ 64 - 1) in
+    let n : ℕ = min (length cs) (2 ^ 64 - 1) in
     length-append (spelled_number n) (flat_map spelled_change cs)
     ∙ ap (λ (k : ℕ). k + length (flat_map spelled_change cs)) (eight n ∙ sym (eight (length cs)))
     ∙ sym (length-append (spelled_number (length cs)) (flat_map spelled_change cs))
@@ -32,7 +32,7 @@ a_byte_each (c ∷ cs) =
 
 fewer : (cs : List Change) → length (numbered cs) < 2 ^ 64 → length cs < 2 ^ 64 - 8
 fewer cs less =
-    let n = min (length cs) (2 ^ 64 - 1) in
+    let n : ℕ = min (length cs) (2 ^ 64 - 1) in
     omega (arith, less, a_byte_each cs, eight n, length-append (spelled_number n) (flat_map spelled_change cs))
 
 the_number : (n : ℕ) → n < 2 ^ 64 - 8 → min n (2 ^ 64 - 1) ≡ n
