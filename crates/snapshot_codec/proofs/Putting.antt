@@ -1,10 +1,9 @@
 -- Changes that are put one behind another.
-use Rattle.std.proofs.Common.{◌≡◌, ◌∙◌, ◌<◌, ◌≤◌, ◌+◌, ℕ, List, [], ◌∷◌, ◌++◌, All, Some, ap, sym, subst, refl, arith, append_assoc}
+use Rattle.std.proofs.Common.{◌≡◌, ◌∙◌, ◌<◌, ◌+◌, ℕ, List, [], ◌∷◌, ◌++◌, All, ap, sym, subst, append_assoc}
 use Rattle.std.proofs.Common.{length, take, map, get_or}
-use Rattle.std.specs.Prelude.{slice_get}
 use Rattle.std.specs.List.{flat_map}
 use Rattle.std.proofs.lemmas.Grind.{flat_map-append}
-use Rattle.std.proofs.lemmas.List.{append-nil, map-append, take_all, take_more}
+use Rattle.std.proofs.lemmas.List.{append-nil, map-append, take_more}
 use Rattle.std.proofs.lemmas.List.Elements.{All-append, All-cons, All-from_recursion, All-nil}
 use Rattle.core_state.specs.State.{StateData}
 use Rattle.core_state.specs.declared.change.Change.{Change}
@@ -17,12 +16,7 @@ use Rattle.state_images.specs.Images.{IsMade}
 use Rattle.state_images.proofs.Forming.{made_aligned}
 use Rattle.snapshot_codec.specs.Puts.{HasPut, IsKept}
 
-pub none_put : (s : SheetData) → HasPut [] s s
-none_put s = record {
-  bytes = λ sheet front e. e ∙ ap (behind sheet) (sym (append-nil front));
-  kept = All-nil IsKept;
-}
-
+-- a change, and nothing behind it
 pub one_put : (c : Change) (a b : SheetData) → b ≡ behind a (spelled_change c) → IsKept c → HasPut (c ∷ []) a b
 one_put c a b put k = record {
   bytes = λ sheet front e. put ∙ ap (λ (s : SheetData). behind s (spelled_change c)) e
@@ -31,16 +25,14 @@ one_put c a b put k = record {
   kept = All-cons IsKept c [] k (All-nil IsKept);
 }
 
-pub both_put : (cs ds : List Change) (a b c : SheetData) → HasPut cs a b → HasPut ds b c → HasPut (cs ++ ds) a c
-both_put cs ds a b c h g = record {
+-- changes, and changes behind them
+pub then_put : {cs ds : List Change} {a b c : SheetData} → HasPut cs a b → HasPut ds b c → HasPut (cs ++ ds) a c
+then_put {cs = cs} {ds = ds} h g = record {
   bytes = λ sheet front e. g.bytes sheet (front ++ flat_map spelled_change cs) (h.bytes sheet front e)
       ∙ ap (behind sheet) (append_assoc front (flat_map spelled_change cs) (flat_map spelled_change ds)
       ∙ ap (λ (bs : List ℕ). front ++ bs) (sym (flat_map-append spelled_change cs ds)));
   kept = All-append IsKept cs ds h.kept g.kept;
 }
-
-pub then_put : {cs ds : List Change} {a b c : SheetData} → HasPut cs a b → HasPut ds b c → HasPut (cs ++ ds) a c
-then_put {cs = cs} {ds = ds} {a = a} {b = b} {c = c} h g = both_put cs ds a b c h g
 
 -- one more of a list of changes
 pub more_put : {A : Type 0} (bringing : A → Change) (xs : List A) (i : ℕ) (x : A) (a b c : SheetData) → i < length xs
@@ -49,29 +41,9 @@ pub more_put : {A : Type 0} (bringing : A → Change) (xs : List A) (i : ℕ) (x
 more_put bringing xs i x a b c less is h put k =
     let more : take (i + 1) xs ≡ take i xs ++ x ∷ [] = take_more xs i x less ∙ ap (λ (y : _). take i xs ++ y ∷ []) (sym is) in
     subst (λ (cs : List Change). HasPut cs a c) (sym (ap (map bringing) more ∙ map-append bringing (take i xs) (x ∷ [])))
-      (both_put (map bringing (take i xs)) (bringing x ∷ []) a b c h (one_put (bringing x) b c put k))
+    (then_put h (one_put (bringing x) b c put k))
 
--- all of it
-pub all_put : {A : Type 0} (bringing : A → Change) (xs : List A) (i : ℕ) (a b : SheetData) → length xs ≤ i
-    → HasPut (map bringing (take i xs)) a b → HasPut (map bringing xs) a b
-all_put bringing xs i a b le h = subst (λ (ys : List _). HasPut (map bringing ys) a b) (take_all i xs le) h
-
--- lists of changes, one list more
-pub list_put : {A : Type 0} (lists : A → List Change) (xs : List A) (i : ℕ) (x : A) (a b c : SheetData) → i < length xs
-    → x ≡ get_or xs i x → HasPut (flat_map lists (take i xs)) a b → HasPut (lists x) b c
-    → HasPut (flat_map lists (take (i + 1) xs)) a c
-list_put lists xs i x a b c less is h g =
-    let more : take (i + 1) xs ≡ take i xs ++ x ∷ [] = take_more xs i x less ∙ ap (λ (y : _). take i xs ++ y ∷ []) (sym is) in
-    let parts : flat_map lists (take (i + 1) xs) ≡ flat_map lists (take i xs) ++ lists x = ap (flat_map lists) more
-    ∙ flat_map-append lists (take i xs) (x ∷ []) ∙ ap (λ (cs : List Change). flat_map lists (take i xs) ++ cs) (append-nil (lists x)) in
-    subst (λ (cs : List Change). HasPut cs a c) (sym parts) (both_put (flat_map lists (take i xs)) (lists x) a b c h g)
-
--- all lists
-pub lists_put : {A : Type 0} (lists : A → List Change) (xs : List A) (i : ℕ) (a b : SheetData) → length xs ≤ i
-    → HasPut (flat_map lists (take i xs)) a b → HasPut (flat_map lists xs) a b
-lists_put lists xs i a b le h = subst (λ (ys : List _). HasPut (flat_map lists ys) a b) (take_all i xs le) h
-
--- the points of graphs that changes made
+-- graphs that changes made have as many points as nodes
 pub graphs_aligned : (s : StateData) (graphs : List Graph) → IsMade s → graphs ≡ s.graphs → All IsAligned graphs
 graphs_aligned s graphs made is =
     subst (All IsAligned) (sym is) (All-from_recursion IsAligned s.graphs (made_aligned s made))

@@ -1,7 +1,7 @@
 -- What is numbered is the spelling, where there are fewer than 2^64 changes.
 use Rattle.std.proofs.Common.{◌≡◌, ◌∙◌, ◌<◌, ◌≤◌, ◌+◌, ◌-◌, ◌^◌, ℕ, List, [], ◌∷◌, ◌++◌, All, ap, sym, subst, refl, arith}
-use Rattle.std.proofs.Common.{length, min, take, get_or}
-use Rattle.std.specs.Prelude.{Contains, ◌≢◌}
+use Rattle.std.proofs.Common.{length, min}
+use Rattle.std.specs.Prelude.{Contains}
 use Rattle.std.specs.List.{flat_map}
 use Rattle.std.proofs.lemmas.List.{length-append, take_all}
 use Rattle.std.proofs.lemmas.List.Elements.{All-contains_itself, All-weaker}
@@ -9,7 +9,7 @@ use Rattle.core_state.specs.declared.change.Change.{Change}
 use Rattle.core_state.specs.declared.change.Change.TheVariants as change
 use Rattle.plan_codec.specs.Numbers.{spelled_number}
 use Rattle.plan_codec.specs.Sheets.{SheetData, behind, blank}
-use Rattle.row_codec.specs.Changes.{spelled, spelled_change, the_tag, the_fields, AreProper, IsProper, IsSpelling, IsStorable}
+use Rattle.row_codec.specs.Changes.{spelled, spelled_change, the_tag, the_fields, IsProper, IsStorable}
 use Rattle.state_images.specs.Images.{AreKeepable}
 use Rattle.snapshot_codec.specs.Puts.{IsKept, numbered}
 

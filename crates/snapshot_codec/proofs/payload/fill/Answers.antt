@@ -26,6 +26,8 @@ returns-clause-proper c =
     c.put_snapshot.ensures.bytes ∙ ap (λ (s : SheetData). behind s (numbered cs)) c.clear.ensures in
     λ keepable. (
       kept_is cs room c.requires.room c.put_snapshot.new.sheet put c.is_in_memory.ensures,
-      (are_fewer cs room c.requires.room c.put_snapshot.new.sheet put c.is_in_memory.ensures,
-       kept_proper cs ((made_snapshot c.args.s.now.state c.requires.made).keepable keepable) c.put_snapshot.ensures.proper),
+      (
+        are_fewer cs room c.requires.room c.put_snapshot.new.sheet put c.is_in_memory.ensures,
+        kept_proper cs ((made_snapshot c.args.s.now.state c.requires.made).keepable keepable) c.put_snapshot.ensures.proper,
+      ),
     )

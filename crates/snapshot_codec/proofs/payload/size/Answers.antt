@@ -9,4 +9,4 @@ pub returns : goal.returns
 returns c =
     let cs = snapshot c.args.s.now.state in
     rw (c.count.ensures, c.put_snapshot.ensures.bytes, c.new-sheet.ensures)
-      (counted (numbered cs) 0 ∙ ap (λ (n : ℕ). min n (2 ^ 64 - 1)) (same_length cs))
+    (counted (numbered cs) 0 ∙ ap (λ (n : ℕ). min n (2 ^ 64 - 1)) (same_length cs))

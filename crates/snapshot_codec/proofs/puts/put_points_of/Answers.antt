@@ -18,8 +18,8 @@ loop-place-preserved c =
           let point : Point = w.in-Some.point.now in
           let at : slice_get c.args.graph.now.points c.loop-place.place ≡ Some point = sym (rw w.in-Some.is at c.get.ensures) in
           more_put PutPoint c.args.graph.now.points c.loop-place.place point c.args.sheet.now c.loop-place.sheet
-            c.match-get.sheet within (sym (get_or_from_slice_get c.args.graph.now.points c.loop-place.place point point at))
-            c.loop-place.invariant (w.sheet-is ∙ w.put_bringing.ensures.bytes) w.put_bringing.ensures.proper)
+          c.match-get.sheet within (sym (get_or_from_slice_get c.args.graph.now.points c.loop-place.place point point at))
+          c.loop-place.invariant (w.sheet-is ∙ w.put_bringing.ensures.bytes) w.put_bringing.ensures.proper)
       | in_default w ↦ (
           let none = rw w.in_default.is at c.get.ensures in
           let there = slice_get-get_or c.args.graph.now.points c.loop-place.place blank within in
