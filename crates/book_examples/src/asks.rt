@@ -5,6 +5,7 @@ use crate::orders::{Order, ordered};
 use book::Book;
 use heat_plan::EngineNo;
 use provider::Provider;
+use record_keeper::Keeper;
 use std::alloc::Global;
 use type_catalog::Registry;
 
@@ -19,10 +20,10 @@ pub(crate) enum Ask {
 }
 
 /// Asks it, and adds what is told; none where there is no memory, or an order isn't taken that is to be.
-pub(crate) fn tell<P: Provider>(
+pub(crate) fn tell<K: Keeper, P: Provider>(
     alloc: Global,
     registry: &Registry,
-    book: &mut Book<P>,
+    book: &mut Book<K, P>,
     e: EngineNo,
     ask: Ask,
     told: &mut Vec<u8>,
@@ -36,9 +37,9 @@ pub(crate) fn tell<P: Provider>(
 }
 
 // An order.
-fn tell_order<P: Provider>(
+fn tell_order<K: Keeper, P: Provider>(
     alloc: Global,
-    book: &mut Book<P>,
+    book: &mut Book<K, P>,
     e: EngineNo,
     order: Order,
     told: &mut Vec<u8>,
@@ -49,9 +50,9 @@ fn tell_order<P: Provider>(
 }
 
 // So many turns.
-fn tell_turns<P: Provider>(
+fn tell_turns<K: Keeper, P: Provider>(
     registry: &Registry,
-    book: &mut Book<P>,
+    book: &mut Book<K, P>,
     e: EngineNo,
     times: u8,
     told: &mut Vec<u8>,
@@ -63,9 +64,9 @@ fn tell_turns<P: Provider>(
 }
 
 // A turn; none where the engine's number wasn't drawn.
-fn tell_turn<P: Provider>(
+fn tell_turn<K: Keeper, P: Provider>(
     registry: &Registry,
-    book: &mut Book<P>,
+    book: &mut Book<K, P>,
     e: EngineNo,
     told: &mut Vec<u8>,
 ) -> Option<()> {
@@ -78,10 +79,10 @@ fn tell_turn<P: Provider>(
 }
 
 // So many steps by the three calls.
-fn tell_calls<P: Provider>(
+fn tell_calls<K: Keeper, P: Provider>(
     alloc: Global,
     registry: &Registry,
-    book: &mut Book<P>,
+    book: &mut Book<K, P>,
     e: EngineNo,
     times: u8,
     told: &mut Vec<u8>,
@@ -93,10 +94,10 @@ fn tell_calls<P: Provider>(
 }
 
 // One of them.
-fn tell_commit<P: Provider>(
+fn tell_commit<K: Keeper, P: Provider>(
     alloc: Global,
     registry: &Registry,
-    book: &mut Book<P>,
+    book: &mut Book<K, P>,
     e: EngineNo,
     order: Option<Order>,
     told: &mut Vec<u8>,

@@ -4,6 +4,7 @@ use crate::asks::{Ask, tell};
 use crate::judges::registry;
 use book::{Book, Opened};
 use provider::Provider;
+use record_keeper::{Keeper, Unkept};
 use sim_cloud::{Settings, SimCloud};
 use std::alloc::Global;
 use std::process::Abort;
@@ -39,10 +40,10 @@ fn told(alloc: Global, case: &Case) -> Option<Vec<u8>> {
 }
 
 // The same of a book.
-fn told_in<P: Provider>(
+fn told_in<K: Keeper, P: Provider>(
     alloc: Global,
     registry: &Registry,
-    book: &mut Book<P>,
+    book: &mut Book<K, P>,
     asks: &[Ask],
 ) -> Option<Vec<u8>> {
     let e = *book.live().first()?;
@@ -54,17 +55,22 @@ fn told_in<P: Provider>(
 }
 
 // A book of two engines over an empty cloud; none where there is no memory.
-fn opened(alloc: Global) -> Option<Book<SimCloud>> {
+fn opened(alloc: Global) -> Option<Book<Unkept, SimCloud>> {
     match SimCloud::new(Settings::empty(alloc)) {
-        Ok(cloud) => book_of(Book::recover(alloc, cloud, 2)),
+        Ok(cloud) => book_of(Book::recover(alloc, Unkept, cloud, 2)),
         Err(_) => None,
     }
 }
 
 // The book, if one was opened.
-fn book_of(opened: Opened<SimCloud>) -> Option<Book<SimCloud>> {
+fn book_of(opened: Opened<Unkept, SimCloud>) -> Option<Book<Unkept, SimCloud>> {
     match opened {
         Opened::Book(book) => Some(book),
-        Opened::Disagree(_, _) | Opened::CloudFault(_) | Opened::Memory(_) => None,
+        Opened::Foreign(_, _)
+        | Opened::Disagree(_, _, _, _)
+        | Opened::DiskFault(_, _)
+        | Opened::CloudFault(_, _)
+        | Opened::Worn(_, _)
+        | Opened::Memory(_, _) => None,
     }
 }

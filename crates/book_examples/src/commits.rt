@@ -5,6 +5,7 @@ use crate::orders::{Order, ordered};
 use book::{Book, Look, Turn, Work, prepare};
 use heat_plan::EngineNo;
 use provider::Provider;
+use record_keeper::Keeper;
 use std::alloc::Global;
 use type_catalog::Registry;
 
@@ -15,12 +16,13 @@ pub(crate) fn letter(turn: Turn) -> u8 {
         Turn::Idle => b'i',
         Turn::Lost => b'l',
         Turn::Worn => b'w',
+        Turn::DiskFault => b'd',
         Turn::Memory => b'm',
     }
 }
 
 /// Whether an engine's number was drawn.
-pub(crate) fn is_drawn<P: Provider>(book: &Book<P>, e: EngineNo) -> bool
+pub(crate) fn is_drawn<K: Keeper, P: Provider>(book: &Book<K, P>, e: EngineNo) -> bool
     ensures { IsTrue result ↔ (e < book.now.state.next.engine) }
 {
     e.get() < book.state().next().engine.get()
@@ -29,10 +31,10 @@ pub(crate) fn is_drawn<P: Provider>(book: &Book<P>, e: EngineNo) -> bool
 /// Looks at a step and prepares it, gives the order, if there is one, and commits: the letter of the answer,
 /// and how many entries stood before the commit. `i` is told where there is no step; none where there is no
 /// memory, or the order isn't taken.
-pub(crate) fn committed<P: Provider>(
+pub(crate) fn committed<K: Keeper, P: Provider>(
     alloc: Global,
     registry: &Registry,
-    book: &mut Book<P>,
+    book: &mut Book<K, P>,
     e: EngineNo,
     order: Option<Order>,
 ) -> Option<(u8, usize)> {
@@ -43,7 +45,7 @@ pub(crate) fn committed<P: Provider>(
 }
 
 // The step that an engine looks at, if there is one.
-fn work_of<P: Provider>(book: &Book<P>, e: EngineNo) -> Option<Work> {
+fn work_of<K: Keeper, P: Provider>(book: &Book<K, P>, e: EngineNo) -> Option<Work> {
     if !is_drawn(book, e) {
         return None;
     }
@@ -54,10 +56,10 @@ fn work_of<P: Provider>(book: &Book<P>, e: EngineNo) -> Option<Work> {
 }
 
 // Prepares a step, gives the order, and commits.
-fn commit_over<P: Provider>(
+fn commit_over<K: Keeper, P: Provider>(
     alloc: Global,
     registry: &Registry,
-    book: &mut Book<P>,
+    book: &mut Book<K, P>,
     e: EngineNo,
     work: Work,
     order: Option<Order>,
@@ -73,9 +75,9 @@ fn commit_over<P: Provider>(
 }
 
 // Gives the order; how many entries stand then, none where it isn't taken.
-fn overtaken<P: Provider>(
+fn overtaken<K: Keeper, P: Provider>(
     alloc: Global,
-    book: &mut Book<P>,
+    book: &mut Book<K, P>,
     e: EngineNo,
     order: Option<Order>,
 ) -> Option<usize> {

@@ -4,6 +4,7 @@ use book::{Book, Halt, StackCommand};
 use heat_plan::{EngineNo, Plan, Properties, Refusal, ResName, StackName};
 use heat_value::{TryCopy, Value};
 use provider::Provider;
+use record_keeper::Keeper;
 use sample_plans::{boxes, item_of, plan_of};
 use std::alloc::{AllocError, Global};
 
@@ -23,9 +24,9 @@ pub(crate) enum Order {
 }
 
 /// Gives the order: `+` where it is taken, `m` where it wants memory, and else `-`.
-pub(crate) fn ordered<P: Provider>(
+pub(crate) fn ordered<K: Keeper, P: Provider>(
     alloc: Global,
-    book: &mut Book<P>,
+    book: &mut Book<K, P>,
     e: EngineNo,
     order: Order,
 ) -> Option<u8> {
@@ -40,7 +41,7 @@ pub(crate) fn ordered<P: Provider>(
 }
 
 // The letter of a command.
-fn taken<P: Provider>(book: &mut Book<P>, command: StackCommand) -> u8 {
+fn taken<K: Keeper, P: Provider>(book: &mut Book<K, P>, command: StackCommand) -> u8 {
     letter_of(book.command(command).err())
 }
 
@@ -54,7 +55,7 @@ fn letter_of(refusal: Option<Refusal>) -> u8 {
 }
 
 // Halts the book; the letter of whether it is halted for that.
-fn halt<P: Provider>(book: &mut Book<P>) -> u8 {
+fn halt<K: Keeper, P: Provider>(book: &mut Book<K, P>) -> u8 {
     book.halt(Halt::Memory);
     if book.halted() == Some(Halt::Memory) {
         b'+'
