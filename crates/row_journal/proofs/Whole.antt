@@ -1,5 +1,5 @@
 -- What stands whole behind a gate, and what doesn't.
-use Rattle.std.proofs.Common.{◌≡◌, ◌∙◌, ◌++◌, ◌∷◌, ◌≤◌, ◌-◌, [], ℕ, List, ap, arith, drop, length, refl, subst, sym, take}
+use Rattle.std.proofs.Common.{◌≡◌, ◌∙◌, ◌++◌, ◌∷◌, ◌≤◌, ◌-◌, [], ℕ, List, ap, arith, drop, length, subst, sym, take}
 use Rattle.std.specs.Prelude.{Err, IfOk, None, Ok, Option, Result, Some, get_or}
 use Rattle.std.proofs.lemmas.List.{take_all}
 use Rattle.row_journal.specs.declared.version.Version.{Version}

@@ -147,6 +147,14 @@ impl<D: Disk> Journal<D> {
         })
     }
 
+    /// Closes it: until it is opened anew no append and no snapshot of it is made.
+    pub fn close(&mut self)
+        ensures disk { self.new.disk ≡ self.old.disk }
+        ensures closed { self.new.failed ≡ true }
+    {
+        self.failed = true;
+    }
+
     /// What its disk reads as now. It never writes, and the journal goes on as it did.
     #[tactic(auto, using(crate::proofs::Runs::ready_alike))]
     pub fn reread(&mut self, alloc: Global) -> Result<Contents, ReadFault>
@@ -166,7 +174,10 @@ impl<D: Disk> Journal<D> {
         ensures cause { IsErrOf result ReadFault.Disk →
             Rose (D.faults self.old.disk) (D.faults self.new.disk) }
     {
-        let found = find(alloc, &mut self.disk)?;
+        let found = match find(alloc, &mut self.disk) {
+            Ok(found) => found,
+            Err(fault) => return Err(fault),
+        };
         Ok(Contents {
             payloads: found.payloads,
             pending: found.pending,
