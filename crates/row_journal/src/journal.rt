@@ -131,6 +131,8 @@ impl<D: Disk> Journal<D> {
             Survives (D.shown self.old.disk) (D.shown self.new.disk) }
         ensures memory { IsTrue (D.shown self.old.disk).tells → IsErrOf result ReadFault.Memory →
             ReadsAlike (D.shown self.old.disk) (D.shown self.new.disk) }
+        ensures time { IsTrue (D.shown self.old.disk).tells →
+            (D.shown self.old.disk).moment ≤ (D.shown self.new.disk).moment }
         ensures going { (self.new.failed ≡ false) ↔ IsOk result }
         ensures same { GoesOn (D.shown self.old.disk) (D.shown self.new.disk)
             (D.faults self.old.disk) (D.faults self.new.disk) }

@@ -38,6 +38,8 @@ pub(crate) fn take_up<D: Disk>(alloc: Global, disk: &mut D) -> Result<Found, Rea
     ensures kept { IsTrue (D.shown disk.old).tells → IsErrOf result ReadFault.Memory →
         ReadsAlike (D.shown disk.old) (D.shown disk.new) }
 
+    ensures time { IsTrue (D.shown disk.old).tells →
+        (D.shown disk.old).moment ≤ (D.shown disk.new).moment }
     ensures tells { (D.shown disk.new).tells ≡ (D.shown disk.old).tells }
     ensures later { D.faults disk.old ≤ D.faults disk.new }
     ensures disk { IsErrOf result ReadFault.Disk → Rose (D.faults disk.old) (D.faults disk.new) }

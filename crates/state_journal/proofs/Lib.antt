@@ -1,0 +1,4 @@
+pub mod Readings
+pub mod Telling
+pub mod Leavings
+pub mod Lawful
