@@ -1,4 +1,5 @@
 pub mod Readings
+pub mod Payloads
 pub mod Telling
 pub mod Leavings
 pub mod Lawful

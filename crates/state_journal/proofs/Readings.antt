@@ -24,7 +24,7 @@ use Rattle.state_journal.specs.Payloads.{AreSpellings, Give}
 use Rattle.state_journal.specs.Readings.{Holds, Reads, StandFor, sealed, torn}
 
 -- payloads are spellings of one list of lists at most
-lists_one : (payloads : List (List ℕ)) (a b : List (List Change)) → AreSpellings payloads a → AreSpellings payloads b → a ≡ b
+pub lists_one : (payloads : List (List ℕ)) (a b : List (List Change)) → AreSpellings payloads a → AreSpellings payloads b → a ≡ b
 lists_one [] [] [] x y = refl
 lists_one [] [] (c ∷ cs) x y = absurd y
 lists_one [] (c ∷ cs) b x y = absurd x

@@ -1,5 +1,7 @@
 -- What the payloads of a journal say: lists of changes, which make a state of nothing.
-use Rattle.std.specs.Prelude.{List, [], ℕ, ◌∷◌}
+use Rattle.std.specs.Prelude.{List, [], ℕ, ◌∷◌, ◌≡◌}
+use Rattle.core_state.specs.Applies.{AllApply}
+use Rattle.core_state.specs.Changes.{applied}
 use Rattle.core_state.specs.State.{StateData}
 use Rattle.core_state.specs.declared.change.Change.{Change}
 use Rattle.row_codec.specs.Changes.{IsSpelling}
@@ -17,3 +19,10 @@ pub record Give (payloads : List (List ℕ)) (s : StateData) : Type 0 where
   pub lists : List (List Change)
   pub spellings : AreSpellings payloads lists
   pub replay : IsReplay lists s
+
+-- one payload more leads from the one state to the other
+pub record Follows (payload : List ℕ) (s t : StateData) : Type 0 where
+  pub changes : List Change
+  pub spelling : IsSpelling payload changes
+  pub applies : AllApply changes s
+  pub gives : t ≡ applied changes s

@@ -2,5 +2,6 @@
 #![tactic(auto)]
 
 mod journaled;
+mod reading;
 
 pub use journaled::Journaled;
