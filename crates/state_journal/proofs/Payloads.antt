@@ -1,6 +1,6 @@
 -- Payloads, one behind another.
-use Rattle.std.proofs.Common.{◌≡◌, ◌∙◌, ◌++◌, ◌∷◌, ◌+◌, ◌<◌, [], ℕ, List, ap, append_assoc, drop, length, refl, subst, sym, take}
-use Rattle.std.specs.Prelude.{get_or}
+use Rattle.std.proofs.Common.{◌≡◌, ◌∙◌, ◌++◌, ◌∷◌, ◌+◌, ◌<◌, [], ℕ, List, ap, append_assoc, drop, inl, inr, length, refl, subst, sym, take}
+use Rattle.std.specs.Prelude.{Bool, Ok, Result, Some, false, get_or, true}
 use Rattle.std.proofs.lemmas.List.{drop_more, take-append-drop, take_more}
 use Rattle.core_state.specs.Applies.{AllApply}
 use Rattle.core_state.specs.Changes.{applied, apply}
@@ -10,6 +10,7 @@ use Rattle.row_codec.specs.Changes.{IsSpelling}
 use Rattle.state_images.specs.Replays.{joined}
 use Rattle.step_relation.specs.Opening.{bare}
 use Rattle.state_journal.specs.Payloads.{AreSpellings, Follows, Give}
+use Rattle.state_journal.specs.Readings.{IsKnownBehind}
 use Rattle.state_journal.proofs.Readings.{lists_one}
 
 -- none give the empty state
@@ -44,7 +45,7 @@ second_applies : (a b : List Change) (s : StateData) → AllApply (a ++ b) s →
 second_applies [] b s all = all
 second_applies (c ∷ cs) b s all = second_applies cs b (apply c s) all.1
 
-both_applied : (a b : List Change) (s : StateData) → applied (a ++ b) s ≡ applied b (applied a s)
+pub both_applied : (a b : List Change) (s : StateData) → applied (a ++ b) s ≡ applied b (applied a s)
 both_applied [] b s = refl
 both_applied (c ∷ cs) b s = both_applied cs b (apply c s)
 
@@ -121,3 +122,18 @@ module _ (ps : List (List ℕ)) (i : ℕ) (p : List ℕ) (s : StateData) (less :
       (subst (λ (l : List (List ℕ)). Give l u) (sym (take-append-drop i ps)
       ∙ ap (λ (l : List (List ℕ)). take i ps ++ l)
       (drop_more ps i p less ∙ ap (λ (q : List ℕ). q ∷ drop (i + 1) ps) (sym is))) it)
+
+-- whether what stands behind them gives a state is known once it is known whether it follows
+behind_given : (ps : List (List ℕ)) (p : List ℕ) (s : StateData) → Give ps s → ((t : StateData) × Follows p s t)
+    → IsKnownBehind ps (Some p)
+behind_given ps p s give it = inl (it.0, give_push ps p s it.0 give it.1)
+
+behind_none : (ps : List (List ℕ)) (p : List ℕ) (s : StateData) → Give ps s → ((t : StateData) → ¬ Follows p s t)
+    → IsKnownBehind ps (Some p)
+behind_none ps p s give none = inr (give_stops ps [] p s give none)
+
+pub behind_by : {E : Type 0} (ps : List (List ℕ)) (p : List ℕ) (s : StateData) → Give ps s → (r : Result Bool E) (b : Bool)
+    → r ≡ Ok b → (r ≡ Ok true → (t : StateData) × Follows p s t) → (r ≡ Ok false → (t : StateData) → ¬ Follows p s t)
+    → IsKnownBehind ps (Some p)
+behind_by ps p s give r true is follows none = behind_given ps p s give (follows is)
+behind_by ps p s give r false is follows none = behind_none ps p s give (none is)

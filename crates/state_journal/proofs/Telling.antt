@@ -1,8 +1,8 @@
 -- What halves stand for is known once their payloads, and what stands behind them, were looked at.
 use Rattle.std.proofs.Common.{◌≡◌, ◌∙◌, ◌⊎◌, ◌++◌, ◌∷◌, ◌≤◌, [], ℕ, List, Option, Some, None, ap, arith, inl, inr, length, refl, subst, sym}
-use Rattle.std.specs.Prelude.{false, get_or, nat_le, true, ◌<◌}
+use Rattle.std.specs.Prelude.{Err, IfOk, Ok, Result, false, get_or, nat_le, true, ◌<◌}
 use Rattle.std.proofs.lemmas.Bool.Decides.{leb_tells}
-use Rattle.core_state.specs.State.{StateData}
+use Rattle.core_state.specs.State.{Held, StateData}
 use Rattle.heat_disk.specs.Halves.{Pair}
 use Rattle.heat_disk.specs.declared.half.Half.{Half}
 use Rattle.heat_disk.specs.declared.half.Half.TheVariants.{First, Second}
@@ -14,12 +14,8 @@ use Rattle.row_journal.specs.Pending.{AreContents, IsPending}
 use Rattle.row_journal.specs.declared.contents.Contents.{Contents}
 use Rattle.row_journal.proofs.Found.{image_same}
 use Rattle.state_journal.specs.Payloads.{Give}
-use Rattle.state_journal.specs.Readings.{Holds, ReadAs, Reads, StandFor, sealed, torn}
+use Rattle.state_journal.specs.Readings.{Holds, IsKnownBehind, ReadAs, Reads, StandFor, sealed, torn}
 use Rattle.state_journal.proofs.Readings.{give_one, pending_one, sealed_none}
-
--- there is such a thing, or there is none
-abbrev pub Told : {A : Type 0} → (A → Type 0) → Type 0
-Told {A} P = ((x : A) × P x) ⊎ ((x : A) → ¬ P x)
 
 -- which of two numbers is greater
 abbrev Compared : ℕ → ℕ → Type 0
@@ -81,13 +77,8 @@ module _ (halves : Pair) (image : ImageData) where
         none t (subst (λ (q : List ℕ). Give (image.payloads ++ q ∷ []) t) (pending_one halves image p payload here it)
         (subst (λ (x : ImageData). Give (x.payloads ++ p ∷ []) t) same more))
 
-    -- what the payload behind it gives, if there is one
-    abbrev pub TellsBehind : Option (List ℕ) → Type 0
-    TellsBehind None = Unit {0}
-    TellsBehind (Some payload) = Told (Give (image.payloads ++ payload ∷ []))
-
     stands : (s : StateData) → Give image.payloads s → (pending : Option (List ℕ)) → IsPending halves image pending
-        → TellsBehind pending → IsSealed halves image ⊎ (IsSealed halves image → ⊥)
+        → IsKnownBehind image.payloads pending → IsSealed halves image ⊎ (IsSealed halves image → ⊥)
         → (l : Option Left) × StandFor halves l
     stands s give pending it tells (inl ends_sealed) =
         (Some (at_rest s), sealed image s (record { is_image = is; sealed = ends_sealed }) give)
@@ -96,9 +87,35 @@ module _ (halves : Pair) (image : ImageData) where
         (Some (record { reads = s; next = Some told.0 }), torn image payload s told.0 is it give told.1)
     stands s give (Some payload) it (inr none) (inr open_) = (None, torn_none payload it none)
 
-    pub tells_left : (pending : Option (List ℕ)) → IsPending halves image pending → TellsBehind pending
+    pub tells_left : (pending : Option (List ℕ)) → IsPending halves image pending → IsKnownBehind image.payloads pending
         → (s : StateData) → Give image.payloads s → (l : Option Left) × StandFor halves l
     tells_left pending it tells s give = stands s give pending it tells is_sealed
 
     pub tells_none : ((s : StateData) → ¬ Give image.payloads s) → StandFor halves None
     tells_none none = give_none none
+
+-- so what was found is read as the state that it gives
+read_as : (halves : Pair) (c : Contents) (it : AreContents halves c) (s : StateData) → Give c.payloads.items s
+    → IsKnownBehind c.payloads.items c.pending → ReadAs halves s
+read_as halves c it s give known =
+    let gives : Give it.image.payloads s = subst (λ (ps : List (List ℕ)). Give ps s) it.payloads give in
+    let tells : IsKnownBehind it.image.payloads c.pending =
+    subst (λ (ps : List (List ℕ)). IsKnownBehind ps c.pending) it.payloads known in
+    let left = tells_left halves it.image it.is_image c.pending it.pending tells s gives in record {
+      holds = record { image = it.image; is_image = it.is_image; give = gives };
+      left = left.0;
+      stand = left.1;
+    }
+
+-- and holds none where it gives none
+pub holds_none : (halves : Pair) (c : Contents) (it : AreContents halves c) → ((s : StateData) → ¬ Give c.payloads.items s)
+    → (s : StateData) → ¬ Holds s halves
+holds_none halves c it none s holds = none s (subst (λ (ps : List (List ℕ)). Give ps s) (sym it.payloads)
+    (subst (λ (i : ImageData). Give i.payloads s) (image_same halves holds.image it.image holds.is_image it.is_image)
+    holds.give))
+
+pub read_found : {E : Type 0} (halves : Pair) (c : Contents) → AreContents halves c → (r : Result Held E)
+    → IfOk r (λ s. Give c.payloads.items s.state) → IfOk r (λ _. IsKnownBehind c.payloads.items c.pending)
+    → IfOk r (λ s. ReadAs halves s.state)
+read_found halves c it (Ok s) give known = read_as halves c it s.state give known
+read_found halves c it (Err e) give known = tt

@@ -1,3 +1,5 @@
 pub mod Payloads
 pub mod Readings
 pub mod Shown
+pub mod Openings
+pub mod Faults

@@ -1,5 +1,5 @@
 -- What two halves of bytes stand for: the state that is read, and the one that may yet be read in its place.
-use Rattle.std.specs.Prelude.{List, None, Option, Some, [], ℕ, ◌++◌, ◌∷◌}
+use Rattle.std.specs.Prelude.{List, None, Option, Some, [], ℕ, ◌++◌, ◌∷◌, ◌⊎◌}
 use Rattle.core_state.specs.State.{StateData}
 use Rattle.heat_disk.specs.Halves.{Pair}
 use Rattle.record_keeper.specs.Shown.{Left, at_rest}
@@ -33,3 +33,11 @@ pub record ReadAs (halves : Pair) (s : StateData) : Type 0 where
   pub holds : Holds s halves
   pub left : Option Left
   pub stand : StandFor halves left
+
+-- Of these payloads, and of what stands behind their records, it is known whether they give a state.
+abbrev pub Told : {A : Type 0} → (A → Type 0) → Type 0
+Told {A} P = ((x : A) × P x) ⊎ ((x : A) → ¬ P x)
+
+abbrev pub IsKnownBehind : List (List ℕ) → Option (List ℕ) → Type 0
+IsKnownBehind payloads None = Unit {0}
+IsKnownBehind payloads (Some payload) = Told (Give (payloads ++ payload ∷ []))

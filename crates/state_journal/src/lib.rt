@@ -2,6 +2,7 @@
 #![tactic(auto)]
 
 mod journaled;
+mod looking;
 mod reading;
 
 pub use journaled::Journaled;
