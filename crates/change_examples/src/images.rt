@@ -2,8 +2,8 @@
 ghost use Rattle.state_images.specs.Images.{IsMade};
 
 use crate::digits::bytes_of;
+use crate::spelled_changes::changes_at;
 use core_state::{Batch, Change, State};
-use row_codec::read;
 use state_images::{is_tied, replay, snapshot_of};
 use std::alloc::{AllocError, Global};
 use std::process::Abort;
@@ -151,12 +151,8 @@ fn image(alloc: Global, digits: &str) -> Result<Batch<Batch<Change>>, AllocError
     Ok(lists)
 }
 
-// The changes that the digits spell; where they spell none, it fails as if memory were wanted.
+// The changes that the digits spell.
 fn changes_of(alloc: Global, digits: &str) -> Result<Batch<Change>, AllocError> {
     let bytes = bytes_of(alloc, digits)?;
-    let mut changes = Batch::new(alloc);
-    for change in read(alloc, &bytes)?.ok_or(AllocError)? {
-        changes.push(change)?;
-    }
-    Ok(changes)
+    changes_at(alloc, &bytes)
 }

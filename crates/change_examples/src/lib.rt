@@ -1,6 +1,7 @@
 //! The bytes of changes, worked out by hand from the page on formats: each of the fifteen kinds is read and
-//! written so, what is off the grammar is refused, and what becomes of hostile images. There are tests alone
-//! here, of `row_codec`, `plan_codec` and `state_images`; nothing stands on this crate.
+//! written so, what is off the grammar is refused, what becomes of hostile images, and a snapshot's bytes. There
+//! are tests alone here, of `row_codec`, `plan_codec`, `state_images` and `snapshot_codec`; nothing stands on
+//! this crate.
 #![tactic(auto)]
 
 #[cfg(test)]
@@ -11,3 +12,7 @@ mod images;
 mod kinds;
 #[cfg(test)]
 mod refusals;
+#[cfg(test)]
+mod snapshots;
+#[cfg(test)]
+mod spelled_changes;

@@ -3,6 +3,7 @@
 #![tactic(auto)]
 
 mod acts;
+mod brought;
 mod change_puts;
 mod change_reads;
 mod graphs;
@@ -27,6 +28,7 @@ mod stages;
 mod statuses;
 mod tokens;
 
+pub use brought::Brought;
 pub use laws::{no_prefix, one_reading, read_back};
 pub use payloads::{fill, read, size, write};
 pub use plan_codec::Sheet;
