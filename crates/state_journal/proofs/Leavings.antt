@@ -23,7 +23,8 @@ use Rattle.state_journal.specs.Payloads.{Give}
 use Rattle.state_journal.specs.Readings.{Reads, StandFor, sealed, torn}
 use Rattle.state_journal.specs.Shown.{Leave, shown_by}
 use Rattle.row_journal.proofs.Found.{image_same}
-use Rattle.state_journal.proofs.Readings.{pending_one, sealed_none, stand_one}
+use Rattle.state_journal.specs.Lawful.{sealed_rest}
+use Rattle.state_journal.specs.Unique.{pending_one, sealed_none, stand_one}
 
 module _ (old new : ShownDisk) (at to : Place) (failed fails : Bool) where
   -- what holds of each pair of halves holds of what they stand for
@@ -56,12 +57,6 @@ module _ (old new : ShownDisk) (at to : Place) (failed fails : Bool) where
       })
       (λ c l may stand. record { from = l; left = record { pair = c; left = may; stand = stand }; stems = same refl })
 
--- what is sealed stands for the state of its image
-pub sealed_rest : (image : ImageData) (s : StateData) (c : Pair) (l : Option Left) → LeavesSealed image c
-    → Give image.payloads s → StandFor c l → l ≡ Some (at_rest s)
-sealed_rest image s c l leaves give stand =
-    stand_one c l (Some (at_rest s)) stand (sealed image s leaves give)
-
 -- what ends at a torn gate, for that and what stands behind it
 pub torn_both : (image : ImageData) (payload : List ℕ) (s t : StateData) (c : Pair) (l : Option Left)
     → IsImage c image → IsPending c image (Some payload) → Give image.payloads s
@@ -92,13 +87,13 @@ ajar_either : (image : ImageData) (payload : List ℕ) (c : Pair) → LeavesAjar
     → LeavesSealed image c ⊎ IsPending c image (Some payload)
 ajar_either image payload c it = elim (is_zero it.gate) [
   | inl zero ↦ inl (record {
-      is_image = it.is_image;
-      sealed = ends.closed (record {
-        rest = body image.version (length image.payloads + 1) payload ++ 0 ∷ it.next.rest;
-        gate = it.next.parts
-            ∙ ap (λ (g : ℕ). g ∷ body image.version (length image.payloads + 1) payload ++ 0 ∷ it.next.rest) zero;
-      });
-    })
+    is_image = it.is_image;
+    sealed = ends.closed (record {
+      rest = body image.version (length image.payloads + 1) payload ++ 0 ∷ it.next.rest;
+      gate = it.next.parts
+          ∙ ap (λ (g : ℕ). g ∷ body image.version (length image.payloads + 1) payload ++ 0 ∷ it.next.rest) zero;
+    });
+  })
   | inr torn_gate ↦ inr (is_pending image payload c it.gate torn_gate it.next)
 ]
 

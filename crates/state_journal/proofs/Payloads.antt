@@ -11,7 +11,7 @@ use Rattle.state_images.specs.Replays.{joined}
 use Rattle.step_relation.specs.Opening.{bare}
 use Rattle.state_journal.specs.Payloads.{AreSpellings, Follows, Give}
 use Rattle.state_journal.specs.Readings.{IsKnownBehind}
-use Rattle.state_journal.proofs.Readings.{lists_one}
+use Rattle.state_journal.specs.Unique.{lists_one}
 
 -- none give the empty state
 pub give_none : Give [] bare

@@ -15,7 +15,7 @@ use Rattle.row_journal.specs.declared.contents.Contents.{Contents}
 use Rattle.row_journal.proofs.Found.{image_same}
 use Rattle.state_journal.specs.Payloads.{Give}
 use Rattle.state_journal.specs.Readings.{Holds, IsKnownBehind, ReadAs, Reads, StandFor, sealed, torn}
-use Rattle.state_journal.proofs.Readings.{give_one, pending_one, sealed_none}
+use Rattle.state_journal.specs.Unique.{give_one, pending_one, sealed_none}
 
 -- which of two numbers is greater
 abbrev Compared : ℕ → ℕ → Type 0
@@ -44,10 +44,12 @@ module _ (halves : Pair) (image : ImageData) where
     by (inl closed) half few = inl (ends.closed closed)
     by (inr open_) (inl first) (inl few) = inl (ends.short first few.1)
     by (inr open_) (inl first) (inr many) = inr (λ it. elim it [
-      ends.short half few ↦ omega (arith, few, many.1) | ends.closed closed ↦ open_ closed
+      | ends.short half few ↦ omega (arith, few, many.1)
+      | ends.closed closed ↦ open_ closed
     ])
     by (inr open_) (inr second) few = inr (λ it. elim it [
-      ends.short half few ↦ second half | ends.closed closed ↦ open_ closed
+      | ends.short half few ↦ second half
+      | ends.closed closed ↦ open_ closed
     ])
 
   module _ (is : IsImage halves image) where

@@ -3,3 +3,5 @@ pub mod Readings
 pub mod Shown
 pub mod Openings
 pub mod Faults
+pub mod Unique
+pub mod Lawful

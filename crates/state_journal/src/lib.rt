@@ -2,7 +2,9 @@
 #![tactic(auto)]
 
 mod journaled;
+mod keeper;
 mod looking;
+mod opening;
 mod reading;
 
 pub use journaled::Journaled;

@@ -8,6 +8,7 @@ use Rattle.heat_disk.specs.Shown.{ShownDisk}
 use Rattle.record_keeper.specs.Laws.{IsLawful, IsRecalled, IsTold}
 use Rattle.record_keeper.specs.Shown.{Left, at_rest}
 use Rattle.row_journal.specs.Ends as ends
+use Rattle.row_journal.specs.Ends.{LeavesSealed}
 use Rattle.row_journal.specs.Images.{ImageData}
 use Rattle.row_journal.specs.Ready.{IsReady}
 use Rattle.row_journal.specs.declared.place.Place.{Place}
@@ -15,8 +16,13 @@ use Rattle.row_journal.proofs.Found.{image_same}
 use Rattle.state_journal.specs.Payloads.{Give}
 use Rattle.state_journal.specs.Readings.{Holds, ReadAs, Reads, StandFor, sealed, torn}
 use Rattle.state_journal.specs.Shown.{Leave, StandsAs, is_long_at, opens_by, shown_by}
-use Rattle.state_journal.proofs.Leavings.{sealed_rest}
-use Rattle.state_journal.proofs.Readings.{give_one, holds_one}
+use Rattle.state_journal.specs.Unique.{give_one, holds_one, stand_one}
+
+-- what is sealed stands for the state of its image
+pub sealed_rest : (image : ImageData) (s : StateData) (c : Pair) (l : Option Left) → LeavesSealed image c
+    → Give image.payloads s → StandFor c l → l ≡ Some (at_rest s)
+sealed_rest image s c l leaves give stand =
+    stand_one c l (Some (at_rest s)) stand (sealed image s leaves give)
 
 right : (a b : Bool) → IsTrue (a && b) → IsTrue b
 right true b both = both

@@ -11,7 +11,9 @@ use Rattle.heat_value.specs.Counts.{Rose}
 use Rattle.record_keeper.specs.Calls.{ComesOf, GoesOn, HasOpened, IsForeign, same, unknown}
 use Rattle.record_keeper.specs.Shown.{Left, LeavesOnly, SameOpenings, StandsFor, at_rest}
 use Rattle.record_keeper.specs.declared.open_fault.OpenFault.{OpenFault}
-use Rattle.record_keeper.specs.declared.open_fault.OpenFault.TheVariants.{DiskFault, Foreign}
+use Rattle.record_keeper.specs.declared.open_fault.OpenFault.TheVariants.{DiskFault, Foreign, Memory}
+use Rattle.row_journal.specs.declared.fault.ReadFault.{ReadFault}
+use Rattle.row_journal.specs.declared.fault.ReadFault.TheVariants as why
 use Rattle.row_journal.specs.Ends as ends
 use Rattle.row_journal.specs.Ends.{IsSealed, IsTidy}
 use Rattle.row_journal.specs.Images.{ImageData, IsImage}
@@ -23,14 +25,15 @@ use Rattle.row_journal.specs.Pending.{IsPending}
 use Rattle.row_journal.specs.Ready.{IsReady}
 use Rattle.row_journal.proofs.Found.{image_same}
 use Rattle.step_relation.specs.Images.{IsTied}
+use Rattle.state_journal.specs.Faults.{open_fault}
 use Rattle.state_journal.specs.Openings.{OpensAs, Standing, shown_of}
 use Rattle.state_journal.specs.Payloads.{Give}
 use Rattle.state_journal.specs.Readings.{Holds, ReadAs, Reads, StandFor, sealed, torn}
 use Rattle.state_journal.specs.Shown.{StandsAs, opens_by, shown_by}
 use Rattle.state_journal.proofs.Fitting.{IsFitting}
-use Rattle.state_journal.proofs.Lawful.{ready_rest}
+use Rattle.state_journal.specs.Lawful.{ready_rest}
 use Rattle.state_journal.proofs.Leavings.{leaves_alike, leaves_read, mended_left}
-use Rattle.state_journal.proofs.Readings.{give_one, holds_one}
+use Rattle.state_journal.specs.Unique.{give_one, holds_one}
 
 -- an end of which it is known what stands behind it is tidy
 tidy_end : (halves : Pair) (image : ImageData) → IsSealed halves image → IsTidy halves image
@@ -71,45 +74,45 @@ alike_then old mid new law first second = record {
 
 module _ (old mid new : ShownDisk) (law : IsLawful old) (alike : ReadsAlike old mid) (later : mid.moment ≤ new.moment)
     (survives : Survives mid new) (at to : Place) (failed fails : Bool) (image : ImageData) (is : IsImage old.seen image)
-    where
-  -- where nothing is told, anything may come of it
-  of_none : StandFor old.seen None
-      → LeavesOnly (shown_by old at failed) (shown_by new to fails) (ComesOf (shown_by old at failed))
-  of_none none = leaves_read old new at to failed fails (λ c. Unit {0}) (ComesOf (shown_by old at failed))
-      (record { later = omega (arith, alike.time.later, later); each = λ c since. tt; before = λ t c early since. inr tt })
-      (λ c l any stand. record {
-        from = None;
-        left = record { pair = old.seen; left = law.reads; stand = none };
-        stems = unknown refl;
-      })
+  where
+    -- where nothing is told, anything may come of it
+    of_none : StandFor old.seen None
+        → LeavesOnly (shown_by old at failed) (shown_by new to fails) (ComesOf (shown_by old at failed))
+    of_none none = leaves_read old new at to failed fails (λ c. Unit {0}) (ComesOf (shown_by old at failed))
+        (record { later = omega (arith, alike.time.later, later); each = λ c since. tt; before = λ t c early since. inr tt })
+        (λ c l any stand. record {
+          from = None;
+          left = record { pair = old.seen; left = law.reads; stand = none };
+          stems = unknown refl;
+        })
 
-  of_left : (k : Left) → Reads old.seen k
-      → LeavesOnly (shown_by old at failed) (shown_by new to fails) (ComesOf (shown_by old at failed))
-  of_left k reads =
-      let first : disk.LeavesOnly old mid (Recovering old image) =
-      goes_on old old mid (Recovering old image) (started old (Recovering old image) law (λ c now. inl now)) alike.time
-      (λ c now. inl (alike.crash c now)) in
-      let second : disk.LeavesOnly mid new (Recovering mid image) =
-      survives image (subst (λ (c : Pair). IsImage c image) (sym alike.seen) is)
-      (subst (λ (c : Pair). IsTidy c image) (sym alike.seen) (tidy_of old.seen k reads image is)) in
-      leaves_read old new at to failed fails (Recovering old image) (ComesOf (shown_by old at failed))
-      (joined old mid new (Recovering old image) (Recovering mid image) first second (λ c it. elim it [
-        | inl now ↦ inl (alike.crash c now)
-        | inr mended ↦ inr (subst (λ (x : Pair). Mended image x c) alike.seen mended)
-      ]))
-      (λ c l it stand. elim it [
-        | inl now ↦ record { from = l; left = record { pair = c; left = now; stand = stand }; stems = same refl }
-        | inr mended ↦ record {
+    of_left : (k : Left) → Reads old.seen k
+        → LeavesOnly (shown_by old at failed) (shown_by new to fails) (ComesOf (shown_by old at failed))
+    of_left k reads =
+        let first : disk.LeavesOnly old mid (Recovering old image) =
+        goes_on old old mid (Recovering old image) (started old (Recovering old image) law (λ c now. inl now)) alike.time
+        (λ c now. inl (alike.crash c now)) in
+        let second : disk.LeavesOnly mid new (Recovering mid image) =
+        survives image (subst (λ (c : Pair). IsImage c image) (sym alike.seen) is)
+        (subst (λ (c : Pair). IsTidy c image) (sym alike.seen) (tidy_of old.seen k reads image is)) in
+        leaves_read old new at to failed fails (Recovering old image) (ComesOf (shown_by old at failed))
+        (joined old mid new (Recovering old image) (Recovering mid image) first second (λ c it. elim it [
+          | inl now ↦ inl (alike.crash c now)
+          | inr mended ↦ inr (subst (λ (x : Pair). Mended image x c) alike.seen mended)
+        ]))
+        (λ c l it stand. elim it [
+          | inl now ↦ record { from = l; left = record { pair = c; left = now; stand = stand }; stems = same refl }
+          | inr mended ↦ record {
             from = Some k;
             left = record { pair = old.seen; left = law.reads; stand = reads };
             stems = mended_left old.seen image is l (Some k) reads c mended stand;
           }
-      ])
+        ])
 
-  pub leaves_survived : (m : Option Left) → StandFor old.seen m
-      → LeavesOnly (shown_by old at failed) (shown_by new to fails) (ComesOf (shown_by old at failed))
-  leaves_survived None none = of_none none
-  leaves_survived (Some k) reads = of_left k reads
+    pub leaves_survived : (m : Option Left) → StandFor old.seen m
+        → LeavesOnly (shown_by old at failed) (shown_by new to fails) (ComesOf (shown_by old at failed))
+    leaves_survived None none = of_none none
+    leaves_survived (Some k) reads = of_left k reads
 
 module _ (old new : Standing) (law : IsTrue old.disk.tells → IsLawful old.disk)
     (tells : new.disk.tells ≡ old.disk.tells) (later : old.faults ≤ new.faults) where
@@ -160,6 +163,23 @@ module _ (old new : Standing) (law : IsTrue old.disk.tells → IsLawful old.disk
       goes_on = goes;
       cause = λ is. rose;
     }
+
+    image_there : (told : IsTrue old.disk.tells) → IsImage mid.seen (read told).holds.image
+    image_there told = subst (λ (c : Pair). IsImage c (read told).holds.image) (sym (alike told).seen)
+        (read told).holds.is_image
+
+    -- it wasn't taken up, for this
+    pub unopened : (fault : ReadFault) → new.failed ≡ true → (fault ≡ why.Disk → Rose old.faults new.faults)
+        → (fault ≡ why.Foreign → IsTrue old.disk.tells → journal.IsForeign mid new.disk)
+        → (fault ≡ why.Memory → IsTrue old.disk.tells → ReadsAlike mid new.disk) → OpensAs old new (Err (open_fault fault))
+    unopened why.Disk closed rose foreign memory = broken closed (rose refl)
+    unopened why.Foreign closed rose foreign memory = refused Foreign
+        (λ told. alike_then old.disk mid new.disk (law told) (alike told) (foreign refl told).alike) closed
+        (λ is told. absurd ((foreign refl told).none (read told).holds.image (image_there told)))
+        (λ is. absurd (let no : ⊥ = cc in no))
+    unopened why.Memory closed rose foreign memory = refused Memory
+        (λ told. alike_then old.disk mid new.disk (law told) (alike told) (memory refl told)) closed
+        (λ is. absurd (let no : ⊥ = cc in no)) (λ is. absurd (let no : ⊥ = cc in no))
 
     -- it was taken up
     module _ (open_ : new.failed ≡ false) (fits : IsFitting s) (tied : IsTied s) (payloads : List (List ℕ))
@@ -233,3 +253,11 @@ module _ (old new : Standing) (law : IsTrue old.disk.tells → IsLawful old.disk
         goes_on = goes;
         cause = λ is. absurd (let no : ⊥ = cc in no);
       }
+
+-- a count that rose since a later moment rose since an earlier one
+pub rose_since : (first mid last : ℕ) → first ≤ mid → Rose mid last → Rose first last
+rose_since first mid last later rose = omega (arith, later, rose)
+
+pub is_true : (b : Bool) → (b ≡ false → ⊥) → b ≡ true
+is_true true never = refl
+is_true false never = absurd (never refl)

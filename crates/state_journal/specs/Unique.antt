@@ -97,7 +97,7 @@ reads_one halves _ _ (torn i p s u a w g k) (torn j q t v b x h m) =
     let first : s ≡ t = give_one j.payloads s t (to (λ (y : ImageData). Give y.payloads s) g) h in
     let payload : p ≡ q = pending_one halves j p q (to (λ (y : ImageData). IsPending halves y (Some p)) w) x in
     let behind_both : u ≡ v = give_one (j.payloads ++ q ∷ []) u v
-        (subst (λ (z : List ℕ). Give (j.payloads ++ z ∷ []) u) payload (to (λ (y : ImageData). Give (y.payloads ++ p ∷ []) u) k)) m in
+    (subst (λ (z : List ℕ). Give (j.payloads ++ z ∷ []) u) payload (to (λ (y : ImageData). Give (y.payloads ++ p ∷ []) u) k)) m in
     ap (λ (z : StateData). record { reads = z; next = Some u }) first
     ∙ ap (λ (z : StateData). record { reads = t; next = Some z }) behind_both
 
