@@ -1,6 +1,6 @@
 -- What a crash leaves of the disk, as what it leaves of the state.
 use Rattle.std.proofs.Common.{◌≡◌, ◌⊎◌, ◌++◌, ◌∷◌, ◌≤◌, [], ℕ, Bool, List, Option, Some, None, ap, arith, inl, inr, length, subst, sym, ◌∙◌, refl}
-use Rattle.std.specs.Prelude.{◌+◌, ◌<◌, ◌≢◌, false, nat_le, true}
+use Rattle.std.specs.Prelude.{IsTrue, ◌+◌, ◌<◌, ◌≢◌, false, nat_le, true}
 use Rattle.std.proofs.lemmas.Bool.Decides.{leb_tells}
 use Rattle.core_state.specs.State.{StateData}
 use Rattle.heat_disk.specs.Calls.{ReadsAlike}
@@ -21,24 +21,32 @@ use Rattle.row_journal.specs.Snapshots.{LeavesSnapshot, fresh_snapshot}
 use Rattle.row_journal.specs.declared.place.Place.{Place}
 use Rattle.state_journal.specs.Payloads.{Give}
 use Rattle.state_journal.specs.Readings.{Reads, StandFor, sealed, torn}
-use Rattle.state_journal.specs.Shown.{Leave, shown_by}
+use Rattle.state_journal.specs.Shown.{Leave, moment_of, shown_by}
 use Rattle.row_journal.proofs.Found.{image_same}
 use Rattle.state_journal.specs.Lawful.{sealed_rest}
 use Rattle.state_journal.specs.Unique.{pending_one, sealed_none, stand_one}
 
-module _ (old new : ShownDisk) (at to : Place) (failed fails : Bool) where
+-- where a disk tells, its moment is told
+told_moment : (d : ShownDisk) → IsTrue d.tells → moment_of d.tells d.moment ≡ d.moment
+told_moment d told = ap (λ (b : Bool). moment_of b d.moment) told
+
+module _ (old new : ShownDisk) (at to : Place) (failed fails : Bool) (told : IsTrue old.tells)
+    (tells : new.tells ≡ old.tells) where
   -- what holds of each pair of halves holds of what they stand for
   pub leaves_read : (P : Pair → Type 0) (Q : Option Left → Type 0) → disk.LeavesOnly old new P
       → ((c : Pair) (l : Option Left) → P c → StandFor c l → Q l)
       → LeavesOnly (shown_by old at failed) (shown_by new to fails) Q
-  leaves_read P Q leaves all = record {
-    later = leaves.later;
-    each = λ l it. all it.pair l (leaves.each it.pair it.left) it.stand;
-    before = λ t l early it. elim (leaves.before t it.pair early it.left) [
-      | inl was ↦ inl (record { pair = it.pair; left = was; stand = it.stand })
-      | inr is ↦ inr (all it.pair l is it.stand)
-    ];
-  }
+  leaves_read P Q leaves all =
+      let first = told_moment old told in
+      let last = told_moment new (tells ∙ told) in record {
+        later = omega (arith, leaves.later, first, last);
+        each = λ l it. all it.pair l
+            (leaves.each it.pair (subst (λ (t : ℕ). new.left_since t it.pair) first it.left)) it.stand;
+        before = λ t l early it. elim (leaves.before t it.pair (omega (arith, early, first)) it.left) [
+          | inl was ↦ inl (record { told = told; pair = it.pair; left = was; stand = it.stand })
+          | inr is ↦ inr (all it.pair l is it.stand)
+        ];
+      }
 
   -- a call that reads leaves what might have been left before it
   pub leaves_alike : IsLawful old → ReadsAlike old new
@@ -55,7 +63,11 @@ module _ (old new : ShownDisk) (at to : Place) (failed fails : Bool) where
           | inr is ↦ inr (alike.crash c is)
         ];
       })
-      (λ c l may stand. record { from = l; left = record { pair = c; left = may; stand = stand }; stems = same refl })
+      (λ c l may stand. record {
+        from = l;
+        left = record { told = told; pair = c; left = may; stand = stand };
+        stems = same refl;
+      })
 
 -- what ends at a torn gate, for that and what stands behind it
 pub torn_both : (image : ImageData) (payload : List ℕ) (s t : StateData) (c : Pair) (l : Option Left)

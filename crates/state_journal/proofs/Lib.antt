@@ -3,3 +3,4 @@ pub mod Telling
 pub mod Leavings
 pub mod Fitting
 pub mod Opened
+pub mod Keeping

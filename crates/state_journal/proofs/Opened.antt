@@ -74,15 +74,15 @@ alike_then old mid new law first second = record {
 
 module _ (old mid new : ShownDisk) (law : IsLawful old) (alike : ReadsAlike old mid) (later : mid.moment ≤ new.moment)
     (survives : Survives mid new) (at to : Place) (failed fails : Bool) (image : ImageData) (is : IsImage old.seen image)
-  where
+    (told : IsTrue old.tells) (tells : new.tells ≡ old.tells) where
     -- where nothing is told, anything may come of it
     of_none : StandFor old.seen None
         → LeavesOnly (shown_by old at failed) (shown_by new to fails) (ComesOf (shown_by old at failed))
-    of_none none = leaves_read old new at to failed fails (λ c. Unit {0}) (ComesOf (shown_by old at failed))
+    of_none none = leaves_read old new at to failed fails told tells (λ c. Unit {0}) (ComesOf (shown_by old at failed))
         (record { later = omega (arith, alike.time.later, later); each = λ c since. tt; before = λ t c early since. inr tt })
         (λ c l any stand. record {
           from = None;
-          left = record { pair = old.seen; left = law.reads; stand = none };
+          left = record { told = told; pair = old.seen; left = law.reads; stand = none };
           stems = unknown refl;
         })
 
@@ -95,16 +95,16 @@ module _ (old mid new : ShownDisk) (law : IsLawful old) (alike : ReadsAlike old 
         let second : disk.LeavesOnly mid new (Recovering mid image) =
         survives image (subst (λ (c : Pair). IsImage c image) (sym alike.seen) is)
         (subst (λ (c : Pair). IsTidy c image) (sym alike.seen) (tidy_of old.seen k reads image is)) in
-        leaves_read old new at to failed fails (Recovering old image) (ComesOf (shown_by old at failed))
+        leaves_read old new at to failed fails told tells (Recovering old image) (ComesOf (shown_by old at failed))
         (joined old mid new (Recovering old image) (Recovering mid image) first second (λ c it. elim it [
           | inl now ↦ inl (alike.crash c now)
           | inr mended ↦ inr (subst (λ (x : Pair). Mended image x c) alike.seen mended)
         ]))
         (λ c l it stand. elim it [
-          | inl now ↦ record { from = l; left = record { pair = c; left = now; stand = stand }; stems = same refl }
+          | inl now ↦ record { from = l; left = record { told = told; pair = c; left = now; stand = stand }; stems = same refl }
           | inr mended ↦ record {
             from = Some k;
-            left = record { pair = old.seen; left = law.reads; stand = reads };
+            left = record { told = told; pair = old.seen; left = law.reads; stand = reads };
             stems = mended_left old.seen image is l (Some k) reads c mended stand;
           }
         ])
@@ -137,7 +137,8 @@ module _ (old new : Standing) (law : IsTrue old.disk.tells → IsLawful old.disk
     closed = closed;
     foreign = λ is told. foreign (let it : fault ≡ Foreign = cc in it) told;
     opens = λ no. same_openings (λ told. (alike told).seen);
-    crash = λ told. leaves_alike old.disk new.disk old.place new.place old.failed new.failed (law told) (alike told);
+    crash = λ told. leaves_alike old.disk new.disk old.place new.place old.failed new.failed told tells
+        (law told) (alike told);
     goes_on = goes;
     cause = λ is. cause (let it : fault ≡ DiskFault = cc in it);
   }
@@ -150,7 +151,7 @@ module _ (old new : Standing) (law : IsTrue old.disk.tells → IsLawful old.disk
     crashes told =
         let it = read told in
         leaves_survived old.disk mid new.disk (law told) (alike told) (time told) (survives told) old.place new.place
-        old.failed new.failed it.holds.image it.holds.is_image it.left it.stand
+        old.failed new.failed it.holds.image it.holds.is_image told tells it.left it.stand
 
     -- the disk failed while it was taken up
     pub broken : new.failed ≡ true → Rose old.faults new.faults → OpensAs old new (Err DiskFault)

@@ -1,5 +1,5 @@
 -- What a journaled state shows is lawful, as its disk is.
-use Rattle.std.proofs.Common.{◌≡◌, ◌∙◌, ◌≤◌, ℕ, Bool, List, Option, Some, None, ap, false, refl, subst, sym, true}
+use Rattle.std.proofs.Common.{◌≡◌, ◌∙◌, ◌≤◌, ℕ, Bool, List, Option, Some, None, ap, arith, false, refl, subst, sym, true}
 use Rattle.std.specs.Prelude.{IfSome, IsTrue, not, ◌&&◌}
 use Rattle.core_state.specs.State.{StateData}
 use Rattle.heat_disk.specs.Halves.{Pair}
@@ -15,7 +15,7 @@ use Rattle.row_journal.specs.declared.place.Place.{Place}
 use Rattle.row_journal.proofs.Found.{image_same}
 use Rattle.state_journal.specs.Payloads.{Give}
 use Rattle.state_journal.specs.Readings.{Holds, ReadAs, Reads, StandFor, sealed, torn}
-use Rattle.state_journal.specs.Shown.{Leave, StandsAs, is_long_at, opens_by, shown_by}
+use Rattle.state_journal.specs.Shown.{Leave, StandsAs, moment_of, opens_by, shown_by}
 use Rattle.state_journal.specs.Unique.{give_one, holds_one, stand_one}
 
 -- what is sealed stands for the state of its image
@@ -70,28 +70,39 @@ module _ (d : ShownDisk) (at : Place) (failed : Bool) where
     stood = stood;
   }
 
-  module _ (law : disk.IsLawful d) where
-    now : (l : Option Left) → StandFor d.seen l → Leave d.may_leave l
-    now l stand = record { pair = d.seen; left = law.reads; stand = stand }
+  module _ (law : disk.IsLawful d) (tells : IsTrue d.tells) where
+    moment : moment_of d.tells d.moment ≡ d.moment
+    moment = ap (λ (b : Bool). moment_of b d.moment) tells
 
-    durable : (s : StateData) (l : Option Left) → StandsAs d at failed s → Leave d.may_leave l → l ≡ Some (at_rest s)
+    now : (l : Option Left) → StandFor d.seen l → Leave d.tells d.may_leave l
+    now l stand = record { told = tells; pair = d.seen; left = law.reads; stand = stand }
+
+    durable : (s : StateData) (l : Option Left) → StandsAs d at failed s → Leave d.tells d.may_leave l
+        → l ≡ Some (at_rest s)
     durable s l it leave = sealed_rest it.image s d.seen l
         (record { is_image = it.ready.is_image; sealed = ends.closed it.ready.closed }) it.give
         (subst (λ (c : Pair). StandFor c l) (it.ready.durable leave.pair leave.left) leave.stand)
 
-    told : IsTrue d.tells → IsTold (opens_by d) (shown_by d at failed)
-    told tells = record {
+    told : IsTold (opens_by d) (shown_by d at failed)
+    told = record {
       some = λ none. none None (now None (λ l reads. none (Some l) (now (Some l) reads)));
       durable = durable;
       reads = λ s may. let it = may tells in (it.left, now it.left it.stand, reads_it d.seen s it.left it.stand it.holds);
       reads_none = λ none. now None (λ l reads. none l.reads (λ t. held_by d.seen l reads));
       counts_now = λ t l early it. record {
+        told = tells;
         pair = it.pair;
-        left = law.counts_now t it.pair early it.left;
+        left = law.counts_now t it.pair (omega (arith, early, moment)) it.left;
         stand = it.stand;
       };
-      only_now = λ l it. record { pair = it.pair; left = law.only_now it.pair it.left; stand = it.stand };
+      only_now = λ l it. record {
+        told = tells;
+        pair = it.pair;
+        left = law.only_now it.pair (subst (λ (t : ℕ). d.left_since t it.pair) moment it.left);
+        stand = it.stand;
+      };
       widens = λ t u l early it. record {
+        told = tells;
         pair = it.pair;
         left = law.widens t u it.pair early it.left;
         stand = it.stand;

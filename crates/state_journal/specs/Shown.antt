@@ -42,11 +42,17 @@ pub record StandsAs (disk : ShownDisk) (place : Place) (failed : Bool) (s : Stat
   pub ready : IsReady image disk
   pub give : Give image.payloads s
 
--- these halves are among some, and stand for it
-pub record Leave (halves : Pair → Type 0) (l : Option Left) : Type 0 where
+-- where it tells, these halves are among some, and stand for it
+pub record Leave (tells : Bool) (halves : Pair → Type 0) (l : Option Left) : Type 0 where
+  pub told : IsTrue tells
   pub pair : Pair
   pub left : halves pair
   pub stand : StandFor pair l
+
+-- the moment, where it tells
+abbrev pub moment_of : Bool → ℕ → ℕ
+moment_of true moment = moment
+moment_of false moment = 0
 
 abbrev pub shown_by : ShownDisk → Place → Bool → ShownKeeper
 shown_by disk place failed = record {
@@ -57,9 +63,9 @@ shown_by disk place failed = record {
   is_old = is_one place.version;
   can_compact = nat_lt place.epoch (2 ^ 62 - 1);
   stands = StandsAs disk place failed;
-  may_leave = Leave disk.may_leave;
-  moment = disk.moment;
-  left_since = λ t. Leave (disk.left_since t);
+  may_leave = Leave disk.tells disk.may_leave;
+  moment = moment_of disk.tells disk.moment;
+  left_since = λ t. Leave disk.tells (disk.left_since t);
 }
 
 -- where the disk tells, it may be opened with the state that its halves are read as
