@@ -1,24 +1,22 @@
 -- What proper payloads give is fit to be an image.
-use Rattle.std.proofs.Common.{◌≡◌, ◌∙◌, ◌++◌, ◌∷◌, ◌<◌, ◌≤◌, ◌+◌, ◌^◌, [], ℕ, List, All, Some, arith, refl, subst, sym}
-use Rattle.std.specs.Prelude.{Contains, IsTrue, get_or, length, false}
+use Rattle.std.proofs.Common.{◌∷◌, ◌≤◌, ◌^◌, [], ℕ, List, All, arith, refl, subst, sym}
+use Rattle.std.specs.Prelude.{IsTrue, false}
 use Rattle.std.proofs.lemmas.List.Elements.{All-head, All-tail}
-use Rattle.core_state.specs.Applies.{AllApply}
 use Rattle.core_state.specs.Changes.{applied, apply}
 use Rattle.core_state.specs.State.{StateData}
-use Rattle.core_state.specs.declared.Row.{Row}
 use Rattle.core_state.specs.declared.change.Change.{Change}
 use Rattle.core_state.specs.declared.change.Change.TheVariants as change
 use Rattle.core_state.specs.declared.numbers.Numbers.{Numbers}
 use Rattle.record_keeper.specs.Calls.{HasOpened}
 use Rattle.record_keeper.specs.Nothing.{nothing_kept, opens_empty}
 use Rattle.record_keeper.proofs.Bare.{bare_opened}
-use Rattle.row_codec.specs.Changes.{AreProper, IsProper, IsSpelling}
+use Rattle.row_codec.specs.Changes.{IsProper}
 use Rattle.row_codec.specs.Records.{IsProperRow}
 use Rattle.state_images.specs.Replays.{joined}
 use Rattle.state_images.proofs.Forming.{made_formed}
 use Rattle.state_images.proofs.Found.{formed_read, keepable_applied}
 use Rattle.state_images.proofs.Making.{replay_made}
-use Rattle.step_relation.specs.Images.{AreKeepable, HasKeepableRows, IsInRange, IsKeepable, IsMade, IsRead}
+use Rattle.step_relation.specs.Images.{AreKeepable, HasKeepableRows, IsInRange, IsMade, IsRead}
 use Rattle.step_relation.specs.Opening.{bare}
 use Rattle.state_journal.specs.Payloads.{AreSpellings, Give}
 use Rattle.state_journal.proofs.Payloads.{both_applied}

@@ -1,5 +1,5 @@
 -- What each call of the keeper makes of what is shown.
-use Rattle.std.proofs.Common.{◌≡◌, ◌∙◌, ◌⊎◌, ◌++◌, ◌∷◌, ◌≤◌, [], ℕ, Bool, Err, List, Ok, Option, Result, Some, None, ap, arith, false, inl, inr, refl, subst, sym, true}
+use Rattle.std.proofs.Common.{◌≡◌, ◌∙◌, ◌∷◌, [], ℕ, Bool, List, Some, ap, arith, false, inl, inr, refl, subst, sym, true}
 use Rattle.std.specs.Prelude.{IsTrue, nat_le, nat_lt, not, ◌&&◌, ◌*◌, ◌+◌, ◌-◌, ◌<◌, ◌^◌, ◌↔◌}
 use Rattle.std.proofs.lemmas.Bool.{and_right}
 use Rattle.std.proofs.lemmas.Bool.Decides.{leb_tells}
@@ -12,7 +12,7 @@ use Rattle.heat_disk.specs.Shown as disk
 use Rattle.heat_disk.specs.Shown.{SameContent, ShownDisk}
 use Rattle.heat_disk.proofs.Moments.{started}
 use Rattle.record_keeper.specs.Calls.{HasAppended, HasCompacted, IsLeftOf, IsReread, StaysAsItIs}
-use Rattle.record_keeper.specs.Shown.{Left, LeavesOnly, SameKeeper, StandsFor, at_rest}
+use Rattle.record_keeper.specs.Shown.{LeavesOnly, SameKeeper, StandsFor, at_rest}
 use Rattle.row_codec.specs.Changes.{IsSpelling}
 use Rattle.row_journal.specs.Ends as ends
 use Rattle.row_journal.specs.Ends.{LeavesEither, with_next}
@@ -22,8 +22,7 @@ use Rattle.row_journal.specs.Places.{place_of}
 use Rattle.row_journal.specs.Ready.{IsReady}
 use Rattle.row_journal.specs.Snapshots.{LeavesSnapshot, fresh_snapshot}
 use Rattle.row_journal.specs.declared.place.Place.{Place}
-use Rattle.row_journal.specs.declared.version.Version.{Version}
-use Rattle.row_journal.specs.declared.version.Version.TheVariants.{One, Two}
+use Rattle.row_journal.specs.declared.version.Version.TheVariants.{Two}
 use Rattle.row_journal.proofs.Found.{image_same}
 use Rattle.row_journal.proofs.Runs.{ready_same}
 use Rattle.state_images.specs.Snapshots.{snapshot}
@@ -33,7 +32,7 @@ use Rattle.step_relation.specs.Opening.{bare}
 use Rattle.state_journal.specs.Lawful.{sealed_rest}
 use Rattle.state_journal.specs.Payloads.{Follows, Give}
 use Rattle.state_journal.specs.Readings.{Holds, ReadAs, StandFor}
-use Rattle.state_journal.specs.Shown.{Leave, StandsAs, is_long_at, is_one, moment_of, opens_by, shown_by}
+use Rattle.state_journal.specs.Shown.{StandsAs, is_long_at, is_one, moment_of, opens_by, shown_by}
 use Rattle.state_journal.specs.Unique.{give_one, holds_one}
 use Rattle.state_journal.proofs.Leavings.{either_left, leaves_read, snapshot_left}
 use Rattle.state_journal.proofs.Payloads.{give_none, give_push}

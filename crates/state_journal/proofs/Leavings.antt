@@ -1,6 +1,6 @@
 -- What a crash leaves of the disk, as what it leaves of the state.
-use Rattle.std.proofs.Common.{◌≡◌, ◌⊎◌, ◌++◌, ◌∷◌, ◌≤◌, [], ℕ, Bool, List, Option, Some, None, ap, arith, inl, inr, length, subst, sym, ◌∙◌, refl}
-use Rattle.std.specs.Prelude.{IsTrue, ◌+◌, ◌<◌, ◌≢◌, false, nat_le, true}
+use Rattle.std.proofs.Common.{◌≡◌, ◌⊎◌, ◌++◌, ◌∷◌, [], ℕ, Bool, List, Option, Some, None, ap, arith, inl, inr, length, subst, ◌∙◌, refl}
+use Rattle.std.specs.Prelude.{IsTrue, ◌+◌}
 use Rattle.std.proofs.lemmas.Bool.Decides.{leb_tells}
 use Rattle.core_state.specs.State.{StateData}
 use Rattle.heat_disk.specs.Calls.{ReadsAlike}
@@ -21,7 +21,7 @@ use Rattle.row_journal.specs.Snapshots.{LeavesSnapshot, fresh_snapshot}
 use Rattle.row_journal.specs.declared.place.Place.{Place}
 use Rattle.state_journal.specs.Payloads.{Give}
 use Rattle.state_journal.specs.Readings.{Reads, StandFor, sealed, torn}
-use Rattle.state_journal.specs.Shown.{Leave, moment_of, shown_by}
+use Rattle.state_journal.specs.Shown.{moment_of, shown_by}
 use Rattle.row_journal.proofs.Found.{image_same}
 use Rattle.state_journal.specs.Lawful.{sealed_rest}
 use Rattle.state_journal.specs.Unique.{pending_one, sealed_none, stand_one}

@@ -1,14 +1,14 @@
 -- What each end of an opening leaves.
-use Rattle.std.proofs.Common.{◌≡◌, ◌∙◌, ◌⊎◌, ◌++◌, ◌∷◌, ◌≤◌, [], ℕ, Bool, Err, List, Ok, Option, Some, None, ap, arith, false, inl, inr, refl, subst, sym, true}
-use Rattle.std.specs.Prelude.{IfOk, IsTrue, not, ⊤}
-use Rattle.core_state.specs.State.{Held, StateData}
+use Rattle.std.proofs.Common.{◌≡◌, ◌∙◌, ◌∷◌, ◌≤◌, ℕ, Bool, Err, List, Ok, Option, Some, None, ap, arith, false, inl, inr, refl, subst, sym, true}
+use Rattle.std.specs.Prelude.{IsTrue, not}
+use Rattle.core_state.specs.State.{StateData}
 use Rattle.heat_disk.specs.Calls.{ReadsAlike}
 use Rattle.heat_disk.specs.Halves.{Pair}
 use Rattle.heat_disk.specs.Shown as disk
 use Rattle.heat_disk.specs.Shown.{IsLawful, ShownDisk}
 use Rattle.heat_disk.proofs.Moments.{goes_on, joined, started}
 use Rattle.heat_value.specs.Counts.{Rose}
-use Rattle.record_keeper.specs.Calls.{ComesOf, GoesOn, HasOpened, IsForeign, same, unknown}
+use Rattle.record_keeper.specs.Calls.{ComesOf, GoesOn, IsForeign, same, unknown}
 use Rattle.record_keeper.specs.Shown.{Left, LeavesOnly, SameOpenings, StandsFor, at_rest}
 use Rattle.record_keeper.specs.declared.open_fault.OpenFault.{OpenFault}
 use Rattle.record_keeper.specs.declared.open_fault.OpenFault.TheVariants.{DiskFault, Foreign, Memory}
@@ -22,13 +22,12 @@ use Rattle.row_journal.specs.Openings as journal
 use Rattle.row_journal.specs.Openings.{Survives}
 use Rattle.row_journal.specs.declared.place.Place.{Place}
 use Rattle.row_journal.specs.Pending.{IsPending}
-use Rattle.row_journal.specs.Ready.{IsReady}
 use Rattle.row_journal.proofs.Found.{image_same}
 use Rattle.step_relation.specs.Images.{IsTied}
 use Rattle.state_journal.specs.Faults.{open_fault}
 use Rattle.state_journal.specs.Openings.{OpensAs, Standing, shown_of}
 use Rattle.state_journal.specs.Payloads.{Give}
-use Rattle.state_journal.specs.Readings.{Holds, ReadAs, Reads, StandFor, sealed, torn}
+use Rattle.state_journal.specs.Readings.{ReadAs, Reads, StandFor, sealed, torn}
 use Rattle.state_journal.specs.Shown.{StandsAs, opens_by, shown_by}
 use Rattle.state_journal.proofs.Fitting.{IsFitting}
 use Rattle.state_journal.specs.Lawful.{ready_rest}
@@ -75,44 +74,44 @@ alike_then old mid new law first second = record {
 module _ (old mid new : ShownDisk) (law : IsLawful old) (alike : ReadsAlike old mid) (later : mid.moment ≤ new.moment)
     (survives : Survives mid new) (at to : Place) (failed fails : Bool) (image : ImageData) (is : IsImage old.seen image)
     (told : IsTrue old.tells) (tells : new.tells ≡ old.tells) where
-    -- where nothing is told, anything may come of it
-    of_none : StandFor old.seen None
-        → LeavesOnly (shown_by old at failed) (shown_by new to fails) (ComesOf (shown_by old at failed))
-    of_none none = leaves_read old new at to failed fails told tells (λ c. Unit {0}) (ComesOf (shown_by old at failed))
-        (record { later = omega (arith, alike.time.later, later); each = λ c since. tt; before = λ t c early since. inr tt })
-        (λ c l any stand. record {
-          from = None;
-          left = record { told = told; pair = old.seen; left = law.reads; stand = none };
-          stems = unknown refl;
-        })
+  -- where nothing is told, anything may come of it
+  of_none : StandFor old.seen None
+      → LeavesOnly (shown_by old at failed) (shown_by new to fails) (ComesOf (shown_by old at failed))
+  of_none none = leaves_read old new at to failed fails told tells (λ c. Unit {0}) (ComesOf (shown_by old at failed))
+      (record { later = omega (arith, alike.time.later, later); each = λ c since. tt; before = λ t c early since. inr tt })
+      (λ c l any stand. record {
+        from = None;
+        left = record { told = told; pair = old.seen; left = law.reads; stand = none };
+        stems = unknown refl;
+      })
 
-    of_left : (k : Left) → Reads old.seen k
-        → LeavesOnly (shown_by old at failed) (shown_by new to fails) (ComesOf (shown_by old at failed))
-    of_left k reads =
-        let first : disk.LeavesOnly old mid (Recovering old image) =
-        goes_on old old mid (Recovering old image) (started old (Recovering old image) law (λ c now. inl now)) alike.time
-        (λ c now. inl (alike.crash c now)) in
-        let second : disk.LeavesOnly mid new (Recovering mid image) =
-        survives image (subst (λ (c : Pair). IsImage c image) (sym alike.seen) is)
-        (subst (λ (c : Pair). IsTidy c image) (sym alike.seen) (tidy_of old.seen k reads image is)) in
-        leaves_read old new at to failed fails told tells (Recovering old image) (ComesOf (shown_by old at failed))
-        (joined old mid new (Recovering old image) (Recovering mid image) first second (λ c it. elim it [
-          | inl now ↦ inl (alike.crash c now)
-          | inr mended ↦ inr (subst (λ (x : Pair). Mended image x c) alike.seen mended)
-        ]))
-        (λ c l it stand. elim it [
-          | inl now ↦ record { from = l; left = record { told = told; pair = c; left = now; stand = stand }; stems = same refl }
-          | inr mended ↦ record {
-            from = Some k;
-            left = record { told = told; pair = old.seen; left = law.reads; stand = reads };
-            stems = mended_left old.seen image is l (Some k) reads c mended stand;
-          }
-        ])
+  of_left : (k : Left) → Reads old.seen k
+      → LeavesOnly (shown_by old at failed) (shown_by new to fails) (ComesOf (shown_by old at failed))
+  of_left k reads =
+      let first : disk.LeavesOnly old mid (Recovering old image) =
+      goes_on old old mid (Recovering old image) (started old (Recovering old image) law (λ c now. inl now)) alike.time
+      (λ c now. inl (alike.crash c now)) in
+      let second : disk.LeavesOnly mid new (Recovering mid image) =
+      survives image (subst (λ (c : Pair). IsImage c image) (sym alike.seen) is)
+      (subst (λ (c : Pair). IsTidy c image) (sym alike.seen) (tidy_of old.seen k reads image is)) in
+      leaves_read old new at to failed fails told tells (Recovering old image) (ComesOf (shown_by old at failed))
+      (joined old mid new (Recovering old image) (Recovering mid image) first second (λ c it. elim it [
+        | inl now ↦ inl (alike.crash c now)
+        | inr mended ↦ inr (subst (λ (x : Pair). Mended image x c) alike.seen mended)
+      ]))
+      (λ c l it stand. elim it [
+        | inl now ↦ record { from = l; left = record { told = told; pair = c; left = now; stand = stand }; stems = same refl }
+        | inr mended ↦ record {
+          from = Some k;
+          left = record { told = told; pair = old.seen; left = law.reads; stand = reads };
+          stems = mended_left old.seen image is l (Some k) reads c mended stand;
+        }
+      ])
 
-    pub leaves_survived : (m : Option Left) → StandFor old.seen m
-        → LeavesOnly (shown_by old at failed) (shown_by new to fails) (ComesOf (shown_by old at failed))
-    leaves_survived None none = of_none none
-    leaves_survived (Some k) reads = of_left k reads
+  pub leaves_survived : (m : Option Left) → StandFor old.seen m
+      → LeavesOnly (shown_by old at failed) (shown_by new to fails) (ComesOf (shown_by old at failed))
+  leaves_survived None none = of_none none
+  leaves_survived (Some k) reads = of_left k reads
 
 module _ (old new : Standing) (law : IsTrue old.disk.tells → IsLawful old.disk)
     (tells : new.disk.tells ≡ old.disk.tells) (later : old.faults ≤ new.faults) where

@@ -15,7 +15,7 @@ use Rattle.row_journal.specs.declared.contents.Contents.{Contents}
 use Rattle.row_journal.proofs.Found.{image_same}
 use Rattle.state_journal.specs.Payloads.{Give}
 use Rattle.state_journal.specs.Readings.{Holds, IsKnownBehind, ReadAs, Reads, StandFor, sealed, torn}
-use Rattle.state_journal.specs.Unique.{give_one, pending_one, sealed_none}
+use Rattle.state_journal.specs.Unique.{pending_one, sealed_none}
 
 -- which of two numbers is greater
 abbrev Compared : ℕ → ℕ → Type 0

@@ -1,5 +1,5 @@
 -- What a journaled state shows is lawful, as its disk is.
-use Rattle.std.proofs.Common.{◌≡◌, ◌∙◌, ◌≤◌, ℕ, Bool, List, Option, Some, None, ap, arith, false, refl, subst, sym, true}
+use Rattle.std.proofs.Common.{◌≡◌, ℕ, Bool, Option, Some, None, ap, arith, false, refl, subst, sym, true}
 use Rattle.std.specs.Prelude.{IfSome, IsTrue, not, ◌&&◌}
 use Rattle.core_state.specs.State.{StateData}
 use Rattle.heat_disk.specs.Halves.{Pair}

@@ -1,5 +1,5 @@
 -- What a journaled state shows: to its keeper's users, by what its disk shows and by where its journal stands.
-use Rattle.std.specs.Prelude.{Bool, IsTrue, List, Option, false, if◌then◌else◌, nat_le, nat_lt, not, true, ℕ, ◌&&◌, ◌*◌, ◌+◌, ◌-◌, ◌<◌, ◌==◌, ◌^◌, ◌||◌, ◌≡◌, ◌≤◌, length}
+use Rattle.std.specs.Prelude.{Bool, IsTrue, List, Option, false, nat_le, nat_lt, not, true, ℕ, ◌&&◌, ◌*◌, ◌-◌, ◌<◌, ◌==◌, ◌^◌, ◌||◌, ◌≡◌, ◌≤◌, length}
 use Rattle.core_state.specs.State.{StateData}
 use Rattle.core_state.specs.declared.change.Change.{Change}
 use Rattle.heat_disk.specs.Halves.{Pair}

@@ -1,12 +1,11 @@
 -- What two halves stand for is one thing.
-use Rattle.std.proofs.Common.{◌≡◌, ◌∙◌, ◌⊎◌, ◌++◌, ◌∷◌, ◌≤◌, ◌+◌, [], ℕ, List, Option, Some, None, ap, arith, drop, inl, inr, length, length-append, length-drop, refl, subst, sym}
+use Rattle.std.proofs.Common.{◌≡◌, ◌∙◌, ◌++◌, ◌∷◌, ◌≤◌, ◌+◌, [], ℕ, List, Option, Some, None, ap, arith, drop, length, length-append, length-drop, refl, subst, sym}
 use Rattle.std.specs.Prelude.{get_or}
 use Rattle.core_state.specs.Changes.{applied}
 use Rattle.core_state.specs.State.{StateData}
 use Rattle.core_state.specs.declared.change.Change.{Change}
 use Rattle.heat_disk.specs.Halves.{Pair, part}
 use Rattle.heat_disk.specs.declared.half.Half.{Half}
-use Rattle.heat_disk.specs.declared.half.Half.TheVariants.{First, Second}
 use Rattle.record_keeper.specs.Shown.{Left, at_rest}
 use Rattle.row_codec.specs.ChangeLaws.{one_reading}
 use Rattle.row_journal.specs.Ends as ends

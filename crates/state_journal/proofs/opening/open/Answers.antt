@@ -1,9 +1,7 @@
 -- End by end.
-use Rattle.std.proofs.Common.{◌≡◌, ◌∙◌, ◌≤◌, Err, ap, arith, refl, subst, sym}
+use Rattle.std.proofs.Common.{◌∙◌, Err, ap, arith, refl, subst}
 use Rattle.std.specs.Prelude.{IsTrue}
-use Rattle.record_keeper.specs.declared.open_fault.OpenFault.{OpenFault}
 use Rattle.step_relation.specs.Images.{IsTied}
-use Rattle.state_journal.specs.Openings.{OpensAs}
 use Rattle.state_journal.specs.Unique.{holds_one}
 use Rattle.state_journal.proofs.Fitting.{give_fits}
 use Rattle.state_journal.proofs.Opened.{is_true, refused, rose_since, taken_up, unopened}

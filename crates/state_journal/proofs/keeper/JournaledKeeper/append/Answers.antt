@@ -1,5 +1,5 @@
 -- The record's bytes are the spelling of the changes.
-use Rattle.std.proofs.Common.{◌≡◌, ◌∙◌, List, ℕ, refl, subst, sym}
+use Rattle.std.proofs.Common.{List, ℕ, refl, subst, sym}
 use Rattle.row_codec.specs.Changes.{IsSpelling}
 use Rattle.snapshot_codec.proofs.Spelled.{all_storable}
 use Rattle.state_journal.proofs.Keeping.{append_leaves, appended}

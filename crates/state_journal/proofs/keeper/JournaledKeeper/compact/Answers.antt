@@ -1,5 +1,5 @@
 -- The record's bytes are the spelling of the snapshot.
-use Rattle.std.proofs.Common.{◌≡◌, ◌∙◌, List, ℕ, refl, subst, sym}
+use Rattle.std.proofs.Common.{List, ℕ, refl, subst, sym}
 use Rattle.row_codec.specs.Changes.{IsSpelling}
 use Rattle.state_images.specs.Snapshots.{snapshot}
 use Rattle.state_journal.proofs.Keeping.{compacted, nothing_done, snapshot_leaves}

@@ -16,14 +16,14 @@ pub returns-clause-foreign : goal.returns-clause-foreign
 returns-clause-foreign g c = rw (← c.self.view_is) (λ is tells stood read tied. elim c.match-look.branch [
   | in-Ok w ↦ (let both = sym w.result-is ∙ is in absurd (let no : ⊥ = cc in no))
   | in-Err w ↦ (let both = sym w.result-is ∙ is in let one : w.in-Err.fault ≡ fault.Foreign = cc in
-    never_stood _ _ _ (w.in-Err.ensures.foreign (ap Err one) tells) tells _ stood)
+      never_stood _ _ _ (w.in-Err.ensures.foreign (ap Err one) tells) tells _ stood)
 ])
 
 pub returns-clause-no_image : goal.returns-clause-no_image
 returns-clause-no_image g c = rw (← c.self.view_is) (λ is tells s may read tied. elim c.match-look.branch [
   | in-Ok w ↦ (let both = sym w.result-is ∙ is in absurd (let no : ⊥ = cc in no))
   | in-Err w ↦ (let both = sym w.result-is ∙ is in let one : w.in-Err.fault ≡ fault.Foreign = cc in
-    w.in-Err.ensures.foreign (ap Err one) tells s (may tells).holds)
+      w.in-Err.ensures.foreign (ap Err one) tells s (may tells).holds)
 ])
 
 pub returns-clause-same : goal.returns-clause-same
