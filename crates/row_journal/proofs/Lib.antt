@@ -9,6 +9,7 @@ pub mod Settled
 pub mod Restart
 pub mod Taken
 pub mod Tidy
+pub mod Whole
 pub mod Named
 pub mod Shut
 pub mod Staged

@@ -60,9 +60,9 @@ pub body_at : (place : Place) (image : ImageData) (payload : List ℕ) → place
 body_at place image payload is two =
     ap (λ (v : Version). body v (place.count + 1) payload) (sym two) ∙ ap (λ (p : Place). body p.version (p.count + 1) payload) is
 
-pub snapshot_place : (place now : Place) (image : ImageData) (payload : List ℕ) (len : ℕ) → place ≡ place_of image → len ≡ length payload → now.half ≡ other place.half → now.version ≡ Two
+pub place_of_snapshot : (place now : Place) (image : ImageData) (payload : List ℕ) (len : ℕ) → place ≡ place_of image → len ≡ length payload → now.half ≡ other place.half → now.version ≡ Two
     → now.epoch ≡ place.epoch + 1 → now.start ≡ 16 → now.count ≡ 1 → now.first_end ≡ len + 33 → now.end ≡ len + 33 → now ≡ place_of (fresh_snapshot image payload)
-snapshot_place place now image payload len is long half version epoch start count first_end end =
+place_of_snapshot place now image payload len is long half version epoch start count first_end end =
     let one : 16 + length (spelled Two 1 (payload ∷ [])) ≡ length payload + 33 = omega (arith, length-append (record_of Two 1 payload) [], long_record 1 payload) in
     place_same now (place_of (fresh_snapshot image payload))
     (half ∙ ap (λ (p : Place). other p.half) is)

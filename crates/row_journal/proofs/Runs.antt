@@ -57,6 +57,15 @@ ready_same image old new ready same = record {
   durable = λ c now. ready.durable c ((same.crash c).0 now) ∙ sym same.seen;
 }
 
+-- and so does a look
+pub ready_alike : (image : ImageData) (old new : ShownDisk) → IsReady image old → ReadsAlike old new → IsReady image new
+ready_alike image old new ready same = record {
+  is_image = subst (λ (p : Pair). IsImage p image) (sym same.seen) ready.is_image;
+  marked = subst (λ (p : Pair). image.start ≡ 8 → take 8 (part image.half p) ≡ journal_mark image.version) (sym same.seen) ready.marked;
+  closed = subst (λ (p : Pair). IsClosed (behind p image)) (sym same.seen) ready.closed;
+  durable = λ c now. ready.durable c (same.crash c now) ∙ sym same.seen;
+}
+
 -- a call that leaves all as it was, behind another
 pub reads_on : (old mid new : ShownDisk) → IsLawful old → ReadsAlike old mid → ReadsAlike mid new → ReadsAlike old new
 reads_on old mid new law first second = record {

@@ -8,6 +8,7 @@ use Rattle.row_journal.specs.declared.looking.Ending.{Ending}
 use Rattle.row_journal.specs.declared.looking.Ending.TheVariants.{Short, Closed, Open}
 use Rattle.row_journal.specs.declared.looking.Found.{Found}
 use Rattle.row_journal.specs.Ends.{end_of, IsClosed}
+use Rattle.row_journal.specs.Pending.{IsPending}
 use Rattle.row_journal.specs.Places.{place_of}
 
 -- First and at most 9 bytes; else a gate byte 00 at this place, or none
@@ -23,3 +24,4 @@ pub record IsFound (halves : Pair) (found : Found) : Type 0 where
   pub place : found.place ≡ place_of image
   pub payloads : found.payloads.items ≡ image.payloads
   pub ending : EndsBy image.half (part image.half halves) (end_of image) found.ending
+  pub pending : IsPending halves image found.pending

@@ -1,7 +1,9 @@
 pub mod Ends
+pub mod Pending
 pub mod Places
 pub mod Found
 pub mod Mends
+pub mod NextPlaces
 pub mod Ready
 pub mod Shown
 pub mod Snapshots

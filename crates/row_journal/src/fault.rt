@@ -5,11 +5,14 @@ ghost use Rattle.row_journal.specs.declared.fault.ReadFault.TheVariants.{Memory,
 use heat_disk::DiskFailed;
 use std::alloc::AllocError;
 
-/// No image stands there, the disk failed, or memory was wanted.
+/// Why nothing was read.
 #[derive(Clone, Copy, Debug, PartialEq, Eq)]
-pub(crate) enum ReadFault {
+pub enum ReadFault {
+    /// No image stands there.
     Foreign,
+    /// The disk failed.
     Disk,
+    /// There was no memory.
     Memory,
 }
 

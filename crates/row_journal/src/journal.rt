@@ -1,5 +1,6 @@
 //! The journal.
-ghost use Rattle.std.specs.Prelude.{◌≡◌, ◌⊎◌, ◌↔◌, ◌<◌, ◌≤◌, ◌-◌, ◌^◌, false, IsTrue, IsOk, OnOk, OnErr, length};
+ghost use Rattle.std.specs.Prelude.{◌≡◌, ◌⊎◌, ◌↔◌, ◌<◌, ◌≤◌, ◌-◌, ◌^◌, false, true, length};
+ghost use Rattle.std.specs.Prelude.{IsTrue, IsOk, IsErrOf, IfOk, OnOk, OnErr};
 ghost use Rattle.heat_disk.specs.Shown.{SameContent, LeavesOnly};
 ghost use Rattle.heat_disk.specs.Calls.{ReadsAlike};
 ghost use Rattle.heat_disk.specs.Causes.{HasCause};
@@ -11,6 +12,8 @@ ghost use Rattle.row_journal.specs.Openings.{HasOpened, Survives, SurvivesNamed,
 ghost use Rattle.row_journal.specs.Shown.{JournalData};
 ghost use Rattle.row_journal.specs.Snapshots.{HasSnapshotRoom, fresh_snapshot, LeavesSnapshot};
 ghost use Rattle.row_journal.specs.Ends.{with_next, LeavesEither};
+ghost use Rattle.row_journal.specs.NextPlaces.{next_place, snapshot_place};
+ghost use Rattle.row_journal.specs.Pending.{AreContents, IsPending};
 ghost use Rattle.row_journal.specs.Places.{place_of, digit, IsLong};
 ghost use Rattle.row_journal.specs.Ready.{IsReady, StandsAt, HasReserved, KeepsRoom};
 ghost use Rattle.row_journal.specs.Unsynced.{IsLastUnsynced};
@@ -18,6 +21,7 @@ ghost use Rattle.row_journal.specs.Unsynced.{IsLastUnsynced};
 use crate::Version;
 use crate::adding::add_record;
 use crate::buffer::Buffer;
+use crate::contents::Contents;
 use crate::fault::ReadFault;
 use crate::mending::other;
 use crate::opening::{Imaged, Recovered};
@@ -29,8 +33,8 @@ use heat_disk::{Disk, DiskFailed};
 use std::alloc::{AllocError, Global};
 use std::marker::Model;
 
-/// A journal on its disk. Until an append or a snapshot of it failed, it stands at the image that its
-/// disk reads as.
+/// A journal on its disk. From an opening on until an append or a snapshot of it failed, it stands at the image that
+/// its disk reads as.
 #[derive(Drop)]
 pub struct Journal<D: Disk> {
     disk: D,
@@ -99,6 +103,89 @@ impl<D: Disk> Journal<D> {
         }
     }
 
+    /// A journal over this disk that isn't open yet.
+    pub fn unopened(alloc: Global, disk: D) -> Journal<D>
+        ensures disk { result.disk ≡ disk }
+        ensures closed { result.failed ≡ true }
+    {
+        Journal {
+            disk,
+            place: Place::first(),
+            buffer: Buffer::new(alloc),
+            failed: true,
+        }
+    }
+
+    /// Takes it up from its disk, anew where it was open before; the disk is then made to end at a closed gate. Where
+    /// this fails it isn't open.
+    pub fn open(&mut self, alloc: Global) -> Result<Contents, ReadFault>
+        ensures opened { IsTrue (D.shown self.old.disk).tells → IfOk result (λ c.
+            HasOpened (D.shown self.old.disk) (D.shown self.new.disk) self.new.place
+            c.payloads.items) }
+        ensures contents { IsTrue (D.shown self.old.disk).tells →
+            IfOk result (AreContents (D.shown self.old.disk).seen) }
+        ensures foreign { IsTrue (D.shown self.old.disk).tells →
+            IsErrOf result ReadFault.Foreign →
+            IsForeign (D.shown self.old.disk) (D.shown self.new.disk) }
+        ensures any_moment { IsTrue (D.shown self.old.disk).tells →
+            Survives (D.shown self.old.disk) (D.shown self.new.disk) }
+        ensures memory { IsTrue (D.shown self.old.disk).tells → IsErrOf result ReadFault.Memory →
+            ReadsAlike (D.shown self.old.disk) (D.shown self.new.disk) }
+        ensures time { IsTrue (D.shown self.old.disk).tells →
+            (D.shown self.old.disk).moment ≤ (D.shown self.new.disk).moment }
+        ensures going { (self.new.failed ≡ false) ↔ IsOk result }
+        ensures same { GoesOn (D.shown self.old.disk) (D.shown self.new.disk)
+            (D.faults self.old.disk) (D.faults self.new.disk) }
+        ensures cause { IsErrOf result ReadFault.Disk →
+            Rose (D.faults self.old.disk) (D.faults self.new.disk) }
+    {
+        self.failed = true;
+        let found = take_up(alloc, &mut self.disk)?;
+        self.place = found.place;
+        self.failed = false;
+        Ok(Contents {
+            payloads: found.payloads,
+            pending: found.pending,
+        })
+    }
+
+    /// Closes it: until it is opened anew no append and no snapshot of it is made.
+    pub fn close(&mut self)
+        ensures disk { self.new.disk ≡ self.old.disk }
+        ensures closed { self.new.failed ≡ true }
+    {
+        self.failed = true;
+    }
+
+    /// What its disk reads as now. It never writes, and the journal goes on as it did.
+    #[tactic(auto, using(crate::proofs::Runs::ready_alike))]
+    pub fn reread(&mut self, alloc: Global) -> Result<Contents, ReadFault>
+        ensures contents { IsTrue (D.shown self.old.disk).tells →
+            IfOk result (AreContents (D.shown self.old.disk).seen) }
+        ensures foreign { IsTrue (D.shown self.old.disk).tells →
+            IsErrOf result ReadFault.Foreign →
+            (image : ImageData) → ¬ IsImage (D.shown self.old.disk).seen image }
+        ensures alike { IsTrue (D.shown self.old.disk).tells →
+            ReadsAlike (D.shown self.old.disk) (D.shown self.new.disk) }
+        ensures ready { IsTrue (D.shown self.old.disk).tells → (image : ImageData) →
+            IsReady image (D.shown self.old.disk) → IsReady image (D.shown self.new.disk) }
+        ensures place { self.new.place ≡ self.old.place }
+        ensures failed { self.new.failed ≡ self.old.failed }
+        ensures same { GoesOn (D.shown self.old.disk) (D.shown self.new.disk)
+            (D.faults self.old.disk) (D.faults self.new.disk) }
+        ensures cause { IsErrOf result ReadFault.Disk →
+            Rose (D.faults self.old.disk) (D.faults self.new.disk) }
+    {
+        let found = match find(alloc, &mut self.disk) {
+            Ok(found) => found,
+            Err(fault) => return Err(fault),
+        };
+        Ok(Contents {
+            payloads: found.payloads,
+            pending: found.pending,
+        })
+    }
+
     /// What a disk reads as. It never writes.
     pub fn image(alloc: Global, disk: &mut D) -> Imaged
         ensures payloads { IsTrue (D.shown disk.old).tells → (v : _) →
@@ -144,7 +231,7 @@ impl<D: Disk> Journal<D> {
         }
     }
 
-    /// Whether an append or a snapshot of it failed. Then no other is made: an opening of its disk says
+    /// Whether it isn't open, or an append or a snapshot of it failed. Then no other is made: an opening says
     /// what stands there.
     pub fn has_failed(&self) -> bool
         ensures exact { result ≡ self.now.failed }
@@ -211,6 +298,8 @@ impl<D: Disk> Journal<D> {
             × IsReady (with_next image bytes.now) (D.shown self.new.disk)) }
 
         ensures version { self.new.place.version ≡ Two }
+        ensures place { OnOk result
+            (self.new.place ≡ next_place (length bytes.now) self.old.place) }
         ensures going { (self.new.failed ≡ false) ↔ IsOk result }
         ensures tells { (D.shown self.new.disk).tells ≡ (D.shown self.old.disk).tells }
         ensures cause { HasCause (D.faults self.old.disk) (D.faults self.new.disk) result }
@@ -280,6 +369,8 @@ impl<D: Disk> Journal<D> {
             × IsReady (fresh_snapshot image bytes.now) (D.shown self.new.disk)) }
 
         ensures version { OnOk result (self.new.place.version ≡ Two) }
+        ensures place { OnOk result
+            (self.new.place ≡ snapshot_place (length bytes.now) self.old.place) }
         ensures going { (self.new.failed ≡ false) ↔ IsOk result }
         ensures tells { (D.shown self.new.disk).tells ≡ (D.shown self.old.disk).tells }
         ensures cause { HasCause (D.faults self.old.disk) (D.faults self.new.disk) result }

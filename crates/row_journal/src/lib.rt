@@ -6,6 +6,7 @@
 
 mod adding;
 mod buffer;
+mod contents;
 mod fault;
 mod headers;
 mod image_laws;
@@ -15,6 +16,7 @@ mod laws;
 mod looking;
 mod mending;
 mod opening;
+mod pending;
 mod place;
 mod reading;
 mod records;
@@ -23,6 +25,8 @@ mod taking;
 mod version;
 mod word;
 
+pub use contents::Contents;
+pub use fault::ReadFault;
 pub use headers::{Header, read_header};
 pub use image_laws::one_image;
 pub use images::{Image, read_image};

@@ -7,6 +7,7 @@ ghost use Rattle.row_journal.specs.Forms.{spelled};
 ghost use Rattle.row_journal.specs.Places.{place_of};
 ghost use Rattle.row_journal.specs.Found.{IsFound, EndsBy};
 
+use crate::pending::pending;
 use crate::place::Place;
 use crate::{Image, Payload, Version, read_image};
 use heat_disk::Half;
@@ -28,6 +29,7 @@ pub(crate) enum Ending {
 pub(crate) struct Found {
     pub place: Place,
     pub ending: Ending,
+    pub pending: Option<Payload>,
     pub payloads: Vec<Payload>,
 }
 
@@ -42,10 +44,13 @@ pub(crate) fn look(alloc: Global, first: &[u8], second: &[u8]) -> Result<Option<
     match read_image(alloc, first, second)? {
         Some(image) => {
             let place = place_of(&image);
-            let ending = ending_of(place.half, part(place.half, first, second), place.end);
+            let live = part(place.half, first, second);
+            let ending = ending_of(place.half, live, place.end);
+            let number = image.payloads.len() as u64 + 1;
             Ok(Some(Found {
                 place,
                 ending,
+                pending: pending(alloc, live, place.end, place.version, number)?,
                 payloads: image.payloads,
             }))
         }

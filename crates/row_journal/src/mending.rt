@@ -64,6 +64,8 @@ pub(crate) fn mend<D: Disk>(disk: &mut D, place: Place, ending: Ending) -> Resul
     ensures bytes { IsTrue (D.shown disk.old).tells → (image : ImageData) →
         place ≡ place_of image → IsSettled image ending (D.shown disk.old) →
         OnOk result (HasMended image (D.shown disk.old).seen (D.shown disk.new).seen) }
+    ensures time { IsTrue (D.shown disk.old).tells →
+        (D.shown disk.old).moment ≤ (D.shown disk.new).moment }
     ensures tells { (D.shown disk.new).tells ≡ (D.shown disk.old).tells }
     ensures cause { HasCause (D.faults disk.old) (D.faults disk.new) result }
 {
@@ -90,6 +92,8 @@ fn restart<D: Disk>(disk: &mut D, place: Place) -> Result<(), DiskFailed>
     ensures bytes { IsTrue (D.shown disk.old).tells → (image : ImageData) →
         place ≡ place_of image → IsSettled image Ending.Short (D.shown disk.old) →
         OnOk result (HasMended image (D.shown disk.old).seen (D.shown disk.new).seen) }
+    ensures time { IsTrue (D.shown disk.old).tells →
+        (D.shown disk.old).moment ≤ (D.shown disk.new).moment }
     ensures tells { (D.shown disk.new).tells ≡ (D.shown disk.old).tells }
     ensures cause { HasCause (D.faults disk.old) (D.faults disk.new) result }
 {
@@ -117,6 +121,8 @@ fn close<D: Disk>(disk: &mut D, place: Place) -> Result<(), DiskFailed>
     ensures bytes { IsTrue (D.shown disk.old).tells → (image : ImageData) →
         place ≡ place_of image → IsSettled image Ending.Open (D.shown disk.old) →
         OnOk result (HasMended image (D.shown disk.old).seen (D.shown disk.new).seen) }
+    ensures time { IsTrue (D.shown disk.old).tells →
+        (D.shown disk.old).moment ≤ (D.shown disk.new).moment }
     ensures tells { (D.shown disk.new).tells ≡ (D.shown disk.old).tells }
     ensures cause { HasCause (D.faults disk.old) (D.faults disk.new) result }
 {

@@ -3,6 +3,7 @@ ghost use Rattle.std.specs.Prelude.{◌≡◌, ◌↔◌, ◌+◌, ◌<◌, ◌-
 ghost use Rattle.row_journal.specs.declared.version.Version.TheVariants.{Two};
 ghost use Rattle.row_journal.specs.Images.{ImageData};
 ghost use Rattle.row_journal.specs.Ends.{with_next};
+ghost use Rattle.row_journal.specs.NextPlaces.{next_place, snapshot_place};
 ghost use Rattle.row_journal.specs.Places.{place_of, IsLong};
 ghost use Rattle.row_journal.specs.Snapshots.{fresh_snapshot};
 
@@ -28,6 +29,19 @@ pub struct Place {
 }
 
 impl Place {
+    /// That of an empty journal.
+    pub(crate) fn first() -> Place {
+        Place {
+            half: Half::First,
+            version: Version::Two,
+            epoch: 0,
+            start: 8,
+            count: 0,
+            first_end: 8,
+            end: 8,
+        }
+    }
+
     /// Whether a record more, of so many bytes, has its numbers within 64 bits.
     pub(crate) fn has_next(self, len: u64) -> bool
         ensures end { IsTrue result → self.end + len + 18 < 2 ^ 64 }
@@ -42,6 +56,7 @@ impl Place {
         requires end { self.end + len + 18 < 2 ^ 64 }
         requires number { self.count + 1 < 2 ^ 64 }
         ensures version { result.version ≡ self.version }
+        ensures exact { result ≡ next_place len self }
         ensures next { (image : ImageData) (payload : List ℕ) → self ≡ place_of image →
             image.version ≡ Two → len ≡ length payload →
             result ≡ place_of (with_next image payload) }
@@ -67,6 +82,7 @@ impl Place {
         requires young { self.epoch < 2 ^ 62 - 1 }
         requires end { len + 33 < 2 ^ 64 }
         ensures version { result.version ≡ Two }
+        ensures exact { result ≡ snapshot_place len self }
         ensures next { (image : ImageData) (payload : List ℕ) → self ≡ place_of image →
             len ≡ length payload → result ≡ place_of (fresh_snapshot image payload) }
     {

@@ -86,8 +86,8 @@ fn behind_gate(bytes: &[u8]) -> Option<&[u8]>
     }
 }
 
-// The payload behind an open gate, and what stands behind it.
-fn first_payload(bytes: &[u8], version: Version, place: u64) -> Option<(&[u8], &[u8])>
+/// The payload behind an open gate, and what stands behind it.
+pub(crate) fn first_payload(bytes: &[u8], version: Version, place: u64) -> Option<(&[u8], &[u8])>
     ensures some { IfSome result (λ r. bytes.now ≡ body version place r.0.now ++ r.1.now) }
     ensures sized { IfSome result (λ r. IsSized r.0.now) }
     ensures none { result ≡ None → (payload rest : List ℕ) → IsSized payload →

@@ -8,6 +8,7 @@ ghost use Rattle.heat_disk.specs.Shown.{HasRoom, IsAtLeast, SameContent};
 ghost use Rattle.row_journal.specs.Images.{ImageData, IsImage};
 ghost use Rattle.row_journal.specs.Mends.{other};
 ghost use Rattle.row_journal.specs.Openings.{HasOpened, Survives, StaysUnsynced};
+ghost use Rattle.row_journal.specs.Pending.{IsPending};
 
 use crate::fault::ReadFault;
 use crate::looking::Found;
@@ -22,6 +23,9 @@ pub(crate) fn take_up<D: Disk>(alloc: Global, disk: &mut D) -> Result<Found, Rea
     ensures taken { IsTrue (D.shown disk.old).tells →
         IfOk result (λ found. HasOpened (D.shown disk.old) (D.shown disk.new)
         found.place found.payloads.items) }
+    ensures pending { IsTrue (D.shown disk.old).tells → (image : ImageData) →
+        IsImage (D.shown disk.old).seen image →
+        IfOk result (λ found. IsPending (D.shown disk.old).seen image found.pending) }
     ensures foreign { IsTrue (D.shown disk.old).tells → IsErrOf result ReadFault.Foreign →
         (image : ImageData) → ¬ IsImage (D.shown disk.old).seen image }
 
@@ -34,6 +38,8 @@ pub(crate) fn take_up<D: Disk>(alloc: Global, disk: &mut D) -> Result<Found, Rea
     ensures kept { IsTrue (D.shown disk.old).tells → IsErrOf result ReadFault.Memory →
         ReadsAlike (D.shown disk.old) (D.shown disk.new) }
 
+    ensures time { IsTrue (D.shown disk.old).tells →
+        (D.shown disk.old).moment ≤ (D.shown disk.new).moment }
     ensures tells { (D.shown disk.new).tells ≡ (D.shown disk.old).tells }
     ensures later { D.faults disk.old ≤ D.faults disk.new }
     ensures disk { IsErrOf result ReadFault.Disk → Rose (D.faults disk.old) (D.faults disk.new) }

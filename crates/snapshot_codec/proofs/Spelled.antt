@@ -75,7 +75,8 @@ storable_among cs may (change.Numbers n) among = tt
 storable_among cs may (change.PutPast p) among = tt
 storable_among cs may (change.Release t) among = tt
 
+pub all_storable : (cs : List Change) → AreKeepable cs → All IsStorable cs
+all_storable cs may = All-weaker (Contains cs) IsStorable (storable_among cs may) cs (All-contains_itself cs)
+
 pub kept_proper : (cs : List Change) → AreKeepable cs → All IsKept cs → All IsProper cs
-kept_proper cs may kept =
-    let stored = All-weaker (Contains cs) IsStorable (storable_among cs may) cs (All-contains_itself cs) in
-    λ k d less. kept k d less (stored k d less)
+kept_proper cs may kept = λ k d less. kept k d less (all_storable cs may k d less)

@@ -2,6 +2,9 @@ use Rattle.std.proofs.Common.{sym, ◌∙◌, subst}
 use Rattle.heat_disk.specs.Halves.{Pair}
 use Rattle.row_journal.specs.Ends.{IsTidy}
 use Rattle.row_journal.specs.Mends.{HasMended}
+use Rattle.row_journal.specs.Images.{ImageData}
+use Rattle.row_journal.specs.Pending.{IsPending}
+use Rattle.row_journal.proofs.Found.{image_same}
 use Rattle.row_journal.proofs.Taken.{as_before, after_mend, still, settles, given, read_unsynced, room_unsynced, sync_unsynced}
 use Rattle.row_journal.proofs.taking.take_up.Goals as goal
 
@@ -94,3 +97,9 @@ returns-in_err-settle-clause-unsynced g c tells =
 
 pub returns-in-Err-clause-unsynced : goal.returns-in-Err-clause-unsynced
 returns-in-Err-clause-unsynced g c tells = read_unsynced (g.D.Disk.shown c.args.disk.now) (g.D.Disk.shown c.find.new.disk) (c.find.ensures.alike tells)
+
+pub returns-clause-pending : goal.returns-clause-pending
+returns-clause-pending g c tells image is_image =
+    let it = c.in-Ok.ensures.found tells in
+    subst (λ (i : ImageData). IsPending (g.D.Disk.shown c.args.disk.now).seen i c.in-Ok.found.pending)
+    (image_same (g.D.Disk.shown c.args.disk.now).seen it.image image it.is_image is_image) it.pending

@@ -1,0 +1,7 @@
+pub mod Payloads
+pub mod Readings
+pub mod Shown
+pub mod Openings
+pub mod Faults
+pub mod Unique
+pub mod Lawful
