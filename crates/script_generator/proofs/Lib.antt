@@ -1,2 +1,4 @@
 pub mod Quotes
 pub mod Pieces
+pub mod Digits
+pub mod Keys

@@ -4,6 +4,7 @@
 #![tactic(auto)]
 
 mod body;
+pub mod laws;
 mod names;
 mod resource;
 mod script;
