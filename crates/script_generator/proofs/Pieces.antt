@@ -30,7 +30,7 @@ unfolding body_of escape_byte
 body_parts body n = ap (λ t. codes "{\"template\":{\"heat_template_version\":\"2018-08-31\",\"resources\":" ++ t) (append_assoc (compact (fields (resources_from body 1 n))) (125 ∷ []) (125 ∷ []))
 
 -- the members from the resource i on begin with it
-members_from : (body : Body) (i k : ℕ) → fields_text (nat_lt 1 i) (resources_from body i (suc k))
+pub members_from : (body : Body) (i k : ℕ) → fields_text (nat_lt 1 i) (resources_from body i (suc k))
     ≡ member_text body i ++ fields_text true (resources_from body (suc i) k)
 members_from body i k = simp append_assoc refl
 

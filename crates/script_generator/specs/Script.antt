@@ -1,5 +1,6 @@
 -- The generated script: its eight lines, and their text.
-use Rattle.std.specs.Prelude.{ℕ, List, [], ◌∷◌, ◌++◌, codes, flat_map}
+use Rattle.std.specs.Prelude.{◌≡◌, ◌==◌, ◌||◌, ℕ, Bool, false, List, [], ◌∷◌, ◌++◌, codes, flat_map, length}
+use Rattle.std.specs.List.{AllByRecursion}
 use Rattle.heat_value.specs.Compact.{compact}
 use Rattle.heat_value.specs.Data.{Data, words, fields, no_members, member}
 use Rattle.script_generator.specs.Resources.{resources_from}
@@ -21,10 +22,23 @@ lines_over first second =
     ∷ (codes "update g " ++ first) ∷ codes "run"
     ∷ codes "delete g" ∷ codes "run" ∷ []
 
--- the lines, with an LF behind each
+-- the lines of the script of n resources
+abbrev pub lines_of : ℕ → List (List ℕ)
+lines_of n = lines_over (compact (body_of First n)) (compact (body_of Second n))
+
+-- lines with an LF behind each
 abbrev pub text_of_lines : List (List ℕ) → List ℕ
 text_of_lines lines = flat_map (λ line. line ++ 10 ∷ []) lines
 
 -- the script of n resources
 abbrev pub script_of : ℕ → List ℕ
-script_of n = text_of_lines (lines_over (compact (body_of First n)) (compact (body_of Second n)))
+script_of n = text_of_lines (lines_of n)
+
+-- an LF stands among the bytes
+abbrev pub has_lf : List ℕ → Bool
+has_lf [] = false
+has_lf (b ∷ bs) = (b == 10) || has_lf bs
+
+-- there are so many lines, and no LF stands within one
+abbrev pub AreSoMany : ℕ → List (List ℕ) → Type 0
+AreSoMany n lines = (length lines ≡ n) × AllByRecursion (λ line. has_lf line ≡ false) lines
