@@ -1,0 +1,4 @@
+pub mod Resources
+pub mod Script
+pub mod Texts
+pub mod Rising
