@@ -12,6 +12,8 @@ mod cases;
 #[cfg(test)]
 mod commits;
 #[cfg(test)]
+mod journals;
+#[cfg(test)]
 mod judges;
 #[cfg(test)]
 mod orders;
