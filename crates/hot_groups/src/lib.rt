@@ -1,0 +1,23 @@
+//! Groups of a template: resources that stand for so many members, each by one definition. `expand` gives the plain
+//! template that a template with groups means (`specs/Plain.antt`), or the first of the flaws G01, G02 and G03
+//! (`specs/Checks.antt`). Nothing is evaluated here but a group's count.
+#![tactic(auto)]
+
+mod checking;
+mod code;
+mod counting;
+mod fault;
+mod flaw;
+mod forms;
+mod numbering;
+mod numbers;
+mod paths;
+mod reading;
+mod reference;
+mod rewriting;
+
+pub use checking::resources_flaw;
+pub use code::GroupCode;
+pub use fault::GroupFault;
+pub use flaw::GroupFlaw;
+pub use rewriting::{members_rewritten, rewritten};
