@@ -22,13 +22,14 @@ front-there (x ∷ d) rest = front-same x d (d ++ rest) ∙ front-there d rest
 front-lacks : (d s : List ℕ) → ((rest : List ℕ) → s ≢ d ++ rest) → behind_front d s ≡ None
 front-lacks [] s lacks = absurd (lacks s refl)
 front-lacks (x ∷ d) [] lacks = refl
-front-lacks (x ∷ d) (y ∷ s) lacks = by (x == y) refl
+front-lacks (x ∷ d) (y ∷ s) lacks = by (x == y) refl (front-lacks d s)
   where
-    by : (b : Bool) → (x == y) ≡ b → (if b then behind_front d s else None) ≡ None
-    by false is = refl
-    by true is =
+    by : (b : Bool) → (x == y) ≡ b → (((rest : List ℕ) → s ≢ d ++ rest) → behind_front d s ≡ None)
+        → (if b then behind_front d s else None) ≡ None
+    by false is later = refl
+    by true is later =
         let same : y ≡ x = grind (arith, nat_tests) in
-        front-lacks d s (λ rest e. lacks rest (ap (λ (z : ℕ). z ∷ s) same ∙ ap (λ (t : List ℕ). x ∷ t) e))
+        later (λ rest e. lacks rest (ap (λ (z : ℕ). z ∷ s) same ∙ ap (λ (t : List ℕ). x ∷ t) e))
 
 -- the clause of `strip_prefix`
 pub stripped : (d s : List ℕ) (r : Option (Bor (List ℕ)))

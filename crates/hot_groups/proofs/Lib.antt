@@ -5,3 +5,4 @@ pub mod Apart
 pub mod Numbered
 pub mod Rewrites
 pub mod Fronts
+pub mod Meant

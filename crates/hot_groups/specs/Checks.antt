@@ -65,7 +65,7 @@ is_barred resources name = is_some (lookup name resources) || not (is_name name)
 -- one of so many members from this number on has such a name
 abbrev pub some_barred : Members → List ℕ → ℕ → ℕ → Bool
 some_barred resources g i zero = false
-some_barred resources g i (suc n) = is_barred resources (member_name g i) || some_barred resources g (suc i) n
+some_barred resources g i (suc n) = is_barred resources (member_name g i) || some_barred resources g (i + 1) n
 
 -- G02 of the first group, among these, that has it
 abbrev pub misnamed_group : Members → Members → Members → Option GroupFlaw

@@ -23,18 +23,19 @@ of_group =
     codes "condition" ∷ codes "deletion_policy" ∷ codes "depends_on" ∷ codes "external_id" ∷ codes "update_policy" ∷ []
 
 -- what it has of the definition: the type, and the properties with its number in place of the index variable
-abbrev pub of_definition : List ℕ → ℕ → Members → Members
-of_definition v i def =
-    under_key (codes "properties") (retold (with_number v i)) (only (codes "properties" ∷ codes "type" ∷ []) def)
+abbrev pub of_definition : (List ℕ → List ℕ) → Members → Members
+of_definition f def = under_key (codes "properties") (retold f) (only (codes "properties" ∷ codes "type" ∷ []) def)
 
 -- the member of a group with this number
-abbrev pub made : Data → ℕ → Data
-made d i = fields (over (only of_group (members_in d)) (of_definition (index_var_of (props_of d)) i (def_of (props_of d))))
+abbrev pub made : Data → ℕ → Members
+made d i =
+    over (map_from (only of_group (members_in d)))
+    (of_definition (with_number (index_var_of (props_of d)) i) (def_of (props_of d)))
 
 -- so many members from this number on, by their names
 abbrev pub made_from : List ℕ → Data → ℕ → ℕ → Members
 made_from g d i zero = no_members
-made_from g d i (suc n) = member (member_name g i) (made d i) (made_from g d (i + 1) n)
+made_from g d i (suc n) = member (member_name g i) (fields (made d i)) (made_from g d (i + 1) n)
 
 -- a resource stands for itself, a group for its members
 abbrev pub meant : Members → List ℕ → Data → Members

@@ -13,10 +13,11 @@ use Rattle.hot_tree.specs.Readings.{entries, or_null}
 use Rattle.hot_groups.specs.Codes.{wrong, deeper, under}
 use Rattle.hot_groups.specs.Groups.{is_group, props_of, count_of, index_var_of, def_props, groups_among}
 use Rattle.hot_groups.specs.Numbers.{with_number, members_retold}
-use Rattle.hot_groups.specs.References.{Reference, group_reference, in_place_of, roster}
+use Rattle.hot_groups.specs.References.{group_reference, in_place_of, roster}
 use Rattle.hot_groups.specs.declared.code.GroupCode.TheVariants.{G03}
 use Rattle.hot_groups.specs.declared.flaw.GroupFlaw.{GroupFlaw}
 use Rattle.hot_groups.specs.declared.fault.GroupFault.{GroupFault}
+use Rattle.hot_groups.specs.declared.reference.Reference.{Reference}
 use Rattle.hot_groups.specs.declared.fault.GroupFault.TheVariants.{Wrong, Memory}
 
 -- ---- sums
@@ -65,12 +66,12 @@ at_reference (Some r) found = Some (wrong G03)
 abbrev pub is_shallow : ℕ → Data → Bool
 is_shallow level d = nat_le (level + depth d) 64
 
--- what is put in place of a reference: it has a meaning and is not too deep, no reference to a group stands in its path, and
--- it has room
+-- what is put in place of a reference: it has a meaning, no reference to a group stands in its path, it is not too deep, and
+-- there is room for it
 abbrev pub counted_as : ℕ → ℕ → Option GroupFlaw → Option Data → Sum
 counted_as level t inner None = Err (wrong G03)
 counted_as level t inner (Some d) =
-    if is_shallow level d then unless_found inner (added t (size d)) else Err (wrong G03)
+    unless_found inner (if is_shallow level d then added t (size d) else Err (wrong G03))
 
 -- an object is read as something tells it, where it stands in a group's definition; its paths are those as written
 module _ (groups : Members) (told : Members → Members) where

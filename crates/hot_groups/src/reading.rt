@@ -6,10 +6,10 @@ ghost use Rattle.hot_env.specs.Applied.{group_kind};
 ghost use Rattle.hot_forms.specs.Shapes.{members_in as the_members_in};
 ghost use Rattle.hot_groups.specs.Groups.{is_group as the_is_group, props_of as the_props_of};
 ghost use Rattle.hot_groups.specs.Groups.{index_var_of as the_index_var_of};
-ghost use Rattle.hot_tree.specs.Readings.{object_in as the_object_in, text_or};
+ghost use Rattle.hot_tree.specs.Readings.{object_in as the_object_in, text_or, entries as the_entries};
 
 use heat_value::{Props, Text, TryCopy, Value};
-use hot_forms::found;
+use hot_forms::{found, section};
 use std::alloc::{AllocError, Global};
 
 /// The members of an object; any other value has none, as `none` has.
@@ -45,6 +45,19 @@ pub(crate) fn object_at<'a>(
     ensures { IfOk result (λ p. p.now ≡ the_object_in (lookup key.now fields.now)) }
 {
     Ok(object_in(found(alloc, fields, key)?, none))
+}
+
+/// The entries of a section of a template; an absent one has none, as `none` has.
+pub(crate) fn entries<'a>(
+    alloc: Global,
+    key: &str,
+    template: &'a Props,
+    none: &'a Props,
+) -> Result<&'a Props, AllocError>
+    requires { none.now ≡ no_members }
+    ensures { IfOk result (λ p. p.now ≡ the_entries key.now template.now) }
+{
+    Ok(object_in(section(alloc, template, key)?, none))
 }
 
 /// The properties of a resource; absent ones are none, as `none` has.

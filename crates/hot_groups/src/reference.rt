@@ -7,6 +7,7 @@ ghost use Rattle.hot_groups.specs.References.{referred_by as the_referred_by, re
 ghost use Rattle.hot_groups.specs.References.{whole_in as the_whole_in};
 ghost use Rattle.eval_words.specs.Sorts.{listed};
 
+use crate::listing::copied;
 use heat_value::{Items, Member, Props, Text, TryCopy, Value};
 use hot_functions::lone;
 use std::alloc::{AllocError, Global};
@@ -147,15 +148,4 @@ fn referred_behind(
             Value::Items(_) | Value::Fields(_) => Ok(None),
         },
     }
-}
-
-// A copy of a list's values.
-fn copied(alloc: Global, values: &[Value]) -> Result<Items, AllocError>
-    ensures { IfOk result (λ a. a ≡ nodes_of values.now) }
-{
-    let mut all = Items::new(alloc);
-    for value in values {
-        all.push(value.copy()?)?;
-    }
-    Ok(all)
 }

@@ -11,6 +11,7 @@ ghost use Rattle.hot_groups.specs.References.{group_reference as the_group_refer
 ghost use Rattle.hot_groups.specs.References.{nodes_rewritten as the_nodes_rewritten};
 ghost use Rattle.hot_groups.specs.References.{members_rewritten as the_members_rewritten};
 
+use crate::listing::push_all;
 use crate::paths::step_into_list;
 use crate::reference::{Reference, group_reference};
 use heat_value::{Items, Member, Props, Text, TryCopy, Value};
@@ -150,9 +151,7 @@ fn parts_of(
     let mut parts = Items::new(alloc);
     parts.push(name.copy()?)?;
     parts.push(Value::Words(attribute.copy()?))?;
-    for step in path {
-        parts.push(step.copy()?)?;
-    }
+    push_all(&mut parts, path)?;
     Ok(parts)
 }
 
@@ -231,7 +230,7 @@ fn one_for(
     path: &[Value],
 ) -> Result<Option<Value>, AllocError>
     ensures { IfOk result (λ o. option_map data_of o ≡ the_one_for (data_of name.now)
-        (option_map (λ x. x.now) attribute) (nodes_of path.now)) }
+        (option_map (λ x. x.now) attribute.entry) (nodes_of path.now)) }
 {
     match attribute {
         Some(attribute) => {
@@ -249,7 +248,7 @@ fn one_for(
 
 /// A value with each reference to a group rewritten.
 #[cycle(rewriting)]
-pub fn rewritten(alloc: Global, groups: &Props, value: &Value) -> Result<Value, AllocError>
+pub(crate) fn rewritten(alloc: Global, groups: &Props, value: &Value) -> Result<Value, AllocError>
     ensures { IfOk result (λ v. data_of v ≡ the_rewritten groups.now (data_of value.now)) }
 {
     match value {
@@ -309,7 +308,7 @@ fn nodes_rewritten(alloc: Global, groups: &Props, values: &[Value]) -> Result<It
 /// The values of an object that is itself no function.
 #[cycle(rewriting)]
 #[tactic(auto, using(crate::proofs::Weights::for_walks))]
-pub fn members_rewritten(
+pub(crate) fn members_rewritten(
     alloc: Global,
     groups: &Props,
     members: &[Member],
