@@ -57,3 +57,5 @@ pub put_all_behind : (all now some left rest whole : Nodes) → left ≡ nodes_b
 put_all_behind all now some left rest whole split set way =
     way ∙ ap (nodes_before all) split ∙ before-before all some rest
     ∙ ap (λ (ns : Nodes). nodes_before ns rest) (sym set)
+
+pub ruleset for_putting = (behind-one)

@@ -2,7 +2,7 @@ use Rattle.std.proofs.Common.{◌≡◌, take}
 use Rattle.hot_groups.specs.Plain.{section_meant}
 use Rattle.heat_value.specs.Meaning.{members_of}
 use Rattle.hot_env.specs.Applied.{each_value}
-use Rattle.hot_groups.proofs.plain.sections_meant.Given as goal
+use Rattle.hot_groups.proofs.meaning.sections_meant.Given as goal
 
 -- those of the first
 abbrev pub invariant-loop-member : goal.invariant-loop-member

@@ -1,7 +1,7 @@
 use Rattle.std.proofs.Common.{◌≡◌, drop}
 use Rattle.heat_value.specs.Meaning.{nodes_of}
 use Rattle.hot_groups.specs.References.{all_named, nodes_before}
-use Rattle.hot_groups.proofs.plain.all_named.Given as goal
+use Rattle.hot_groups.proofs.meaning.all_named.Given as goal
 
 -- what is left goes behind what there is
 abbrev pub invariant-loop-name : goal.invariant-loop-name

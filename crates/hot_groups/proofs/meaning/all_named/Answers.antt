@@ -4,7 +4,7 @@ use Rattle.heat_value.specs.Meaning.{data_of}
 use Rattle.hot_groups.proofs.Listed.{put_all_behind, before-none}
 use Rattle.hot_groups.proofs.Places.{nodes_at, nodes_end}
 use Rattle.hot_groups.specs.References.{all_named, named_by, nodes_before}
-use Rattle.hot_groups.proofs.plain.all_named.Goals as goal
+use Rattle.hot_groups.proofs.meaning.all_named.Goals as goal
 
 pub loop-name-preserved : goal.loop-name-preserved
 loop-name-preserved c =

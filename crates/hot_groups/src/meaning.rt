@@ -185,7 +185,7 @@ fn all_named(alloc: Global, groups: &Props, names: &[Value]) -> Result<Items, Al
 }
 
 // Puts the names that one stands for behind the last.
-#[tactic(auto, using(crate::proofs::Listed::behind-one))]
+#[tactic(auto, using(crate::proofs::Listed::for_putting))]
 fn push_named(groups: &Props, name: &Value, all: &mut Items) -> Result<(), AllocError>
     ensures { OnOk result (all.new ≡ nodes_before all.old (named_by groups.now (data_of name.now))) }
 {
