@@ -1,7 +1,6 @@
 -- Keys put one by one: one that stands already, and one that doesn't.
 use Rattle.std.proofs.Common.{◌≡◌, ◌∙◌, ℕ, List, Bool, true, false, ◌||◌, Option, Some, None}
 use Rattle.std.proofs.Common.{is_some, option_map, refl, ap, sym, if◌then◌else◌}
-use Rattle.std.proofs.lemmas.Slice.Eq.{bytes_eq-Decides}
 use Rattle.std.specs.Str.{bytes_eq}
 use Rattle.heat_value.specs.Data.{Data, null, Members, no_members, member, lookup, put}
 use Rattle.hot_functions.specs.Forms.{stands}

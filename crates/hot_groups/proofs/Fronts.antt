@@ -1,9 +1,9 @@
 -- What stands at the front of a text, and round its first dot.
-use Rattle.std.proofs.Common.{◌≡◌, ◌≢◌, ◌<◌, ◌∙◌, ◌++◌, ◌==◌, ℕ, List, [], ◌∷◌, length, drop, refl, ap, sym, arith}
+use Rattle.std.proofs.Common.{◌≡◌, ◌≢◌, ◌<◌, ◌∙◌, ◌++◌, ◌==◌, ℕ, List, [], ◌∷◌, length, refl, ap, sym, arith}
 use Rattle.std.proofs.Common.{Bool, true, false, Option, Some, None, option_map, MatchOption, if◌then◌else◌}
 use Rattle.std.proofs.lemmas.Bool.Decides.{nat_tests}
 use Rattle.std.proofs.lemmas.List.{take_all}
-use Rattle.std.specs.List.{position_or_len, before_first, after_first}
+use Rattle.std.specs.List.{position_or_len, after_first}
 use Rattle.std.specs.Prelude.{nat_lt}
 use Rattle.std.specs.Borrow.{Bor}
 use Rattle.hot_groups.specs.References.{behind_front, is_dot, before_dot, behind_dot}

@@ -1,5 +1,5 @@
 -- What resources stand for, put one after another.
-use Rattle.std.proofs.Common.{◌≡◌, ◌<◌, ◌≤◌, ◌+◌, ◌-◌, ◌∙◌, ℕ, suc, List, refl, ap, sym}
+use Rattle.std.proofs.Common.{◌≡◌, ◌<◌, ◌≤◌, ◌+◌, ◌-◌, ◌∙◌, ℕ, List, refl, ap, sym}
 use Rattle.heat_value.specs.Data.{Data, fields, Members, no_members, member, put}
 use Rattle.hot_env.specs.Environments.{over}
 use Rattle.hot_groups.specs.Groups.{member_name}

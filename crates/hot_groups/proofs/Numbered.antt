@@ -2,7 +2,7 @@
 use Rattle.std.proofs.Common.{◌≡◌, ◌<◌, ◌≤◌, ◌+◌, ◌-◌, ◌∙◌, ℕ, zero, suc, List, [], ◌∷◌, refl, ap, sym, arith}
 use Rattle.std.proofs.Common.{Bool, true, false, ◌||◌, Option, Some, None, is_some, decimal}
 use Rattle.std.specs.Option.{option_or}
-use Rattle.heat_value.specs.Data.{Nodes, no_nodes, node, node_last, words, fields, Members}
+use Rattle.heat_value.specs.Data.{no_nodes, node, node_last, words, fields, Members}
 use Rattle.hot_strings.specs.Answers.{with_values}
 use Rattle.hot_strings.specs.Pieces.{Params}
 use Rattle.hot_groups.specs.Checks.{meeting_from, is_barred, some_barred}

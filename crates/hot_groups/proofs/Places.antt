@@ -3,7 +3,7 @@ use Rattle.std.proofs.Common.{◌≡◌, ◌<◌, ◌≤◌, ◌+◌, ℕ, List,
 use Rattle.std.proofs.Common.{zero, suc, Option, Some, None, option_map, option_and_then, refl, arith}
 use Rattle.std.specs.Slice.{IsItemAt}
 use Rattle.std.proofs.lemmas.List.{drop_more, drop_all}
-use Rattle.heat_value.specs.Data.{Data, Nodes, no_nodes, node, no_members, member}
+use Rattle.heat_value.specs.Data.{no_nodes, node, no_members, member}
 use Rattle.heat_value.specs.Meaning.{data_of, nodes_of, members_of}
 use Rattle.heat_value.specs.declared.value.Value.{Value}
 use Rattle.heat_value.specs.declared.value.Member.{Member}

@@ -1,8 +1,8 @@
 -- G01 of all groups, then G02 of all, then G03: the first of a template, by its path from the root.
 use Rattle.std.specs.Prelude.{◌≡◌, ℕ, zero, suc, ◌+◌, ◌*◌, nat_le, List, Bool, false, not, ◌&&◌, ◌||◌, Option, Some, None}
-use Rattle.std.specs.Prelude.{Result, Ok, Err, is_some, codes, if◌then◌else◌, ⊤}
+use Rattle.std.specs.Prelude.{Ok, Err, is_some, codes, if◌then◌else◌, ⊤}
 use Rattle.std.specs.Option.{option_or}
-use Rattle.heat_value.specs.Data.{Data, fields, Members, no_members, member, lookup}
+use Rattle.heat_value.specs.Data.{fields, Members, no_members, member, lookup}
 use Rattle.heat_value.specs.declared.path.Step.TheVariants.{Key}
 use Rattle.hot_forms.specs.Names.{is_name}
 use Rattle.hot_tree.specs.Readings.{entries, or_null}
@@ -53,7 +53,7 @@ unfit_group bound t no_members = None
 unfit_group bound t (member k d ms) =
     if is_group d
     then option_or (under (Key k) (group_flaw bound (t + cost_of bound (props_of d)) (props_of d)))
-        (unfit_group bound (t + cost_of bound (props_of d)) ms)
+    (unfit_group bound (t + cost_of bound (props_of d)) ms)
     else unfit_group bound t ms
 
 -- ---- G02

@@ -1,5 +1,5 @@
 -- The form of a group's properties: the first key in byte order at which they are off it, else what is missing.
-use Rattle.std.specs.Prelude.{ℕ, List, [], ◌∷◌, Bool, false, not, ◌&&◌, ◌||◌, ◌==◌, length, Option, Some, None}
+use Rattle.std.specs.Prelude.{ℕ, List, [], ◌∷◌, Bool, false, not, ◌&&◌, ◌||◌, ◌==◌, length, Option, Some}
 use Rattle.std.specs.Prelude.{is_some, bytes_eq, codes, if◌then◌else◌}
 use Rattle.std.specs.Option.{option_or}
 use Rattle.heat_value.specs.Data.{Data, null, flag, whole, words, items, fields, Members, lookup}

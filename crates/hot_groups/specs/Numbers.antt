@@ -1,5 +1,5 @@
 -- A member's number in place of the index variable, in texts and in keys, and keys that become one by it.
-use Rattle.std.specs.Prelude.{ℕ, ◌+◌, List, [], ◌∷◌, Option, Some, None, is_some, decimal}
+use Rattle.std.specs.Prelude.{ℕ, ◌+◌, List, [], ◌∷◌, Option, None, is_some, decimal}
 use Rattle.std.specs.Option.{option_or}
 use Rattle.heat_value.specs.Data.{Data, null, flag, whole, words, items, fields, Nodes, no_nodes, node}
 use Rattle.heat_value.specs.Data.{Members, no_members, member}

@@ -1,5 +1,5 @@
 -- The plain template that a template with groups means: a map over its resources, and its references rewritten.
-use Rattle.std.specs.Prelude.{ℕ, zero, suc, ◌+◌, List, ◌∷◌, [], Bool, bytes_eq, codes, if◌then◌else◌}
+use Rattle.std.specs.Prelude.{ℕ, zero, suc, ◌+◌, List, ◌∷◌, [], bytes_eq, codes, if◌then◌else◌}
 use Rattle.heat_value.specs.Data.{Data, fields, Members, no_members, member}
 use Rattle.hot_forms.specs.Checks.{is_among}
 use Rattle.hot_forms.specs.Shapes.{members_in}

@@ -1,5 +1,5 @@
 -- G03: references that have no meaning, and the bytes that all of them come to, in the stated walk.
-use Rattle.std.specs.Prelude.{◌≡◌, ℕ, zero, suc, ◌+◌, nat_le, List, [], ◌∷◌, Option, Some, None, Result, Ok, Err}
+use Rattle.std.specs.Prelude.{◌≡◌, ℕ, zero, suc, ◌+◌, nat_le, Option, Some, None, Result, Ok, Err}
 use Rattle.std.specs.Prelude.{Bool, option_and_then, codes, if◌then◌else◌, ⊤}
 use Rattle.std.specs.Option.{option_or}
 use Rattle.heat_value.specs.Data.{Data, null, flag, whole, words, items, fields, Nodes, no_nodes, node}

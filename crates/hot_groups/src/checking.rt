@@ -15,9 +15,9 @@ ghost use Rattle.eval_words.specs.Outcomes.{size as the_size};
 use crate::counting::count_of;
 use crate::flaw::{under, under_name};
 use crate::forms::form_flaw;
+use crate::numbering::{Numbering, member_name};
 use crate::numbers::object_meeting;
 use crate::reading::{index_var_of, is_group, object_at, props_of};
-use crate::numbering::{Numbering, member_name};
 use crate::{GroupCode, GroupFlaw};
 use heat_value::{Member, Props, Text, Value};
 use hot_forms::{found, is_name};
@@ -133,11 +133,7 @@ fn at_count(alloc: Global, props: &Props) -> Result<Option<GroupFlaw>, AllocErro
 }
 
 // Two keys of the definition's properties become one in a member.
-fn keys_flaw(
-    alloc: Global,
-    bound: &Props,
-    props: &Props,
-) -> Result<Option<GroupFlaw>, AllocError>
+fn keys_flaw(alloc: Global, bound: &Props, props: &Props) -> Result<Option<GroupFlaw>, AllocError>
     ensures { IfOk result (λ o. o ≡ the_keys_flaw bound.now props.now) }
 {
     let none = Props::new(alloc);
@@ -201,7 +197,7 @@ fn is_misnamed(
 ) -> Result<bool, AllocError>
     ensures { IfOk result (λ b. b ≡ (the_is_group (data_of member.now.value)
         && the_some_barred resources.now member.now.key 0
-            (the_count_of bound.now (the_props_of (data_of member.now.value))))) }
+        (the_count_of bound.now (the_props_of (data_of member.now.value))))) }
 {
     if !is_group(alloc, &member.value)? {
         return Ok(false);

@@ -34,11 +34,7 @@ pub(crate) fn form_flaw(
 }
 
 // The first key that is off its form.
-fn first_unfit(
-    alloc: Global,
-    bound: &Props,
-    props: &Props,
-) -> Result<Option<GroupFlaw>, AllocError>
+fn first_unfit(alloc: Global, bound: &Props, props: &Props) -> Result<Option<GroupFlaw>, AllocError>
     ensures { IfOk result (λ o. o ≡ first_entry (the_unfit bound.now) props.now) }
 {
     for member in props.as_slice() {

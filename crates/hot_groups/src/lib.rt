@@ -1,6 +1,6 @@
-//! Groups of a template: resources that stand for so many members, each by one definition. `expand` gives the plain
-//! template that a template with groups means (`specs/Plain.antt`), or the first of the flaws G01, G02 and G03
-//! (`specs/Checks.antt`). Nothing is evaluated here but a group's count.
+//! Groups of a template: resources that stand for so many members, each by one definition. `resources_flaw` gives the
+//! first of their flaws G01 and G02 (`specs/Checks.antt`), and `plain` the plain template that a template with groups
+//! means (`specs/Plain.antt`). Nothing is evaluated here but a group's count.
 #![tactic(auto)]
 
 mod checking;

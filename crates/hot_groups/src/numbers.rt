@@ -17,16 +17,16 @@ use std::alloc::{AllocError, Global};
 
 /// A value with each of its texts and keys made over.
 #[cycle(retelling)]
-pub(crate) fn retold(alloc: Global, numbering: &Numbering, value: &Value) -> Result<Value, AllocError>
+pub(crate) fn retold(
+    alloc: Global,
+    numbering: &Numbering,
+    value: &Value,
+) -> Result<Value, AllocError>
     ensures { IfOk result (λ v. data_of v ≡ the_retold (with_values numbering.now) (data_of value.now)) }
 {
     match value {
         Value::Words(words) => Ok(Value::Words(numbering.text(alloc, words)?)),
-        Value::Items(items) => Ok(Value::Items(nodes_retold(
-            alloc,
-            numbering,
-            items.as_slice(),
-        )?)),
+        Value::Items(items) => Ok(Value::Items(nodes_retold(alloc, numbering, items.as_slice())?)),
         Value::Fields(fields) => Ok(Value::Fields(members_retold(
             alloc,
             numbering,

@@ -96,11 +96,7 @@ pub(crate) fn is_group(alloc: Global, resource: &Value) -> Result<bool, AllocErr
     ensures { IfOk result (λ b. b ≡ the_is_group (data_of resource.now)) }
 {
     let none = Props::new(alloc);
-    Ok(is_group_kind(found(
-        alloc,
-        members_in(resource, &none),
-        "type",
-    )?))
+    Ok(is_group_kind(found(alloc, members_in(resource, &none), "type")?))
 }
 
 // Whether the type of groups stands there.

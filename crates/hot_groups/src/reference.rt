@@ -43,10 +43,7 @@ pub(crate) fn group_reference<'a>(
         ≡ the_group_reference groups.now (members_of members.now)) }
 {
     match lone(members) {
-        Some(member) => Ok(with_roster(
-            groups,
-            referred(alloc, &member.key, &member.value)?,
-        )),
+        Some(member) => Ok(with_roster(groups, referred(alloc, &member.key, &member.value)?)),
         None => Ok(None),
     }
 }

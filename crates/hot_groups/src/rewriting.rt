@@ -50,9 +50,7 @@ fn attribute_for(
     }
     match behind_resource(attribute.as_str()) {
         Some(text) => member_for(alloc, group, roster, text, path),
-        None => Ok(Some(Value::Items(attrs_of(
-            alloc, attribute, path, roster,
-        )?))),
+        None => Ok(Some(Value::Items(attrs_of(alloc, attribute, path, roster)?))),
     }
 }
 
@@ -252,11 +250,7 @@ pub(crate) fn rewritten(alloc: Global, groups: &Props, value: &Value) -> Result<
     ensures { IfOk result (λ v. data_of v ≡ the_rewritten groups.now (data_of value.now)) }
 {
     match value {
-        Value::Items(items) => Ok(Value::Items(nodes_rewritten(
-            alloc,
-            groups,
-            items.as_slice(),
-        )?)),
+        Value::Items(items) => Ok(Value::Items(nodes_rewritten(alloc, groups, items.as_slice())?)),
         Value::Fields(fields) => object_rewritten(alloc, groups, fields),
         Value::Null | Value::Flag(_) | Value::Whole(_) | Value::Words(_) => value.copy(),
     }
@@ -269,11 +263,7 @@ fn object_rewritten(alloc: Global, groups: &Props, fields: &Props) -> Result<Val
 {
     match replacement(alloc, groups, fields.as_slice())? {
         Some(value) => Ok(value),
-        None => Ok(Value::Fields(members_rewritten(
-            alloc,
-            groups,
-            fields.as_slice(),
-        )?)),
+        None => Ok(Value::Fields(members_rewritten(alloc, groups, fields.as_slice())?)),
     }
 }
 
@@ -318,10 +308,7 @@ pub(crate) fn members_rewritten(
 {
     let mut all = Props::new(alloc);
     for member in members {
-        all.put(
-            member.key.copy()?,
-            rewritten(alloc, groups, &member.value)?,
-        )?;
+        all.put(member.key.copy()?, rewritten(alloc, groups, &member.value)?)?;
     }
     Ok(all)
 }

@@ -1,4 +1,4 @@
-use Rattle.std.proofs.Common.{◌≡◌, ◌*◌, ◌+◌, drop}
+use Rattle.std.proofs.Common.{◌≡◌, ◌*◌, drop}
 use Rattle.heat_value.specs.Meaning.{data_of, nodes_of, members_of, weight, nodes_weight, members_weight}
 use Rattle.hot_groups.specs.Groups.{has_function_among, has_function_under}
 use Rattle.hot_groups.proofs.counting.+functions.Given as goal

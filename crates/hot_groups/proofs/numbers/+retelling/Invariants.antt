@@ -1,4 +1,4 @@
-use Rattle.std.proofs.Common.{◌≡◌, ◌*◌, ◌+◌, drop, take}
+use Rattle.std.proofs.Common.{◌≡◌, ◌*◌, drop, take}
 use Rattle.heat_value.specs.Data.{no_members}
 use Rattle.heat_value.specs.Meaning.{data_of, nodes_of, members_of, weight, nodes_weight, members_weight}
 use Rattle.hot_env.specs.Environments.{over}

@@ -1,4 +1,4 @@
-use Rattle.std.proofs.Common.{Some, None, arith, sym, ap, ◌∙◌}
+use Rattle.std.proofs.Common.{Some, None, arith, ap, ◌∙◌}
 use Rattle.std.proofs.lemmas.Str.Pattern.{split_once_first}
 use Rattle.hot_groups.proofs.Fronts.{dot_there, no_dot_behind, no_dot_before}
 use Rattle.hot_groups.proofs.rewriting.cut_at_dot.Goals as goal
