@@ -1,0 +1,10 @@
+use Rattle.std.proofs.Common.{◌≡◌, take}
+use Rattle.hot_groups.specs.Plain.{section_meant}
+use Rattle.heat_value.specs.Meaning.{members_of}
+use Rattle.hot_env.specs.Applied.{each_value}
+use Rattle.hot_groups.proofs.meaning.sections_meant.Given as goal
+
+-- those of the first
+abbrev pub invariant-loop-member : goal.invariant-loop-member
+invariant-loop-member l =
+    l.all ≡ each_value (section_meant l.bound l.groups) (members_of (take l.member-index l.member-items))
