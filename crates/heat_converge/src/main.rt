@@ -26,6 +26,7 @@ use sim_cloud::{Settings, SimCloud};
 use std::alloc::{AllocError, Global};
 use std::process::ExitCode;
 use std::{env, io};
+use usage_text::usage;
 
 // An empty cloud.
 fn empty_cloud(alloc: Global) -> Result<SimCloud, AllocError>
@@ -132,6 +133,10 @@ fn say(rt: &HostRuntime, ended: &Ended) {
             let finding = word_for(*finding);
             let _ = eprintln!(rt; "heat_converge: {words} {stack}/{name}/{row} {finding}");
         }
+        Ended::Called(Exit::Usage) => {
+            let _ = eprintln!(rt; "heat_converge: {words}");
+            say_forms(rt);
+        }
         Ended::CloudFile(fault) => {
             let _ = eprintln!(rt; "heat_converge: {words}");
             say_fault(rt, fault);
@@ -146,6 +151,13 @@ fn say(rt: &HostRuntime, ended: &Ended) {
 fn say_fault(rt: &HostRuntime, fault: &FileFault) {
     if let Ok(line) = line_for(rt.alloc(), fault) {
         let _ = eprintln!(rt; "heat_converge: {}", line.as_str());
+    }
+}
+
+// Says behind it which words the program takes; without memory there is no such text.
+fn say_forms(rt: &HostRuntime) {
+    if let Ok(text) = usage(rt.alloc()) {
+        let _ = eprint!(rt; "{}", text.as_str());
     }
 }
 
